@@ -1,6 +1,12 @@
 -- Every call is followed, by induction on how many more functions may become active: hosts', and the modules' own,
 -- which trap where there is no room, and else run their code (WebAssembly Core 1.0, 4.4.7).
-use Rattle.c_body.proofs.Common.{◌≡◌, ℕ, zero, suc, ◌+◌, ◌<◌, List, [], ◌∷◌, ◌++◌, map, length, slice_get, Some, None, Option, sym, refl, ap, ◌∙◌, subst, arith, or_left, or_right, same_Some, AllByRecursion, Trail, IsNumber, types_of, zeros, FuncType, ValType, Value, declared_locals, Code, BodyEntry, Context, context_of, values, join, Definition, Program, c_result_of, with_depth, Reaches, Over, Pending, Progress, Stopped, go_on, over, Stops, begin, next, func_name, IsDefined, IsFuncOf, code_stmts, has_element, has_slot, is_return, stmts_of, CallFollows, CallsFollow, Follows, Site, StandsAt, Together, at, any_in, targets, AllCodeFollows, IsSite, IsTarget, IsThere, PassesOn, StandsFor, called, core, wrapper_statements, AreServed, occurs, stands}
+use Rattle.c_body.proofs.Common.{◌≡◌, ℕ, zero, suc, ◌+◌, ◌<◌, List, [], ◌∷◌, ◌++◌, map, length, slice_get, Some, None, Option, sym, refl}
+use Rattle.c_body.proofs.Common.{ap, ◌∙◌, subst, arith, or_left, or_right, same_Some, AllByRecursion, Trail, IsNumber, types_of, zeros}
+use Rattle.c_body.proofs.Common.{FuncType, ValType, Value, declared_locals, Code, BodyEntry, Context, context_of, values, join, Definition}
+use Rattle.c_body.proofs.Common.{Program, c_result_of, with_depth, Reaches, Over, Pending, Progress, Stopped, go_on, over, Stops, begin}
+use Rattle.c_body.proofs.Common.{next, func_name, IsDefined, IsFuncOf, code_stmts, has_element, has_slot, is_return, stmts_of, CallFollows}
+use Rattle.c_body.proofs.Common.{CallsFollow, Follows, Site, StandsAt, Together, at, any_in, targets, AllCodeFollows, IsSite, IsTarget}
+use Rattle.c_body.proofs.Common.{IsThere, PassesOn, StandsFor, called, core, wrapper_statements, AreServed, occurs, stands, types_many}
 use Rattle.w2c_base.specs.declared.trap.TrapKind.TheVariants as trap
 use Rattle.wasm_meaning.specs.LinkedSet as link
 use Rattle.wasm_meaning.specs.Store as store
@@ -10,7 +16,7 @@ use Rattle.c_body.specs.Bodies.{BodiesFollow}
 use Rattle.c_body.proofs.Hosts.{host_follows}
 use Rattle.c_body.proofs.Own.{IsOwn, own_is, func_body}
 use Rattle.c_body.proofs.Start.{start_vars, first_vars_are, start_agrees}
-use Rattle.c_body.proofs.Operands.{types_length, zeros_types, types_append}
+use Rattle.c_body.proofs.Operands.{zeros_types, types_append}
 use Rattle.c_body.proofs.Heights.{stands_top}
 use Rattle.c_body.proofs.Exits.{end_stmts, BodyIsPlaced, body_is_placed}
 use Rattle.c_body.proofs.There.{body_is_there}
@@ -158,7 +164,7 @@ code_follows all p s served count room calls calls_follow pending below u m inde
     let stands_now : StandsAt g [] now deeper vars = record {
       together = subst (λ d. Together p s count (suc depth) (with_depth machine d) made trail) (ap suc (sym together.depth_is))
           (with_depth_together p s count depth (suc depth) machine made trail together);
-      variables = start_agrees c entry args own.within (omega (arith, own.few, ap length fit, types_length args)) numbers;
+      variables = start_agrees c entry args own.within (omega (arith, own.few, ap length fit, types_many args)) numbers;
       local_types = types;
     } in
     let follows : Follows g 0 (exit_target ty ∷ []) (exit_target ty) [] (end_stmts ty.result code) (values ty.result) start n

@@ -1,6 +1,9 @@
--- What a module that has a file keeps within, as its unit counts: labels, operands, numbers.
-use Rattle.c_body.proofs.Common.{◌≡◌, ◌+◌, ◌≤◌, Bool, true, false, not, ◌&&◌, ◌||◌, [], refl, arith, Block, BrIf, BrTable, Code, If, Kind, Loop, Otherwise, Select, else_code, end_code, no_else, then_code, code_size, kind_size, otherwise_size, BodyEntry, Module, IsFormed, BodyIsWithin, WithinLimits, least_bytes, least_bytes_of, least_bytes_of_else, some_in, some_in_else, some_inside, any_in, any_in_else, any_inside, labels_in, labels_in_else, labels_of, BodyHasLimits, HasLimits, ends}
-use Rattle.wasm_spelling.proofs.WithinPlaces.{formed_is_within}
+-- What a module within the limits has at most, as its unit counts: labels, operands, numbers.
+use Rattle.c_body.proofs.Common.{◌≡◌, ◌+◌, ◌≤◌, Bool, true, false, not, ◌&&◌, ◌||◌, [], refl, arith, Block, BrIf, BrTable, Code, If, Kind}
+use Rattle.c_body.proofs.Common.{Loop, Otherwise, Select, else_code, end_code, no_else, then_code, code_size, kind_size, otherwise_size}
+use Rattle.c_body.proofs.Common.{BodyEntry, Module, BodyIsWithin, WithinLimits, least_bytes, least_bytes_of, least_bytes_of_else, some_in}
+use Rattle.c_body.proofs.Common.{some_in_else, some_inside, any_in, any_in_else, any_inside, labels_in, labels_in_else, labels_of}
+use Rattle.c_body.proofs.Common.{BodyHasLimits, HasLimits, ends, true≢false}
 use Rattle.c_body.proofs.Lists.{all_weaker}
 use Rattle.c_body.proofs.Peaks.{peak_few}
 
@@ -42,10 +45,7 @@ mutual
 -- what no instruction passes, none that is translated passes
 both_none : (a b c d : Bool) → (c ≡ false → a ≡ false) → (d ≡ false → b ≡ false) → (c || d) ≡ false → (a || b) ≡ false
 both_none a b true d h k e = absurd cc
-both_none true b false d h k e = absurd (no_such (h refl))
-  where
-    no_such : true ≡ false → ⊥
-    no_such e = cc
+both_none true b false d h k e = absurd (true≢false (h refl))
 both_none false b false d h k e = k e
 
 behind_none : (ends a b : Bool) → (b ≡ false → a ≡ false) → b ≡ false → (not ends && a) ≡ false
@@ -84,9 +84,8 @@ body_limits b h =
       numbers = none_translated _ b.code h.numbers;
     }
 
-pub within_of : (m : Module) → IsFormed m → HasLimits m
-within_of m formed =
-    let h : WithinLimits m = formed_is_within m formed in
+pub within_of : (m : Module) → WithinLimits m → HasLimits m
+within_of m h =
     record {
       imports = let n = h.imports in omega (arith, n);
       types = let n = h.types in omega (arith, n);

@@ -1,6 +1,12 @@
 -- The instructions that copy and fill bytes of the memory are followed by their statements. They cost a step for each
 -- byte, and their helpers take more statements than that.
-use Rattle.c_body.proofs.Common.{◌≡◌, ℕ, zero, suc, ◌+◌, ◌*◌, ◌%◌, ◌^◌, ◌<◌, ◌≤◌, Bool, true, false, ◌&&◌, List, [], ◌∷◌, ◌++◌, length, drop, replicate, if◌then◌else◌, nat_le, Some, None, Option, sym, refl, ap, ◌∙◌, subst, arith, length-drop, length-take, nat_tests, length-replicate, none-some, same_Some, AllByRecursion, bytes_at, with_bytes, named, types_of, Value, I32, Kind, MemoryCopy, MemoryFill, HasMemory, Stack, Turns, memory_at, copy_bytes, fill_bytes, with_content, Reaches, Progress, Is, Pointer, evaluate_args, helper_right, GivesBack, TrapsWith, helper_of, Helper, MemoryAgrees, EndsAlike, Follows, Site, StandsAt, Target, at, slot, memory_arg, IsSite, IsThere, KindFollows, bytes_stmt, call_helper, operand, Defines, under}
+use Rattle.c_body.proofs.Common.{◌≡◌, ℕ, zero, suc, ◌+◌, ◌*◌, ◌%◌, ◌^◌, ◌<◌, ◌≤◌, Bool, true, false, ◌&&◌, List, [], ◌∷◌, ◌++◌, length}
+use Rattle.c_body.proofs.Common.{drop, replicate, if◌then◌else◌, nat_le, Some, None, Option, sym, refl, ap, ◌∙◌, subst, arith, length-drop}
+use Rattle.c_body.proofs.Common.{length-take, nat_tests, length-replicate, none-some, same_Some, AllByRecursion, bytes_at, with_bytes}
+use Rattle.c_body.proofs.Common.{named, types_of, Value, I32, Kind, MemoryCopy, MemoryFill, HasMemory, Stack, Turns, memory_at, copy_bytes}
+use Rattle.c_body.proofs.Common.{fill_bytes, with_content, Reaches, Progress, Is, Pointer, evaluate_args, helper_right, GivesBack}
+use Rattle.c_body.proofs.Common.{TrapsWith, helper_of, Helper, MemoryAgrees, EndsAlike, Follows, Site, StandsAt, Target, at, slot}
+use Rattle.c_body.proofs.Common.{memory_arg, IsSite, IsThere, KindFollows, bytes_stmt, call_helper, operand, Defines, under}
 use Rattle.w2c_base.specs.declared.value.ValType.TheVariants as type
 use Rattle.w2c_base.specs.declared.trap.TrapKind.TheVariants as trap
 use Rattle.wasm_meaning.specs.Store as store

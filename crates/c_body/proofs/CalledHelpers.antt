@@ -1,7 +1,11 @@
 -- The helpers of instructions by their steps, and tables of the names of helpers.
-use Rattle.c_body.proofs.Common.{◌≡◌, ℕ, ◌+◌, ◌<◌, ◌≤◌, Bool, true, false, not, ◌&&◌, ◌||◌, List, [], ◌∷◌, ◌++◌, length, get_or, drop, is_some, if◌then◌else◌, Some, None, filter, Option, bytes_eq, sym, refl, ap, ◌∙◌, append_assoc, arith, or-false, or_assoc, drop_all, list_any, option_or, named, Code, Kind, Nop, code_tree, kind_tree, Instr, BodyEntry, Module, Name, helper_of, Helper, HELPERS, read_again, HasMore, KnowsCalls, is_known, any_in, any_inside, calls, calls_helper, helpers_of, named_by, helper_for, ends, element_for, step_helper, step_of}
+use Rattle.c_body.proofs.Common.{◌≡◌, ℕ, ◌+◌, ◌<◌, ◌≤◌, Bool, true, false, not, ◌&&◌, ◌||◌, List, [], ◌∷◌, ◌++◌, length, get_or, drop}
+use Rattle.c_body.proofs.Common.{is_some, if◌then◌else◌, Some, None, filter, Option, bytes_eq, sym, refl, ap, ◌∙◌, append_assoc, arith}
+use Rattle.c_body.proofs.Common.{or-false, or_assoc, drop_all, list_any, option_or, named, Code, Kind, Nop, code_tree, kind_tree, Instr}
+use Rattle.c_body.proofs.Common.{BodyEntry, Module, Name, helper_of, Helper, HELPERS, read_again, HasMore, KnowsCalls, is_known, any_in}
+use Rattle.c_body.proofs.Common.{any_inside, calls, calls_helper, helpers_of, named_by, helper_for, ends, element_for, step_helper, step_of}
+use Rattle.c_body.proofs.Common.{bytes_eq-sym}
 use Rattle.c_tree.proofs.Tested.{at_front}
-use Rattle.name_table.proofs.NameTables.{either_way}
 use Rattle.c_body.specs.declared.steps.Step.{Step}
 use Rattle.w2c_base.proofs.Options.{some_or_if}
 use Rattle.c_body.proofs.CodeLists.{code_more, code_done}
@@ -32,7 +36,7 @@ pub one_more : {A : Type 0} (after before : List (Name × A)) (which : Helper) (
     → HasMore after before (λ name. named_by name (Some which))
 one_more {A} after before which name of is entered q =
     ap is_some (entered q) ∙ (some_or_if of (named q before) (bytes_eq name q)
-    ∙ (ap (λ b. is_some (named q before) || b) (either_way name q) ∙ ap (λ n. is_some (named q before) || bytes_eq q n) is))
+    ∙ (ap (λ b. is_some (named q before) || b) (bytes_eq-sym name q) ∙ ap (λ n. is_some (named q before) || bytes_eq q n) is))
 
 -- ---- code
 

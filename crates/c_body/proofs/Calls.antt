@@ -1,6 +1,15 @@
 -- A call in code: its arguments, the function that it reaches, and what comes back (WebAssembly Core 1.0,
 -- 4.4.5 `call`; C11, 6.5.2.2).
-use Rattle.c_body.proofs.Common.{◌≡◌, ℕ, zero, suc, ◌+◌, ◌≤◌, Bool, true, List, [], ◌∷◌, ◌++◌, map, reverse, length, take, drop, if◌then◌else◌, slice_get, Some, None, Option, sym, refl, ap, ◌∙◌, subst, append_assoc, arith, drop-append_seam, take-append_seam, length-reverse, reverse-reverse, AllByRecursion, result_is_number, at_index, if_found, named, with_named, IsNumber, equal_types, is_result, type_of, types_of, FuncType, ValType, Value, I32, func_space, type_in, Call, Import, Context, Stack, values, join, stays, Program, func_named, Effect, primitive, Reaches, Progress, go_on, Stops, c_step, call, call_callee, evaluate_args, place_of, take_effect, with_value, func_name, named_here, func_imports, import_symbol, is_usable, IsCallable, Stacked, VarsAgree, call_named, emit_kind, operands_from, result_slot, CallFollows, Follows, Site, StandsAt, Target, at, call_spare, state_at, slot, callee, CallsInCodeFollow, IsSite, aims_of, StandsFor, called, given, Reached, after, after_call, stands}
+use Rattle.c_body.proofs.Common.{◌≡◌, ℕ, zero, suc, ◌+◌, ◌≤◌, Bool, true, List, [], ◌∷◌, ◌++◌, map, reverse, length, take, drop}
+use Rattle.c_body.proofs.Common.{if◌then◌else◌, slice_get, Some, None, Option, sym, refl, ap, ◌∙◌, subst, append_assoc, arith}
+use Rattle.c_body.proofs.Common.{drop-append_seam, take-append_seam, length-reverse, reverse-reverse, AllByRecursion, result_is_number}
+use Rattle.c_body.proofs.Common.{at_index, if_found, named, with_named, IsNumber, equal_types, is_result, type_of, types_of, FuncType}
+use Rattle.c_body.proofs.Common.{ValType, Value, I32, func_space, type_in, Call, Import, Context, Stack, values, join, stays, Program}
+use Rattle.c_body.proofs.Common.{func_named, Effect, primitive, Reaches, Progress, go_on, Stops, c_step, call, call_callee, evaluate_args}
+use Rattle.c_body.proofs.Common.{place_of, take_effect, with_value, func_name, named_here, func_imports, import_symbol, is_usable}
+use Rattle.c_body.proofs.Common.{IsCallable, Stacked, VarsAgree, call_named, emit_kind, operands_from, result_slot, CallFollows, Follows}
+use Rattle.c_body.proofs.Common.{Site, StandsAt, Target, at, call_spare, state_at, slot, callee, CallsInCodeFollow, IsSite, aims_of}
+use Rattle.c_body.proofs.Common.{StandsFor, called, given, Reached, after, after_call, stands, types_equal_themselves, types_many}
 use Rattle.w2c_base.specs.declared.value.ValType.TheVariants as type
 use Rattle.w2c_base.specs.declared.value.Value.TheVariants.{I64}
 use Rattle.wasm_meaning.specs.LinkedSet as link
@@ -13,9 +22,8 @@ use Rattle.c_body.proofs.Vars.{stacked_below, under as vars_below}
 use Rattle.c_body.proofs.Heights.{stands_top}
 use Rattle.c_body.proofs.Slots.{SlotIsSet, slots_are_set}
 use Rattle.c_body.proofs.Before.{stops_before}
-use Rattle.c_body.proofs.Operands.{types_length, reversed_front, arguments, arguments_are_numbers, types_append, reversed}
+use Rattle.c_body.proofs.Operands.{reversed_front, arguments, arguments_are_numbers, types_append, reversed}
 use Rattle.c_body.proofs.Own.{own_is, own_stands}
-use Rattle.c_body.proofs.Types.{equal_types_same}
 use Rattle.c_body.proofs.Gives.{slot_value, waiting, assign_slot}
 use Rattle.c_body.proofs.Jumps.{way_by}
 
@@ -222,13 +230,13 @@ pub invoked : (calls : exec.Calls) (f : link.FuncAddress) (params : List ValType
     → stack ≡ reverse args ++ under → types_of args ≡ params
     → exec.invoke calls f params left stack now ≡ exec.came_back (calls f args left now.store now.trail) under now
 invoked calls f params left stack args under now is typed =
-    let long : length params ≡ length (reverse args) = ap length (sym typed) ∙ (types_length args ∙ sym (length-reverse args)) in
+    let long : length params ≡ length (reverse args) = ap length (sym typed) ∙ (types_many args ∙ sym (length-reverse args)) in
     let top : take (length params) stack ≡ reverse args = ap (take (length params)) is
     ∙ (ap (λ n. take n (reverse args ++ under)) long ∙ take-append_seam (reverse args) under) in
     let low : drop (length params) stack ≡ under = ap (drop (length params)) is
     ∙ (ap (λ n. drop n (reverse args ++ under)) long ∙ drop-append_seam (reverse args) under) in
     let found : reverse (take (length params) stack) ≡ args = ap reverse top ∙ reverse-reverse args in
-    let fits : equal_types params (types_of args) ≡ true = ap (equal_types params) typed ∙ equal_types_same params in
+    let fits : equal_types params (types_of args) ≡ true = ap (equal_types params) typed ∙ types_equal_themselves params in
     ap (λ xs. if equal_types params (types_of xs) then exec.came_back (calls f xs left now.store now.trail)
     (drop (length params) stack) now else exec.Stops exec.Stuck now) found
     ∙ (ap (λ (b : Bool). if b then exec.came_back (calls f args left now.store now.trail)
@@ -256,7 +264,7 @@ types_under params stack base args under is typed =
     (under ++ base))
     in
     let long : length params ≡ length (types_of (reverse args)) = ap length (sym typed)
-    ∙ (types_length args ∙ (sym (length-reverse args) ∙ sym (types_length (reverse args)))) in
+    ∙ (types_many args ∙ (sym (length-reverse args) ∙ sym (types_many (reverse args)))) in
     ap (drop (length params)) whole ∙ (ap (λ n. drop n (types_of (reverse args) ++ types_of (under ++ base))) long ∙ drop-append_seam
     (types_of (reverse args)) (types_of (under ++ base)))
 

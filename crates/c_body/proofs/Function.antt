@@ -1,6 +1,13 @@
 -- A function that is called: the test of the depth, the code, and the exit, against the module's function that is
 -- entered and finished (WebAssembly Core 1.0, 4.4.7.1 invocation; C11, 6.9.1).
-use Rattle.c_body.proofs.Common.{◌≡◌, ℕ, zero, suc, ◌+◌, ◌-◌, ◌%◌, ◌^◌, ◌<◌, ◌≤◌, Bool, true, false, List, [], ◌∷◌, ◌++◌, if◌then◌else◌, nat_lt, ◌==◌, Some, None, Option, sym, refl, ap, ◌∙◌, subst, append-nil, arith, le-ltb, lt-ltb, same_Some, AllByRecursion, number_is_found, result_is_typed, named, IsNumber, equal_type, is_result, number_of, type_of, types_of, FuncType, ValType, Value, I32, Code, values, of_its_type, number_is_returned, join, step, c_result_of, with_depth, Reaches, Over, Progress, Stopped, over, Next, Stops, after_label, at_rest, c_step, next, place_of, returned, with_value, VarsAgree, change_depth, code_stmts, give_back, names_exit, stmts_of, entry_label, exit_label, exit_of, label_if, Arrives, Branches, CallFollows, ComesBack, Follows, Site, Target, at, call_spare, labelled, state_at, label_name, slot, given, Setting}
+use Rattle.c_body.proofs.Common.{◌≡◌, ℕ, zero, suc, ◌+◌, ◌-◌, ◌%◌, ◌^◌, ◌<◌, ◌≤◌, Bool, true, false, List, [], ◌∷◌, ◌++◌, if◌then◌else◌}
+use Rattle.c_body.proofs.Common.{nat_lt, ◌==◌, Some, None, Option, sym, refl, ap, ◌∙◌, subst, append-nil, arith, le-ltb, lt-ltb, same_Some}
+use Rattle.c_body.proofs.Common.{AllByRecursion, number_is_found, result_is_typed, named, IsNumber, equal_type, is_result, number_of}
+use Rattle.c_body.proofs.Common.{type_of, types_of, FuncType, ValType, Value, I32, Code, values, of_its_type, number_is_returned, join}
+use Rattle.c_body.proofs.Common.{step, c_result_of, with_depth, Reaches, Over, Progress, Stopped, over, Next, Stops, after_label, at_rest}
+use Rattle.c_body.proofs.Common.{c_step, next, place_of, returned, with_value, VarsAgree, change_depth, code_stmts, give_back, names_exit}
+use Rattle.c_body.proofs.Common.{stmts_of, entry_label, exit_label, exit_of, label_if, Arrives, Branches, CallFollows, ComesBack, Follows}
+use Rattle.c_body.proofs.Common.{Site, Target, at, call_spare, labelled, state_at, label_name, slot, given, Setting}
 use Rattle.w2c_base.specs.declared.value.ValType.TheVariants as type
 use Rattle.w2c_base.specs.declared.value.Value.TheVariants.{I64}
 use Rattle.w2c_base.specs.declared.trap.TrapKind.TheVariants as trap
@@ -11,7 +18,7 @@ use Rattle.c_tree.specs.Tree as tree
 use Rattle.c_meaning.specs.State as state
 use Rattle.c_meaning.specs.Operators.{truth}
 use Rattle.c_meaning.specs.Step.{jump, give, is_returned}
-use Rattle.c_prelude.specs.Pieces as pieces
+use Rattle.c_tree.specs.Makers as makers
 use Rattle.c_body.proofs.Past.{past_way}
 use Rattle.c_body.proofs.Before.{labelled_twice, stops_before}
 use Rattle.c_body.proofs.Jumps.{way_by}
@@ -31,7 +38,7 @@ begins g m code vars placed stmts_are room =
     let name : state.Name = label_name entry_label in
     let behind : List tree.Stmt = code_stmts c code ++ end_stmts c.context.result code in
     let stmts : List tree.Stmt = stmts_of c code in
-    let first : List tree.Stmt = pieces.trap trap.Exhaustion ∷ give_back c.context.result ∷ tree.Label name ∷ change_depth
+    let first : List tree.Stmt = makers.trap trap.Exhaustion ∷ give_back c.context.result ∷ tree.Label name ∷ change_depth
     op.Add ∷ behind in
     let r : state.Running = (state_at g m stmts vars).running in
     let shallow : nat_lt m.depth 1024 ≡ true = lt-ltb m.depth 1024 room in
@@ -58,7 +65,7 @@ too_deep g m code vars full =
     let name : state.Name = label_name entry_label in
     let behind : List tree.Stmt = code_stmts c code ++ end_stmts c.context.result code in
     let stmts : List tree.Stmt = stmts_of c code in
-    let first : List tree.Stmt = pieces.trap trap.Exhaustion ∷ give_back c.context.result ∷ tree.Label name ∷ change_depth
+    let first : List tree.Stmt = makers.trap trap.Exhaustion ∷ give_back c.context.result ∷ tree.Label name ∷ change_depth
     op.Add ∷ behind in
     let r : state.Running = (state_at g m stmts vars).running in
     let deep : nat_lt m.depth 1024 ≡ false = le-ltb m.depth 1024 full in
@@ -113,7 +120,6 @@ gives_back : (g : Site) (m : state.Machine) (vars : state.Vars) (t : Option ValT
     → VarsAgree g.slots g.has_element (exec.with_result value []) locals vars
     → Reaches g.program 1 (at g m (give_back t ∷ []) vars) (given g.program g.pending m value g.below)
 gives_back g m vars None None locals is typed agree =
-    let r : state.Running = (state_at g m (tree.ReturnNone ∷ []) vars).running in
     way_by g m (tree.ReturnNone ∷ []) vars (give m None g.below)
     (ap (λ (t : Option ValType). if is_returned (c_result_of t) None then give m None g.below else Stops m state.Stuck) is)
 gives_back g m vars None (Some v) locals is typed agree = absurd cc

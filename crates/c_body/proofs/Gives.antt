@@ -1,6 +1,13 @@
 -- What a plain instruction owes, and the two statements that give a value: an assignment to the slot on top, and a
 -- call of a helper whose value goes there.
-use Rattle.c_body.proofs.Common.{◌≡◌, ℕ, zero, suc, ◌^◌, ◌<◌, ◌≤◌, true, false, List, [], ◌∷◌, ◌++◌, length, is_some, Some, None, Option, bytes_eq, sym, refl, ap, ◌∙◌, subst, arith, named, with_named, IsNumber, bits, type_of, types_of, value, ValType, Value, Stack, Answer, AnswerFits, Gives, Traps, put_where_held, step, Program, Reaches, Going, Over, Pending, Progress, go_on, Evaluated, Is, found, then_evaluate, Next, Step, assign, at_rest, c_step, depth_name, evaluate, evaluate_arg, evaluate_args, next, number_in, place_of, value_of, with_value, with_vars, statement_comes_between, statement_comes_to, CallComesBetween, CallComesTo, CallEnd, call_ended, helper_of, ComesBetween, ComesWithin, Helper, HoldsNumber, Arrives, EndsAlike, Follows, Site, StandsAt, Target, at, labelled, state_at, slot, call_helper, operand, set_slot, Defines}
+use Rattle.c_body.proofs.Common.{◌≡◌, ℕ, zero, suc, ◌^◌, ◌<◌, ◌≤◌, true, false, List, [], ◌∷◌, ◌++◌, length, is_some, Some, None, Option}
+use Rattle.c_body.proofs.Common.{bytes_eq, sym, refl, ap, ◌∙◌, subst, arith, named, with_named, IsNumber, bits, type_of, types_of, value}
+use Rattle.c_body.proofs.Common.{ValType, Value, Stack, Answer, AnswerFits, Gives, Traps, put_where_held, step, Program, Reaches, Going}
+use Rattle.c_body.proofs.Common.{Over, Pending, Progress, go_on, Evaluated, Is, found, then_evaluate, Next, Step, assign, at_rest, c_step}
+use Rattle.c_body.proofs.Common.{depth_name, evaluate, evaluate_arg, evaluate_args, next, number_in, place_of, value_of, with_value}
+use Rattle.c_body.proofs.Common.{with_vars, statement_comes_between, statement_comes_to, CallComesBetween, CallComesTo, CallEnd, call_ended}
+use Rattle.c_body.proofs.Common.{helper_of, ComesBetween, ComesWithin, Helper, HoldsNumber, Arrives, EndsAlike, Follows, Site, StandsAt}
+use Rattle.c_body.proofs.Common.{Target, at, labelled, state_at, slot, call_helper, operand, set_slot, Defines, type_of-value}
 use Rattle.wasm_meaning.specs.Store as store
 use Rattle.wasm_meaning.specs.Execution as exec
 use Rattle.c_tree.specs.Tree as tree
@@ -9,7 +16,7 @@ use Rattle.c_prelude.specs.Operators.{number, answered}
 use Rattle.c_body.proofs.Names.{slot_is_no_depth}
 use Rattle.c_body.proofs.Slots.{SlotIsSet}
 use Rattle.c_body.proofs.Before.{spends}
-use Rattle.c_body.proofs.Operands.{type_of-value, value_number}
+use Rattle.c_body.proofs.Operands.{value_number}
 use Rattle.c_body.proofs.Vars.{height, under, Takes, number_taken}
 
 -- ---- what an instruction without control owes, once its step is paid
@@ -24,9 +31,8 @@ Does g base rest outs from left before exec.NoRule = ⊥
 did_follows : (g : Site) (targets : List Target) (exit : Target) (base : List Value) (rest : List tree.Stmt) (outs : Stack)
     (from : Progress) (left : ℕ) (before : store.State) (done : exec.Done)
     → Does g base rest outs from left before done → Follows g 0 targets exit base rest outs from (suc left) (exec.did left before done)
-did_follows g targets exit base rest outs from left before (exec.Leaves stack now) does = does
-did_follows g targets exit base rest outs from left before (exec.Faults kind) does = does
 did_follows g targets exit base rest outs from left before exec.NoRule does = absurd does
+did_follows g targets exit base rest outs from left before _ does = does
 
 -- an instruction that costs a step
 pub owes : (g : Site) (targets : List Target) (exit : Target) (base : List Value) (outs : Stack) (m : state.Machine)

@@ -1,5 +1,9 @@
 -- A host's call: both languages ask the same and take the same reply (WebAssembly Core 1.0, 4.4.7.3).
-use Rattle.c_body.proofs.Common.{◌≡◌, ℕ, ◌+◌, ◌≤◌, Bool, true, false, List, [], ◌∷◌, ◌++◌, map, if◌then◌else◌, slice_get, Some, None, Option, option_map, sym, refl, ap, ◌∙◌, subst, arith, types_equal_themselves, if_found, Ask, Event, Gave, Host, HostTrapped, Reply, Trail, asked, equal_types, is_result, types_of, FuncType, Value, join, Program, host_type, with_trail, Reaches, Pending, Progress, go_on, Step, Stops, CallFollows, Together, PassesOn, called, given, wrapper_statements}
+use Rattle.c_body.proofs.Common.{◌≡◌, ℕ, ◌+◌, ◌≤◌, Bool, true, false, List, [], ◌∷◌, ◌++◌, map, if◌then◌else◌, slice_get, Some, None}
+use Rattle.c_body.proofs.Common.{Option, option_map, sym, refl, ap, ◌∙◌, subst, arith, types_equal_themselves, if_found, Ask, Event, Gave}
+use Rattle.c_body.proofs.Common.{Host, HostTrapped, Reply, Trail, asked, equal_types, is_result, types_of, FuncType, Value, join, Program}
+use Rattle.c_body.proofs.Common.{host_type, with_trail, Reaches, Pending, Progress, go_on, Step, Stops, CallFollows, Together, PassesOn}
+use Rattle.c_body.proofs.Common.{called, given, wrapper_statements}
 use Rattle.w2c_base.specs.declared.trap.TrapKind.TheVariants as trap
 use Rattle.wasm_meaning.specs.LinkedSet as link
 use Rattle.wasm_meaning.specs.Store as store

@@ -1,8 +1,13 @@
 -- What a function's index stands for in a linked set: an own function, or what an import stands for; and
 -- that it is a function of the modules up to this one, or a host's (WebAssembly Core 1.0, 4.2.5, 4.5.4).
-use Rattle.c_body.proofs.Common.{◌≡◌, ℕ, zero, suc, ◌+◌, ◌<◌, true, false, cond, List, [], ◌∷◌, ◌++◌, map, length, slice_get, Some, None, filter, Option, flat_map, sym, refl, ap, ◌∙◌, subst, inl, inr, arith, length-map, same_Some, slice_get_within, range_with_len, all_at, at_index, if_found, FuncType, defined_behind_imports, at_defined, func_of_import, func_space, imported_funcs, is_func_import, type_in, FuncEntry, Import, ImportKind, ImportFunc, ImportGlobal, ImportMemory, ImportTable, Module, func_imports, IsCallable, IsDefined}
+use Rattle.c_body.proofs.Common.{◌≡◌, ℕ, zero, suc, ◌+◌, ◌<◌, true, false, cond, List, [], ◌∷◌, ◌++◌, map, length, slice_get, Some, None}
+use Rattle.c_body.proofs.Common.{filter, Option, flat_map, sym, refl, ap, ◌∙◌, subst, inl, inr, arith, length-map, same_Some}
+use Rattle.c_body.proofs.Common.{slice_get_within, range_with_len, all_at, at_index, if_found, FuncType, defined_behind_imports, at_defined}
+use Rattle.c_body.proofs.Common.{func_of_import, func_space, imported_funcs, is_func_import, type_in, FuncEntry, Import, ImportKind}
+use Rattle.c_body.proofs.Common.{ImportFunc, ImportGlobal, ImportMemory, ImportTable, Module, func_imports, IsCallable, IsDefined}
+use Rattle.w2c_base.proofs.Places.{get_front}
 use Rattle.wasm_meaning.specs.LinkedSet as link
-use Rattle.c_body.proofs.Lists.{get_left, get_behind, get_joined, get_mapped, get_unmapped, get_numbered, get_kept, get_none}
+use Rattle.c_body.proofs.Lists.{get_behind, get_joined, get_mapped, get_unmapped, get_numbered, get_kept, get_none}
 use Rattle.c_body.proofs.Spaces.{module_is, ResolvesAs, callable_later, looked_up, func_owner, func_count}
 
 -- ---- functions by their indexes
@@ -40,7 +45,7 @@ imported_func s u m k x e at =
     let there : slice_get (meanings s u m) k ≡ Some meaning =
     get_mapped (λ (y : Import). if_found (link.import_at s u y) link.as_func) (func_imports m.tree) k x at in
     func_at_is s u m k e
-    ∙ ap (λ (o : Option (Option link.FuncAddress)). if_found o (λ entry. entry)) (get_left (meanings s u m) (own u m) k meaning there)
+    ∙ ap (λ (o : Option (Option link.FuncAddress)). if_found o (λ entry. entry)) (get_front (meanings s u m) (own u m) k meaning there)
 
 -- what a function's index stands for can be called, once the module is ready
 pub func_callable : (s : link.LinkedSet) (count u : ℕ) (m : link.NamedModule) (index : ℕ) (f : link.FuncAddress)
@@ -68,8 +73,7 @@ import_in_space (y ∷ imports) k x e = by_kind y.kind refl k e (λ j h. import_
     by_kind (ImportFunc t) is zero e more = let same : y ≡ x = cc in (t, ap (λ (z : Import). z.kind) (sym same) ∙ is, refl)
     by_kind (ImportFunc t) is (suc k) e more = more k e
     by_kind (ImportTable l) is k e more = more k e
-    by_kind (ImportMemory l) is k e more = more k e
-    by_kind (ImportGlobal t mutable) is k e more = more k e
+    by_kind _ is k e more = more k e
 
 type_is : (s : link.LinkedSet) (u : ℕ) (m : link.NamedModule) (t : ℕ) → slice_get s.modules u ≡ Some m
     → link.type_at s u t ≡ type_in m.tree t
@@ -127,7 +131,7 @@ import_of_context s u m index x ty f linked is at typed reached =
     let same : Some r.0 ≡ Some f = ap (λ (o : Option link.External). if_found o link.as_func) (sym r.2)
     ∙ (sym (imported_func s u m index x is at) ∙ reached) in
     let space : slice_get (func_space m.tree) index ≡ Some t =
-    get_left (flat_map func_of_import m.tree.imports) (map (λ f. f.type_index) m.tree.funcs) index t placed.2 in
+    get_front (flat_map func_of_import m.tree.imports) (map (λ f. f.type_index) m.tree.funcs) index t placed.2 in
     let context : type_in m.tree t ≡ Some ty = same_Some (type_in m.tree t) (Some ty)
     (sym (get_mapped (type_in m.tree) (func_space m.tree) index t space) ∙ typed) in
     let equal : Some r.1 ≡ Some ty = sym r.3 ∙ (type_is s u m t is ∙ context) in

@@ -1,5 +1,16 @@
 -- A call through the table: the element's traps in both languages, and then the call through the element.
-use Rattle.c_body.proofs.Common.{◌≡◌, ℕ, zero, suc, ◌+◌, ◌≤◌, Bool, true, false, ◌&&◌, List, [], ◌∷◌, ◌++◌, map, reverse, length, drop, is_some, if◌then◌else◌, nat_eq, slice_get, Some, None, Option, option_map, sym, refl, ap, ◌∙◌, subst, append_assoc, arith, nat_tests, reverse-append, same_Some, slice_get-map, AllByRecursion, option_or, all_at, if_found, named, with_named, sig_number_of, IsNumber, equal_func_types, types_of, FuncType, ValType, Value, I32, CallIndirect, Module, Context, Stack, values, same_func_type, same_type, same_types, CType, N64, bytes_equal, named-with_named, join, stays, Program, func_type, Reaches, Progress, go_on, Element, Evaluated, FuncPointer, Is, Number, Pointer, Next, Step, Stops, assign, c_step, call, call_callee, call_through, evaluate_args, in_unit, place_of, with_value, helper_right, CallComesTo, CallEnd, GivesBack, TrapsWith, call_ended, helper_of, ComesWithin, c_func_type, ElementAgrees, ElementsAgree, HoldsFunction, IsCallable, IsCallableIfAny, VarsAgree, call_element, call_of, emit_kind, operands_from, result_slot, Follows, Site, StandsAt, Target, at, state_at, element_name, table_arg, IndirectCallsFollow, IsSite, aims_of, StandsFor, called, call_helper, operand, Defines, after_call, stands}
+use Rattle.c_body.proofs.Common.{◌≡◌, ℕ, zero, suc, ◌+◌, ◌≤◌, Bool, true, false, ◌&&◌, List, [], ◌∷◌, ◌++◌, map, reverse, length, drop}
+use Rattle.c_body.proofs.Common.{is_some, if◌then◌else◌, nat_eq, slice_get, Some, None, Option, option_map, sym, refl, ap, ◌∙◌, subst}
+use Rattle.c_body.proofs.Common.{append_assoc, arith, reverse-append, same_Some, slice_get-map, AllByRecursion, option_or, all_at, if_found}
+use Rattle.c_body.proofs.Common.{named, with_named, sig_number_of, IsNumber, equal_func_types, types_of, FuncType, ValType, Value, I32}
+use Rattle.c_body.proofs.Common.{CallIndirect, Module, Context, Stack, values, same_func_type, same_type, N64, bytes_equal}
+use Rattle.c_body.proofs.Common.{named-with_named, join, stays, Program, func_type, Reaches, Progress, go_on, Element, Evaluated}
+use Rattle.c_body.proofs.Common.{FuncPointer, Is, Number, Pointer, Next, Step, Stops, assign, c_step, call, call_callee, call_through}
+use Rattle.c_body.proofs.Common.{evaluate_args, in_unit, place_of, with_value, helper_right, CallComesTo, CallEnd, GivesBack, TrapsWith}
+use Rattle.c_body.proofs.Common.{call_ended, helper_of, ComesWithin, c_func_type, ElementAgrees, ElementsAgree, HoldsFunction, IsCallable}
+use Rattle.c_body.proofs.Common.{IsCallableIfAny, VarsAgree, call_element, call_of, emit_kind, operands_from, result_slot, Follows, Site}
+use Rattle.c_body.proofs.Common.{StandsAt, Target, at, state_at, element_name, table_arg, IndirectCallsFollow, IsSite, aims_of, StandsFor}
+use Rattle.c_body.proofs.Common.{called, call_helper, operand, Defines, after_call, stands}
 use Rattle.w2c_base.specs.declared.value.ValType.TheVariants as type
 use Rattle.w2c_base.specs.declared.value.Value.TheVariants.{I64}
 use Rattle.w2c_base.specs.declared.trap.TrapKind.TheVariants as trap
@@ -7,6 +18,7 @@ use Rattle.wasm_meaning.specs.LinkedSet as link
 use Rattle.wasm_meaning.specs.Store as store
 use Rattle.wasm_meaning.specs.Execution as exec
 use Rattle.c_tree.specs.Tree as tree
+use Rattle.c_tree.proofs.SameTypes.{same_as_itself, same_as_themselves}
 use Rattle.c_meaning.specs.State as state
 use Rattle.c_meaning.specs.Machine as machine
 use Rattle.c_prelude.specs.declared.operation.Helper.TheVariants as helper
@@ -27,18 +39,8 @@ use Rattle.c_body.proofs.Jumps.{way_by}
 
 -- ---- types and their numbers
 
-nat_eq_same : (n : ℕ) → nat_eq n n ≡ true
-nat_eq_same n = grind (arith, nat_tests)
-
-same_c_type : (t : CType) → same_type t t ≡ true
-same_c_type t = nat_eq_same _
-
-pub same_c_types : (ts : List CType) → same_types ts ts ≡ true
-same_c_types [] = refl
-same_c_types (t ∷ ts) = ap (λ b. b && same_types ts ts) (same_c_type t) ∙ same_c_types ts
-
 pub same_c_func_type : (f : tree.FuncType) → same_func_type f f ≡ true
-same_c_func_type f = ap (λ b. b && same_type f.result f.result) (same_c_types f.params) ∙ same_c_type f.result
+same_c_func_type f = ap (λ b. b && same_type f.result f.result) (same_as_themselves f.params) ∙ same_as_itself f.result
 
 -- ---- elements
 
@@ -52,15 +54,11 @@ pub element_at : (p : Program) (s : link.LinkedSet) (elements : List (Option lin
     → ElementsAgree p s elements others
     → ElementAt p s (slice_get elements i) (slice_get others i)
 element_at p s [] [] i agree = tt
-element_at p s [] (y ∷ others) i agree = absurd agree
-element_at p s (None ∷ elements) [] i agree = absurd agree
-element_at p s (Some f ∷ elements) [] i agree = absurd agree
-element_at p s (None ∷ elements) (Some e ∷ others) i agree = absurd agree
-element_at p s (Some f ∷ elements) (None ∷ others) i agree = absurd agree
 element_at p s (None ∷ elements) (None ∷ others) zero agree = tt
 element_at p s (None ∷ elements) (None ∷ others) (suc i) agree = element_at p s elements others i agree
 element_at p s (Some f ∷ elements) (Some e ∷ others) zero agree = agree.0
 element_at p s (Some f ∷ elements) (Some e ∷ others) (suc i) agree = element_at p s elements others i agree.1
+element_at p s _ _ i agree = absurd agree
 
 -- an element has the number of a type, which is not 0
 elements_signed : (p : Program) (s : link.LinkedSet) (elements : List (Option link.FuncAddress)) (other : state.Table)

@@ -1,5 +1,11 @@
 -- Branches and returns: a value is moved to the height of the block that is left, and the label is gone to.
-use Rattle.c_body.proofs.Common.{◌≡◌, ℕ, zero, suc, ◌+◌, ◌≤◌, Bool, true, false, List, [], ◌∷◌, ◌++◌, map, length, if◌then◌else◌, ◌==◌, slice_get, Some, None, Option, sym, refl, ap, ◌∙◌, subst, append_assoc, arith, eqb-true, named, with_named, IsNumber, number_of, type_of, types_of, ValType, Value, I32, Stack, values, COp, N32, of_its_type, join, step, operate, Reaches, Progress, go_on, Next, Step, after_label, at_rest, c_step, evaluate, goto, next, number_in, place_of, with_value, HoldsNumber, is_straight, jump, Branches, BranchesTo, Site, StandsAt, Target, at, state_at, label_name, slot, AreTargets, IsFoundIf, IsTarget, aims_of, jump_if, operand, set_slot}
+use Rattle.c_body.proofs.Common.{◌≡◌, ℕ, zero, suc, ◌+◌, ◌≤◌, Bool, true, false, List, [], ◌∷◌, ◌++◌, map, length, if◌then◌else◌, ◌==◌}
+use Rattle.c_body.proofs.Common.{slice_get, Some, None, Option, sym, refl, ap, ◌∙◌, subst, append_assoc, arith, eqb-true, named, with_named}
+use Rattle.c_body.proofs.Common.{IsNumber, number_of, type_of, types_of, ValType, Value, I32, Stack, values, COp, N32, of_its_type, join}
+use Rattle.c_body.proofs.Common.{step, operate, Reaches, Progress, go_on, Next, Step, after_label, at_rest, c_step, evaluate, goto, next}
+use Rattle.c_body.proofs.Common.{number_in, place_of, with_value, HoldsNumber, is_straight, jump, Branches, BranchesTo, Site, StandsAt}
+use Rattle.c_body.proofs.Common.{Target, at, state_at, label_name, slot, AreTargets, IsFoundIf, IsTarget, aims_of, jump_if, operand}
+use Rattle.c_body.proofs.Common.{set_slot}
 use Rattle.std.proofs.Math.Dec.{eqb-suc-zero}
 use Rattle.w2c_base.specs.declared.value.ValType.TheVariants as type
 use Rattle.wasm_meaning.specs.Store as store

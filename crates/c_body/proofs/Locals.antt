@@ -1,5 +1,10 @@
 -- Instructions on locals and constants, and those that only drop or select operands, are followed by their statements.
-use Rattle.c_body.proofs.Common.{◌≡◌, ℕ, zero, suc, ◌+◌, ◌^◌, ◌<◌, ◌≤◌, List, [], ◌∷◌, ◌++◌, length, slice_get, slice_set, Some, None, Option, sym, refl, ap, ◌∙◌, subst, arith, length-append, all_at, named, with_named, IsNumber, bits, type_of, types_of, value, ValType, Value, I32, declared_locals, Context, Stack, pattern_below, of_the_same_type, pattern_of, join_one, stays, after_label, number, Arrives, Follows, Site, StandsAt, Target, at, label_name, local_name, slot, IsPlaced, IsSite, KindFollows, operand, plain_stmts, selected, set_slot}
+use Rattle.c_body.proofs.Common.{◌≡◌, ℕ, zero, suc, ◌+◌, ◌^◌, ◌<◌, ◌≤◌, List, [], ◌∷◌, ◌++◌, length, slice_get, slice_set, Some, None}
+use Rattle.c_body.proofs.Common.{Option, sym, refl, ap, ◌∙◌, subst, arith, length-append, all_at, named, with_named, IsNumber, bits}
+use Rattle.c_body.proofs.Common.{type_of, types_of, value, ValType, Value, I32, declared_locals, Context, Stack, pattern_below}
+use Rattle.c_body.proofs.Common.{of_the_same_type, pattern_of, join_one, stays, after_label, number, Arrives, Follows, Site, StandsAt}
+use Rattle.c_body.proofs.Common.{Target, at, label_name, local_name, slot, IsPlaced, IsSite, KindFollows, operand, plain_stmts, selected}
+use Rattle.c_body.proofs.Common.{set_slot, type_of-value, types_many}
 use Rattle.w2c_base.specs.declared.value.ValType.TheVariants as type
 use Rattle.w2c_base.specs.declared.value.Value.TheVariants.{I64}
 use Rattle.wasm_tree.specs.Instructions as wasm
@@ -12,7 +17,7 @@ use Rattle.c_body.proofs.Names.{slot_is_no_depth, local_is_no_depth}
 use Rattle.c_body.proofs.Vars.{height, set_local, local_at, local_taken, number_taken, stands_below}
 use Rattle.c_body.proofs.Gives.{Does, Place, owes, running, evaluate-variable, set_reaches, with_top, leaves_number, sets}
 use Rattle.c_body.proofs.Numeric.{one_of, evaluate-slot, One, one_stands, Two, two_stand, place_of, Finds, labels_of}
-use Rattle.c_body.proofs.Operands.{types_length, types_set, value_number, other_types, type_of-value}
+use Rattle.c_body.proofs.Operands.{types_set, value_number, other_types}
 use Rattle.c_body.proofs.Jumps.{if_passes, if_goes, ne_zero, ne_more}
 
 -- ---- no statement
@@ -100,7 +105,7 @@ few_locals g room calls site locals e =
     ≡ length site.ty.params + length (declared_locals site.entry.runs) = length-append site.ty.params (declared_locals site.entry.runs) in
     let params : length site.ty.params ≤ 60 = site.few_params in
     let declared : length (declared_locals site.entry.runs) < 2 ^ 32 = site.within.locals in
-    let same : length (types_of locals) ≡ length locals = types_length locals in
+    let same : length (types_of locals) ≡ length locals = types_many locals in
     omega (arith, counted, both, params, declared, same)
 
 number_fits : (t : ValType) (n : ℕ) → IsNumber (value t n) → n < 2 ^ bits t

@@ -1,5 +1,7 @@
 -- Look-ups in what a body's translation reads of its module.
-use Rattle.c_body.proofs.Common.{◌≡◌, ℕ, ◌<◌, ◌≤◌, true, false, List, [], ◌∷◌, map, length, is_some, slice_get, Some, None, Option, option_map, sym, refl, ap, ◌∙◌, arith, length-map, slice_get-get_or, slice_get-map, slice_get_past, at_index, if_found, imported_funcs, Import, TypeEntry, Name, NamedModule, func_name, func_imports, callee}
+use Rattle.c_body.proofs.Common.{◌≡◌, ℕ, ◌<◌, ◌≤◌, true, false, List, [], ◌∷◌, map, length, is_some, slice_get, Some, None, Option}
+use Rattle.c_body.proofs.Common.{option_map, sym, refl, ap, ◌∙◌, arith, length-map, slice_get-get_or, slice_get-map, slice_get_past}
+use Rattle.c_body.proofs.Common.{at_index, if_found, imported_funcs, Import, TypeEntry, Name, NamedModule, func_name, func_imports, callee}
 use Rattle.c_symbols.specs.Reached.{usable_symbol}
 
 -- what is made of each item of a list stands where the item does

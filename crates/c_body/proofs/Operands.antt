@@ -1,22 +1,16 @@
 -- Operands as lists of values: their types, those on top that are a call's arguments, and that they are numbers of
 -- their types.
-use Rattle.c_body.proofs.Common.{◌≡◌, ℕ, zero, suc, ◌^◌, ◌<◌, List, [], ◌∷◌, ◌++◌, reverse, length, slice_get, slice_set, Some, None, Option, sym, refl, ap, ◌∙◌, subst, arith, reverse-append, reverse-reverse, same_Some, AllByRecursion, all_append, IsNumber, bits, type_of, types_of, value, zeros, ValType, Value, Stack, values}
+use Rattle.c_body.proofs.Common.{◌≡◌, ℕ, zero, suc, ◌^◌, ◌<◌, List, [], ◌∷◌, ◌++◌, reverse, slice_get, slice_set, Some, None, Option, sym}
+use Rattle.c_body.proofs.Common.{refl, ap, ◌∙◌, subst, arith, reverse-append, reverse-reverse, same_Some, AllByRecursion, all_append}
+use Rattle.c_body.proofs.Common.{IsNumber, bits, type_of, types_of, value, zeros, ValType, Value, Stack, values}
 use Rattle.w2c_base.specs.declared.value.ValType.TheVariants as type
 use Rattle.c_body.proofs.Lists.{all_front}
 
 -- ---- types
 
-pub type_of-value : (t : ValType) (n : ℕ) → type_of (value t n) ≡ t
-type_of-value type.I32 n = refl
-type_of-value type.I64 n = refl
-
 pub types_append : (xs ys : List Value) → types_of (xs ++ ys) ≡ types_of xs ++ types_of ys
 types_append [] ys = refl
 types_append (x ∷ xs) ys = ap (λ types. type_of x ∷ types) (types_append xs ys)
-
-pub types_length : (xs : List Value) → length (types_of xs) ≡ length xs
-types_length [] = refl
-types_length (x ∷ xs) = ap suc (types_length xs)
 
 pub reversed_front : {A : Type 0} (x : A) (xs : List A) → reverse (x ∷ xs) ≡ reverse xs ++ x ∷ []
 reversed_front x xs = reverse-append (x ∷ []) xs

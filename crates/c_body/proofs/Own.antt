@@ -1,6 +1,12 @@
 -- The functions that a module defines: what their units have for them, and that those stand for them with
 -- no frame between.
-use Rattle.c_body.proofs.Common.{◌≡◌, ℕ, zero, suc, ◌+◌, ◌-◌, ◌≤◌, List, [], ◌∷◌, ◌++◌, map, length, slice_get, Some, None, Option, option_map, unwrap_or, sym, refl, ap, ◌∙◌, subst, inl, arith, same_Some, all_at, if_found, FuncType, ValType, defined_behind_imports, at_defined, declared_locals, imported_funcs, type_in, BodyEntry, FuncEntry, TypeEntry, Module, Context, body_context, context_of, BodyHasType, AreTyped, IsTyped, bodies_of, func_type_of, stays, Program, c_params_of, c_type_of, definition_at, func_type, primitive, func_name, c_func_type, IsDefined, body_of, defined_at, element_local, func_of, locals_from, no_func, params_from, params_of, slots_of, stmts_of, BodyHasLimits, HasLimits, StandsFor, called, given, AreServed}
+use Rattle.c_body.proofs.Common.{◌≡◌, ℕ, zero, suc, ◌+◌, ◌-◌, ◌≤◌, List, [], ◌∷◌, ◌++◌, map, length, slice_get, Some, None, Option}
+use Rattle.c_body.proofs.Common.{option_map, unwrap_or, sym, refl, ap, ◌∙◌, subst, inl, arith, same_Some, all_at, if_found, FuncType}
+use Rattle.c_body.proofs.Common.{ValType, defined_behind_imports, at_defined, declared_locals, imported_funcs, type_in, BodyEntry}
+use Rattle.c_body.proofs.Common.{FuncEntry, TypeEntry, Module, Context, body_context, context_of, BodyHasType, AreTyped, IsTyped, bodies_of}
+use Rattle.c_body.proofs.Common.{func_type_of, stays, Program, c_params_of, c_type_of, definition_at, func_type, primitive, func_name}
+use Rattle.c_body.proofs.Common.{c_func_type, IsDefined, body_of, defined_at, element_local, func_of, locals_from, no_func, params_from}
+use Rattle.c_body.proofs.Common.{params_of, slots_of, stmts_of, BodyHasLimits, HasLimits, StandsFor, called, given, AreServed}
 use Rattle.w2c_base.specs.declared.value.ValType.TheVariants as type
 use Rattle.wasm_meaning.specs.LinkedSet as link
 use Rattle.c_tree.specs.Tree as tree
@@ -115,8 +121,8 @@ own_is p s u m index served is known =
       c_typed = subst (λ (f : tree.Func). func_type p (state.UnitFunc u f.name) ≡ Some (func_type_of f)) found.4 defines.typed;
       is_no_primitive = ap (λ (f : tree.Func). primitive f.name) (sym found.4) ∙ defines.is_no_primitive;
       valid = typed_body m.tree (bodies_of m.tree) j d found.1 (served.valid u m is).bodies entries found.3;
-      within = all_at BodyHasLimits m.tree.bodies j d.1 (within_of m.tree (served.formed u m is)).bodies parts.1;
-      few = few_params m.tree d.0.type_index found.1 (within_of m.tree (served.formed u m is)) found.3;
+      within = all_at BodyHasLimits m.tree.bodies j d.1 (within_of m.tree (served.within u m is)).bodies parts.1;
+      few = few_params m.tree d.0.type_index found.1 (within_of m.tree (served.within u m is)) found.3;
     }
 
 -- ---- their C types

@@ -1,5 +1,16 @@
 -- What the translation of code rests on holds at each place of typed code.
-use Rattle.c_body.proofs.Common.{◌≡◌, ℕ, suc, ◌+◌, ◌-◌, ◌^◌, ◌<◌, ◌≤◌, Bool, true, false, not, ◌&&◌, ◌||◌, List, [], ◌∷◌, ◌++◌, map, reverse, length, get_or, drop, if◌then◌else◌, nat_lt, slice_get, Some, None, vec_len, Option, sym, refl, ap, ◌∙◌, subst, arith, length-append, length-reverse, slice_get-map, all_at, FuncType, ValType, at_defined, imported_funcs, type_in, Typing, by_rule, of_types, Code, Kind, Otherwise, else_code, no_else, then_code, code_tree, kind_tree, Instr, BodyEntry, FuncEntry, TypeEntry, Module, IsFormed, has_wide, binary_typing, compare_typing, eqz_typing, extend_typing, load_typing, store_typing, unary_typing, Context, Labels, context_of, ElseHasType, HasType, KindHasType, Stack, TurnsAsTabled, table_type, values, IsValid, bodies_of, begun, Inside, any_in, any_in_else, any_inside, labels_in, labels_in_else, labels_of, BodyHasLimits, Made, in_first, in_second, popped, ran, ran_instr, ran_kind, unless_dead, with_labels, made_by, Covered, Setting, BodyIsReady, CodeIsReady, HasOperands, HaveFewParams, InsideIsReady, IsReached, KindIsReached, KindIsReady, PlainIsReady, operands_in, takes, Keeps, after, ends, stands, step_of, taken, Mark, Operands}
+use Rattle.c_body.proofs.Common.{◌≡◌, ℕ, suc, ◌+◌, ◌-◌, ◌^◌, ◌<◌, ◌≤◌, Bool, true, false, not, ◌&&◌, ◌||◌, List, [], ◌∷◌, ◌++◌, map}
+use Rattle.c_body.proofs.Common.{reverse, length, get_or, drop, if◌then◌else◌, nat_lt, slice_get, Some, None, vec_len, Option, sym, refl}
+use Rattle.c_body.proofs.Common.{ap, ◌∙◌, subst, arith, length-append, length-reverse, slice_get-map, all_at, FuncType, ValType, at_defined}
+use Rattle.c_body.proofs.Common.{imported_funcs, type_in, Typing, by_rule, of_types, Code, Kind, Otherwise, else_code, no_else, then_code}
+use Rattle.c_body.proofs.Common.{code_tree, kind_tree, Instr, BodyEntry, FuncEntry, TypeEntry, Module, has_wide, binary_typing}
+use Rattle.c_body.proofs.Common.{compare_typing, eqz_typing, extend_typing, load_typing, store_typing, unary_typing, Context, Labels}
+use Rattle.c_body.proofs.Common.{context_of, ElseHasType, HasType, KindHasType, Stack, TurnsAsTabled, table_type, values, IsValid}
+use Rattle.c_body.proofs.Common.{bodies_of, begun, Inside, any_in, any_in_else, any_inside, labels_in, labels_in_else, labels_of}
+use Rattle.c_body.proofs.Common.{BodyHasLimits, Made, in_first, in_second, popped, ran, ran_instr, ran_kind, unless_dead, with_labels}
+use Rattle.c_body.proofs.Common.{made_by, Covered, Setting, BodyIsReady, CodeIsReady, HasOperands, HaveFewParams, InsideIsReady, IsReached}
+use Rattle.c_body.proofs.Common.{KindIsReached, KindIsReady, PlainIsReady, operands_in, takes, Keeps, after, ends, stands, step_of, taken}
+use Rattle.c_body.proofs.Common.{Mark, Operands, or_parts, WithinLimits}
 use Rattle.wasm_tree.specs.Instructions as wasm
 use Rattle.c_body.specs.declared.steps.Step.{Step}
 use Rattle.c_body.specs.declared.emitter.Emitter.{Emitter}
@@ -27,6 +38,12 @@ tabled_few : (typing : Typing) (own outs : Stack) → TurnsAsTabled typing own o
 tabled_few (of_types operands results) own outs h = over operands h.0 own h.1
 tabled_few by_rule own outs h = absurd h
 
+on_top : (ts : Stack) (t : ValType) (rest own : Stack) → own ≡ reverse (ts ++ t ∷ []) ++ rest → 1 ≤ length own
+on_top ts t rest own e =
+    let long = over (ts ++ t ∷ []) rest own e in
+    let more = length-append ts (t ∷ []) in
+    omega (arith, long, more)
+
 -- typed code has the operands that an instruction takes
 takes_few : (c : Context) (labels : Labels) (kind : Kind) (own outs : Stack) → KindHasType c labels kind own outs
     → takes c kind ≤ length own
@@ -44,19 +61,7 @@ takes_few c labels (wasm.Loop t code e) own outs h = omega arith
 takes_few c labels (wasm.If t code otherwise e) own outs h = over (_ ∷ []) h.2.0 own h.2.1
 takes_few c labels (wasm.Br label) own outs h = omega arith
 takes_few c labels (wasm.BrIf label) own outs h = on_top (values h.0) _ h.2.0 own h.2.1
-  where
-    on_top : (ts : Stack) (t : ValType) (rest own : Stack) → own ≡ reverse (ts ++ t ∷ []) ++ rest → 1 ≤ length own
-    on_top ts t rest own e =
-        let long = over (ts ++ t ∷ []) rest own e in
-        let more = length-append ts (t ∷ []) in
-        omega (arith, long, more)
 takes_few c labels (wasm.BrTable others label) own outs h = on_top (values h.0) _ h.3.0 own h.3.1
-  where
-    on_top : (ts : Stack) (t : ValType) (rest own : Stack) → own ≡ reverse (ts ++ t ∷ []) ++ rest → 1 ≤ length own
-    on_top ts t rest own e =
-        let long = over (ts ++ t ∷ []) rest own e in
-        let more = length-append ts (t ∷ []) in
-        omega (arith, long, more)
 takes_few c labels wasm.Return own outs h = omega arith
 takes_few c labels (wasm.Call index) own outs h = rw h.1 (over h.0.params h.2.0 own h.2.1)
 takes_few c labels (wasm.CallIndirect index) own outs h = rw h.1 (indirect h.0.params _ h.3.0 own h.3.1)
@@ -103,18 +108,11 @@ taken_as_tabled c k s e = ap (λ (o : Option Step). taken_by o (takes c k)) e �
 
 -- ---- from place to place
 
-no_part : (a b : Bool) → (a || b) ≡ false → (a ≡ false) × (b ≡ false)
-no_part true b e = absurd cc
-no_part false b e = (refl, e)
-
 -- behind an instruction that goes on
 no_rest : (ends here behind : Bool) → (here || (not ends && behind)) ≡ false → ends ≡ false → behind ≡ false
-no_rest ends here behind e goes = part ends here behind e goes
-  where
-    part : (ends here behind : Bool) → (here || (not ends && behind)) ≡ false → ends ≡ false → behind ≡ false
-    part ends true behind e goes = absurd cc
-    part true false behind e goes = absurd cc
-    part false false behind e goes = e
+no_rest ends true behind e goes = absurd cc
+no_rest true false behind e goes = absurd cc
+no_rest false false behind e goes = e
 
 pub kind_ready : (c : Context) (e : Emitter) (place : ℕ) (kind : Kind) (rest : Code) → CodeIsReady c e (then_code place kind rest)
     → KindIsReady c e kind
@@ -126,7 +124,7 @@ kind_ready c e place kind rest h = record {
     kind_reached : IsReached c e (then_code place kind rest) → KindIsReached c e kind
     kind_reached r = record {
       covered = r.covered;
-      numbers = (no_part (has_wide kind || any_inside has_wide kind) (not (ends kind) && any_in has_wide rest) r.numbers).0;
+      numbers = (or_parts (has_wide kind || any_inside has_wide kind) (not (ends kind) && any_in has_wide rest) r.numbers).0;
       labels = r.labels;
       own = r.own;
       outs = r.typed.0;
@@ -186,7 +184,7 @@ plain_ready c e kind live h =
     let r : KindIsReached c e kind = h.reached live in
     record {
       labels = h.labels;
-      numbers = (no_part (has_wide kind) (any_inside has_wide kind) r.numbers).0;
+      numbers = (or_parts (has_wide kind) (any_inside has_wide kind) r.numbers).0;
       operands = has_enough c e kind r;
     }
 
@@ -246,6 +244,9 @@ second_code_ready c e first n t code otherwise place other is h first_made made 
     (subst (λ (m : Made). Covered m.types m.marks) (sym made) ready.1)
     r.numbers_else (r.typed_else place other refl) (omega (arith, most, there, now))
 
+no_such : (p : ℕ) (other : Code) → no_else ≡ else_code p other → ⊥
+no_such p other e = cc
+
 -- a block or a loop, at a place that is reached
 pub block_ready : (c : Context) (e : Emitter) (t : Option ValType) (code : Code) (place : ℕ) → e.is_dead ≡ false
     → KindIsReady c e (wasm.Block t code place) → InsideIsReady c e 1 code no_else
@@ -262,9 +263,6 @@ block_ready c e t code place live h =
       typed = r.typed.0;
       typed_else = λ p other e. absurd (no_such p other e);
     }
-  where
-    no_such : (p : ℕ) (other : Code) → no_else ≡ else_code p other → ⊥
-    no_such p other e = cc
 
 pub loop_ready : (c : Context) (e : Emitter) (t : Option ValType) (code : Code) (place : ℕ) → e.is_dead ≡ false
     → KindIsReady c e (wasm.Loop t code place) → InsideIsReady c e 1 code no_else
@@ -281,16 +279,13 @@ loop_ready c e t code place live h =
       typed = r.typed.0;
       typed_else = λ p other e. absurd (no_such p other e);
     }
-  where
-    no_such : (p : ℕ) (other : Code) → no_else ≡ else_code p other → ⊥
-    no_such p other e = cc
 
 -- an `if`, behind its operand
 pub if_ready : (c : Context) (e n : Emitter) (t : Option ValType) (code : Code) (otherwise : Otherwise) (place : ℕ) → e.is_dead ≡ false
     → KindIsReady c e (wasm.If t code otherwise place) → made_by n ≡ popped 1 (made_by e) → InsideIsReady c n 2 code otherwise
 if_ready c e n t code otherwise place live h made =
     let r : KindIsReached c e (wasm.If t code otherwise place) = h.reached live in
-    let parts = no_part (any_in has_wide code) (any_in_else has_wide otherwise) r.numbers in
+    let parts = or_parts (any_in has_wide code) (any_in_else has_wide otherwise) r.numbers in
     let most : suc (suc (labels_in code + labels_in_else otherwise)) + e.labels < 2 ^ 64 = h.labels in
     let now : n.labels ≡ e.labels = ap (λ (m : Made). m.labels) made in
     record {
@@ -339,15 +334,15 @@ body_ready c e result code made h =
     nowhere : (t : ValType) (h : ℕ) → stands t h [] ≡ true → ⊥
     nowhere t h e = cc
 
--- the body of a function of a valid module that has a file
-pub defined_ready : (m : Module) (index : ℕ) (func : FuncEntry) (body : BodyEntry) (ty : FuncType) → IsValid m → IsFormed m
+-- the body of a function of a valid module within the limits
+pub defined_ready : (m : Module) (index : ℕ) (func : FuncEntry) (body : BodyEntry) (ty : FuncType) → IsValid m → WithinLimits m
     → Some func ≡ at_defined m m.funcs index → Some body ≡ at_defined m m.bodies index
     → Some ty ≡ slice_get (map (λ (t : TypeEntry). t.ty) m.types) func.type_index → BodyIsReady (context_of m ty body) body.code
-defined_ready m index func body ty valid formed f b is =
+defined_ready m index func body ty valid within f b is =
     let pair : at_defined m (bodies_of m) index ≡ Some (func, body) = pair_at m m.funcs m.bodies index func body (sym f) (sym b) in
     let at = got_defined m (bodies_of m) index (func, body) pair in
     let body_at = got_defined m m.bodies index body (sym b) in
-    let limits : BodyHasLimits body = all_at BodyHasLimits m.bodies body_at.0 body (within_of m formed).bodies body_at.1 in
+    let limits : BodyHasLimits body = all_at BodyHasLimits m.bodies body_at.0 body (within_of m within).bodies body_at.1 in
     let typed : type_in m func.type_index ≡ Some ty = sym (slice_get-map (λ (t : TypeEntry). t.ty) m.types func.type_index) ∙ sym is in
     let most = limits.labels in
     record {
@@ -365,16 +360,16 @@ defined_ready m index func body ty valid formed f b is =
         go true e = absurd cc
         go false e = (index - imported_funcs m, e)
 
-pub few_params_of : (m : Module) → IsFormed m → HaveFewParams m
-few_params_of m formed = λ t ty is.
-    few_params m t ty (within_of m formed) (sym (slice_get-map (λ (t : TypeEntry). t.ty) m.types t) ∙ sym is)
+pub few_params_of : (m : Module) → WithinLimits m → HaveFewParams m
+few_params_of m within = λ t ty is.
+    few_params m t ty (within_of m within) (sym (slice_get-map (λ (t : TypeEntry). t.ty) m.types t) ∙ sym is)
 
 -- what holds of a module that was checked holds of the same module
 pub valid_alike : (a b c : Module) → a ≡ b → b ≡ c → IsValid a → IsValid c
 valid_alike a b c e f h = subst IsValid (e ∙ f) h
 
-pub formed_alike : (a b c : Module) → a ≡ b → b ≡ c → IsFormed a → IsFormed c
-formed_alike a b c e f h = subst IsFormed (e ∙ f) h
+pub within_alike : (a b c : Module) → a ≡ b → b ≡ c → WithinLimits a → WithinLimits c
+within_alike a b c e f h = subst WithinLimits (e ∙ f) h
 
 pub first_of_rest : (c : Context) (e : Emitter) (items : List Instr) (i : ℕ) (x : Instr) → i < length items → x ≡ get_or items i x
     → CodeIsReady c e (code_tree (drop i items)) → CodeIsReady c e (then_code x.place (kind_tree x.kind) (code_tree (drop (i + 1) items)))

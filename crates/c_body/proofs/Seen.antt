@@ -1,5 +1,20 @@
 -- The memory, the table and the globals of a module as code of its unit sees them: its own by name, imported ones through pointers.
-use Rattle.c_body.proofs.Common.{◌≡◌, ℕ, zero, suc, ◌+◌, ◌<◌, ◌≤◌, Bool, true, false, ◌||◌, List, [], ◌∷◌, ◌++◌, map, length, replicate, is_some, if◌then◌else◌, IsSome, slice_get, Some, None, filter, Option, option_map, flat_map, bytes_eq, sym, refl, ap, ◌∙◌, subst, arith, length-map, none-some, same_Some, slice_get-map, slice_get_within, AllByRecursion, range_with_len, option_or, at_index, if_found, named, with_named, IsNumber, type_of, types_of, ValType, Value, I32, global_of_import, global_space, imported_globals, is_global_import, is_memory_import, is_table_import, memory_of_import, memory_space, table_of_import, table_space, Import, ImportKind, ImportFunc, ImportGlobal, ImportMemory, ImportTable, Module, Context, HasMemory, HasTable, External, GlobalAddress, IndexSpaces, IsGlobal, IsLinked, LinkedSet, NamedModule, Resolves, as_global, as_memory, as_table, global_at, global_type, import_at, imports_of, instances, memory_at, module_at, spaces_of, table_at, put_number, Program, Evaluated, Is, NoRule, Number, Pointer, found, then_evaluate, Next, Step, act, as_object, assign, c_step, depth_name, evaluate_arg, in_unit, next, number_in, place_of, put_in, value_of, with_value, with_vars, first_global, global_name, memory_name, table_name, global_imports, memory_imports, table_imports, IsCallableIfAny, IsMade, MemoryAgrees, PointersAreSet, PointsTo, TableAgrees, Site, StandsAt, state_at, HasLimits, pointer_name, global_value, memory_arg, set_global, table_arg, IsSite, AreServed}
+use Rattle.c_body.proofs.Common.{◌≡◌, ℕ, zero, suc, ◌+◌, ◌<◌, ◌≤◌, Bool, true, false, ◌||◌, List, [], ◌∷◌, ◌++◌, map, length, replicate}
+use Rattle.c_body.proofs.Common.{is_some, if◌then◌else◌, IsSome, slice_get, Some, None, filter, Option, option_map, flat_map, bytes_eq, sym}
+use Rattle.c_body.proofs.Common.{refl, ap, ◌∙◌, subst, arith, length-map, none-some, same_Some, slice_get-map, slice_get_within}
+use Rattle.c_body.proofs.Common.{AllByRecursion, range_with_len, option_or, at_index, if_found, named, with_named, IsNumber, type_of}
+use Rattle.c_body.proofs.Common.{types_of, ValType, Value, I32, global_of_import, global_space, imported_globals, is_global_import}
+use Rattle.c_body.proofs.Common.{is_memory_import, is_table_import, memory_of_import, memory_space, table_of_import, table_space, Import}
+use Rattle.c_body.proofs.Common.{ImportKind, ImportFunc, ImportGlobal, ImportMemory, ImportTable, Module, Context, HasMemory, HasTable}
+use Rattle.c_body.proofs.Common.{External, GlobalAddress, IndexSpaces, IsGlobal, IsLinked, LinkedSet, NamedModule, Resolves, as_global}
+use Rattle.c_body.proofs.Common.{as_memory, as_table, global_at, global_type, import_at, imports_of, instances, memory_at, module_at}
+use Rattle.c_body.proofs.Common.{spaces_of, table_at, put_number, Program, Evaluated, Is, NoRule, Number, Pointer, found, then_evaluate}
+use Rattle.c_body.proofs.Common.{Next, Step, act, as_object, assign, c_step, depth_name, evaluate_arg, in_unit, next, number_in, place_of}
+use Rattle.c_body.proofs.Common.{put_in, value_of, with_value, with_vars, first_global, global_name, memory_name, table_name}
+use Rattle.c_body.proofs.Common.{global_imports, memory_imports, table_imports, IsCallableIfAny, IsMade, MemoryAgrees, PointersAreSet}
+use Rattle.c_body.proofs.Common.{PointsTo, TableAgrees, Site, StandsAt, state_at, HasLimits, pointer_name, global_value, memory_arg}
+use Rattle.c_body.proofs.Common.{set_global, table_arg, IsSite, AreServed, types_many}
+use Rattle.w2c_base.proofs.Places.{get_before, get_replicated}
 use Rattle.wasm_tree.specs.declared.entries.GlobalEntry.{GlobalEntry}
 use Rattle.wasm_meaning.specs.Store as store
 use Rattle.c_tree.specs.Tree as tree
@@ -8,10 +23,10 @@ use Rattle.c_meaning.specs.Machine as machine
 use Rattle.wasm_meaning.specs.Execution.{Calls}
 use Rattle.c_body.proofs.Bounds.{within_of}
 use Rattle.c_body.proofs.Store.{AreFew, global_object, memory_object, table_object, global_seen, memory_seen, table_seen}
-use Rattle.c_body.proofs.Spaces.{looked_up, memory_owner, table_owner, global_owner, module_is, module_named, ResolvesAs, of_kind, memory_count, table_count, global_count}
-use Rattle.c_body.proofs.Lists.{get_behind, get_front, get_none, get_numbered, get_past, get_replicated, filter_few}
+use Rattle.c_body.proofs.Spaces.{looked_up, memory_owner, table_owner, global_owner, module_is, module_named, ResolvesAs, of_kind}
+use Rattle.c_body.proofs.Spaces.{memory_count, table_count, global_count}
+use Rattle.c_body.proofs.Lists.{get_behind, get_none, get_numbered, get_past, filter_few}
 use Rattle.c_body.proofs.Gives.{running}
-use Rattle.c_body.proofs.Operands.{types_length}
 
 -- ---- imports of a kind against what they bring
 
@@ -121,7 +136,7 @@ global_known s p m index ty e linked is = go (slice_get (global_imports m.tree) 
         let within : index < length front = omega (arith, counted, slice_get_within (filter is_global_import m.tree.imports) index i at) in
         let address : global_at s p index ≡ Some g =
         looked_up (λ spaces. spaces.globals) s p m index e
-        ∙ ap entry_of (get_front front owned index within)
+        ∙ ap entry_of (get_before front owned index within)
         ∙ ap entry_of (slice_get-map (λ i. if_found (import_at s p i) as_global) (filter is_global_import m.tree.imports) index)
         ∙ ap (λ found. entry_of (option_map (λ i. if_found (import_at s p i) as_global) found)) at
         ∙ ap (λ found. if_found found as_global) means in
@@ -195,7 +210,7 @@ pub few_globals : (p : Program) (s : LinkedSet) (owner : ℕ) (tree : Module) (o
     → module_at s owner ≡ Some tree → IsMade tree o → AreFew s owner o
 few_globals p s owner tree o served is made =
     let m = module_named s owner tree is in
-    let within : HasLimits tree = subst HasLimits m.2 (within_of _ (served.formed owner m.0 m.1)) in
+    let within : HasLimits tree = subst HasLimits m.2 (within_of _ (served.within owner m.0 m.1)) in
     let first : first_global s owner ≡ imported_globals tree =
     ap (λ (found : Option Module). elim found [ None ↦ 0 | Some m ↦ imported_globals m ]) is in
     let count : length (types_of o.globals) ≡ length (map (λ g. g.ty) tree.globals) = ap length made.globals in
@@ -208,7 +223,7 @@ few_globals p s owner tree o served is made =
       count,
       length-map tree.globals
           (λ g. g.ty),
-      types_length o.globals,
+      types_many o.globals,
     )
 
 global_entry : (s : LinkedSet) (g : GlobalAddress) (ty : ValType × Bool) → global_type s g ≡ Some ty

@@ -1,9 +1,12 @@
 -- The slots of a function: below the greatest height, and set without changing what else its variables hold.
-use Rattle.c_body.proofs.Common.{◌≡◌, ℕ, ◌^◌, ◌<◌, ◌≤◌, max, true, ◌⊎◌, List, [], ◌∷◌, length, Some, None, Option, sym, ◌∙◌, inl, inr, arith, or_cases, with_named, IsNumber, type_of, types_of, ValType, Value, Code, Context, values, VarsAgree, has_slot, most_operands, Site, slot, IsSite, occurs, peak, stands}
+use Rattle.c_body.proofs.Common.{◌≡◌, ℕ, ◌^◌, ◌<◌, ◌≤◌, max, true, ◌⊎◌, List, [], ◌∷◌, length, sym, ◌∙◌, inl, inr, arith, or_cases}
+use Rattle.c_body.proofs.Common.{with_named, IsNumber, type_of, types_of, ValType, Value, Code, Context, values, VarsAgree, has_slot}
+use Rattle.c_body.proofs.Common.{most_operands, Site, slot, IsSite, occurs, peak, stands}
 use Rattle.wasm_meaning.specs.Execution as exec
 use Rattle.c_meaning.specs.State as state
 use Rattle.c_body.proofs.Vars.{push}
 use Rattle.c_body.proofs.Heights.{stands_low, occurs_low}
+use Rattle.c_body.proofs.Peaks.{one_value}
 
 pub slots_are_low : (t : ValType) (c : Context) (code : Code) (height : ℕ) → has_slot t c code height ≡ true → height < most_operands c code
 slots_are_low t c code height e =
@@ -25,11 +28,7 @@ slot_low g room calls site t height e =
     let low : height < max (length (values c.result)) (peak c [] site.entry.code) =
     slots_are_low t c site.entry.code height (sym (site.slots_are t height) ∙ e) in
     let few : peak c [] site.entry.code < 2 ^ 32 = site.within.operands c in
-    omega (arith, low, few, one c.result)
-  where
-    one : (r : Option ValType) → length (values r) ≤ 1
-    one None = omega arith
-    one (Some u) = omega arith
+    omega (arith, low, few, one_value c.result)
 
 -- a value may be put into a slot that the function has
 abbrev pub SlotIsSet : Site → Type 0

@@ -1,10 +1,20 @@
 -- What the indices of a linked set's modules stand for: objects of the module itself or of an earlier one, of the types that
 -- the module's context has.
-use Rattle.c_body.proofs.Common.{◌≡◌, ℕ, zero, suc, ◌+◌, ◌<◌, ◌≤◌, Bool, cond, ◌⊎◌, List, [], ◌∷◌, ◌++◌, map, length, take, replicate, slice_get, Some, None, filter, Option, option_map, find, flat_map, bytes_eq, sym, refl, ap, ◌∙◌, subst, inl, inr, append_assoc, append-nil, arith, length-append, take-append_seam, none-some, same_Some, slice_get_within, AllByRecursion, position_from, range_with_len, option_or, all_append, all_map, at_index, if_found, named, Host, FuncType, func_of_import, global_of_import, imported_funcs, is_func_import, is_global_import, is_memory_import, is_table_import, memory_of_import, table_of_import, Import, ImportKind, ImportFunc, ImportGlobal, ImportMemory, ImportTable, Module, External, GlobalAddress, IndexSpaces, IsGlobal, LinkedSet, NamedModule, as_global, as_memory, as_table, global_at, global_type, import_at, imports_of, instances, memory_at, module_at, spaces_of, table_at, IsCallable, IsFuncOf}
+use Rattle.c_body.proofs.Common.{◌≡◌, ℕ, zero, suc, ◌+◌, ◌<◌, ◌≤◌, Bool, cond, ◌⊎◌, List, [], ◌∷◌, ◌++◌, map, length, take, replicate}
+use Rattle.c_body.proofs.Common.{slice_get, Some, None, filter, Option, option_map, find, flat_map, bytes_eq, sym, refl, ap, ◌∙◌, subst}
+use Rattle.c_body.proofs.Common.{inl, inr, append_assoc, append-nil, arith, length-append, take-append_seam, none-some, same_Some}
+use Rattle.c_body.proofs.Common.{slice_get_within, AllByRecursion, position_from, range_with_len, option_or, all_append, all_map, at_index}
+use Rattle.c_body.proofs.Common.{if_found, named, Host, FuncType, func_of_import, global_of_import, imported_funcs, is_func_import}
+use Rattle.c_body.proofs.Common.{is_global_import, is_memory_import, is_table_import, memory_of_import, table_of_import, Import, ImportKind}
+use Rattle.c_body.proofs.Common.{ImportFunc, ImportGlobal, ImportMemory, ImportTable, Module, External, GlobalAddress, IndexSpaces}
+use Rattle.c_body.proofs.Common.{IsGlobal, LinkedSet, NamedModule, as_global, as_memory, as_table, global_at, global_type, import_at}
+use Rattle.c_body.proofs.Common.{imports_of, instances, memory_at, module_at, spaces_of, table_at, IsCallable, IsFuncOf}
 use Rattle.wasm_tree.specs.declared.entries.Export.{Export}
 use Rattle.wasm_tree.specs.declared.entries.ExportKind.{ExportKind}
-use Rattle.wasm_tree.specs.declared.entries.ExportKind.TheVariants.{Func as ExportFunc, Table as ExportTable, Memory as ExportMemory, Global as ExportGlobal}
-use Rattle.wasm_meaning.specs.LinkedSet.{FuncAddress, ModuleFunc, HostFunc, IsFunc, IsTable, IsMemory, Instance, as_func, exported, offered, export_of, instance_of, instances_behind, func_at, type_at, func_type}
+use Rattle.wasm_tree.specs.declared.entries.ExportKind.TheVariants.{Func as ExportFunc, Table as ExportTable, Memory as ExportMemory}
+use Rattle.wasm_tree.specs.declared.entries.ExportKind.TheVariants.{Global as ExportGlobal}
+use Rattle.wasm_meaning.specs.LinkedSet.{FuncAddress, ModuleFunc, HostFunc, IsFunc, IsTable, IsMemory, Instance, as_func, exported, offered}
+use Rattle.wasm_meaning.specs.LinkedSet.{export_of, instance_of, instances_behind, func_at, type_at, func_type}
 use Rattle.w2c_base.proofs.Places.{get_within}
 use Rattle.c_body.proofs.Lists.{get_behind, all_of, all_replicate, all_range, all_taken, found_has, named_has, one_each}
 
@@ -237,27 +247,19 @@ spaces_fit s p m is first = record {
 
     func : (x : External) → IsEarlier s p x → IfAny (IsCallable s (suc p)) (as_func x)
     func (IsFunc f) h = callable_later s p (suc p) f (omega arith) h
-    func (IsTable owner) h = tt
-    func (IsMemory owner) h = tt
-    func (IsGlobal g) h = tt
+    func _ h = tt
 
     table : (x : External) → IsEarlier s p x → IfAny (λ owner. HasObject s (suc p) owner (λ tree. length tree.tables)) (as_table x)
-    table (IsFunc f) h = tt
     table (IsTable owner) h = object_later s p (suc p) owner (λ tree. length tree.tables) (omega arith) h
-    table (IsMemory owner) h = tt
-    table (IsGlobal g) h = tt
+    table _ h = tt
 
     memory : (x : External) → IsEarlier s p x → IfAny (λ owner. HasObject s (suc p) owner (λ tree. length tree.memories)) (as_memory x)
-    memory (IsFunc f) h = tt
-    memory (IsTable owner) h = tt
     memory (IsMemory owner) h = object_later s p (suc p) owner (λ tree. length tree.memories) (omega arith) h
-    memory (IsGlobal g) h = tt
+    memory _ h = tt
 
     global : (x : External) → IsEarlier s p x → IfAny (λ g. g.owner < suc p) (as_global x)
-    global (IsFunc f) h = tt
-    global (IsTable owner) h = tt
-    global (IsMemory owner) h = tt
     global (IsGlobal g) h = omega (arith, h)
+    global _ h = tt
 
 export_fits : (s : LinkedSet) (p : ℕ) (spaces : IndexSpaces) (e : Export) → SpacesFit s p spaces
     → IfAny (IsEarlier s (suc p)) (export_of spaces e).1
@@ -376,33 +378,25 @@ func_count imports = one_each is_func_import func_of_import (λ i. one i i.kind)
   where
     one : (i : Import) (kind : ImportKind) → length (func_of_import (of_kind i kind)) ≡ cond (is_func_import (of_kind i kind)) 1 0
     one i (ImportFunc t) = refl
-    one i (ImportTable l) = refl
-    one i (ImportMemory l) = refl
-    one i (ImportGlobal t mutable) = refl
+    one i _ = refl
 
 pub table_count : (imports : List Import) → length (filter is_table_import imports) ≡ length (flat_map table_of_import imports)
 table_count imports = one_each is_table_import table_of_import (λ i. one i i.kind) imports
   where
     one : (i : Import) (kind : ImportKind) → length (table_of_import (of_kind i kind)) ≡ cond (is_table_import (of_kind i kind)) 1 0
     one i (ImportFunc t) = refl
-    one i (ImportTable l) = refl
-    one i (ImportMemory l) = refl
-    one i (ImportGlobal t mutable) = refl
+    one i _ = refl
 
 pub memory_count : (imports : List Import) → length (filter is_memory_import imports) ≡ length (flat_map memory_of_import imports)
 memory_count imports = one_each is_memory_import memory_of_import (λ i. one i i.kind) imports
   where
     one : (i : Import) (kind : ImportKind) → length (memory_of_import (of_kind i kind)) ≡ cond (is_memory_import (of_kind i kind)) 1 0
     one i (ImportFunc t) = refl
-    one i (ImportTable l) = refl
-    one i (ImportMemory l) = refl
-    one i (ImportGlobal t mutable) = refl
+    one i _ = refl
 
 pub global_count : (imports : List Import) → length (filter is_global_import imports) ≡ length (flat_map global_of_import imports)
 global_count imports = one_each is_global_import global_of_import (λ i. one i i.kind) imports
   where
     one : (i : Import) (kind : ImportKind) → length (global_of_import (of_kind i kind)) ≡ cond (is_global_import (of_kind i kind)) 1 0
     one i (ImportFunc t) = refl
-    one i (ImportTable l) = refl
-    one i (ImportMemory l) = refl
-    one i (ImportGlobal t mutable) = refl
+    one i _ = refl

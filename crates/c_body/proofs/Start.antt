@@ -1,14 +1,23 @@
 -- The variables of a function at its start: its parameters, its declared locals, which are 0, and then its slots
 -- (C11, 6.9.1 function definitions, 6.7.9 initialisation).
-use Rattle.c_body.proofs.Common.{◌≡◌, ℕ, zero, suc, ◌+◌, ◌^◌, ◌<◌, ◌≤◌, Bool, true, false, cond, List, [], ◌∷◌, ◌++◌, map, length, if◌then◌else◌, IsTrue, Some, None, filter, Option, option_map, bytes_eq, sym, refl, ap, ◌∙◌, subst, inl, inr, append_assoc, arith, length-append, cases_eq, AllByRecursion, range_with_len, all_append, if_found, named, IsNumber, types_of, value, zeros, FuncType, ValType, Value, declared_locals, Code, BodyEntry, Context, context_of, Plain, bytes_differ, bytes_equal, numbers_of_their_types, c_type_of, initial_of, are_of_types, bind, first_vars, locals_of, param_names, param_types, global_name, Located, VarsAgree, element_local, func_of, has_element, has_slot, locals_from, most_operands, params_from, params_of, slots_of, zero_local, BodyHasLimits, element_name, local_name, pointer_name, slot}
+use Rattle.c_body.proofs.Common.{◌≡◌, ℕ, zero, suc, ◌+◌, ◌^◌, ◌<◌, ◌≤◌, Bool, true, false, cond, List, [], ◌∷◌, ◌++◌, map, length}
+use Rattle.c_body.proofs.Common.{if◌then◌else◌, IsTrue, Some, None, filter, Option, option_map, bytes_eq, sym, refl, ap, ◌∙◌, subst, inl}
+use Rattle.c_body.proofs.Common.{inr, append_assoc, arith, length-append, cases_eq, AllByRecursion, range_with_len, all_append, if_found}
+use Rattle.c_body.proofs.Common.{named, IsNumber, types_of, value, zeros, FuncType, ValType, Value, declared_locals, Code, BodyEntry}
+use Rattle.c_body.proofs.Common.{Context, context_of, Plain, bytes_differ, bytes_equal, numbers_of_their_types, c_type_of, initial_of}
+use Rattle.c_body.proofs.Common.{are_of_types, bind, first_vars, locals_of, param_names, param_types, global_name, Located, VarsAgree}
+use Rattle.c_body.proofs.Common.{element_local, func_of, has_element, has_slot, locals_from, most_operands, params_from, params_of}
+use Rattle.c_body.proofs.Common.{slots_of, zero_local, BodyHasLimits, element_name, local_name, pointer_name, slot, type_of-value}
+use Rattle.c_body.proofs.Common.{types_many}
 use Rattle.w2c_base.specs.declared.value.ValType.TheVariants as type
 use Rattle.wasm_meaning.specs.LinkedSet as link
 use Rattle.c_tree.specs.declared.tree.CType.TheVariants as c_type
 use Rattle.c_tree.specs.Tree as tree
 use Rattle.c_meaning.specs.State as state
-use Rattle.c_body.proofs.Names.{local_at_another_place, local_is_no_element, slot_is_no_element, slot_is_no_global, slot_is_no_local, slot_is_no_pointer}
+use Rattle.c_body.proofs.Names.{local_at_another_place, local_is_no_element, slot_is_no_element, slot_is_no_global, slot_is_no_local}
+use Rattle.c_body.proofs.Names.{slot_is_no_pointer}
 use Rattle.c_body.proofs.Slots.{slots_are_low}
-use Rattle.c_body.proofs.Operands.{type_of-value, types_length, zeros_types, zeros_numbers}
+use Rattle.c_body.proofs.Operands.{zeros_types, zeros_numbers}
 use Rattle.c_body.proofs.Own.{func_body}
 
 -- ---- the variables that are made
@@ -135,7 +144,7 @@ first_vars_are m index item ty entry args fit =
     locals_join (locals_from (length ty.params) declared) (slots_of type.I32 c code ++ low) (local_vars (length ty.params) (zeros declared))
     (slots_behind c code) (zero_locals (length ty.params) declared) behind
     in
-    let long : length ty.params ≡ 0 + length args = omega (arith, ap length fit, types_length args) in
+    let long : length ty.params ≡ 0 + length args = omega (arith, ap length fit, types_many args) in
     ap (λ fits. if fits
     then if_found (bind (param_names (params_of ty.params)) (map state.Number args)) (λ params.
     option_map (λ locals. params ++ locals) (locals_of all))
@@ -259,7 +268,7 @@ start_agrees c entry args within few numbers =
     let declared : List ValType = declared_locals entry.runs in
     let locals : List Value = args ++ zeros declared in
     let long : length locals ≡ length args + length declared = length-append args (zeros declared)
-    ∙ ap (λ n. length args + n) (sym (types_length (zeros declared)) ∙ ap length (zeros_types declared)) in
+    ∙ ap (λ n. length args + n) (sym (types_many (zeros declared)) ∙ ap length (zeros_types declared)) in
     record {
       stacked = tt;
       located = located [] 0 locals (slots_behind c entry.code) (omega (arith, long, few, within.locals)) (λ i from to. refl);

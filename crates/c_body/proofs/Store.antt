@@ -1,5 +1,10 @@
 -- A store and a machine that agrees with it, where the objects of one module and those of its unit change alike.
-use Rattle.c_body.proofs.Common.{◌≡◌, ℕ, zero, suc, ◌+◌, ◌^◌, ◌<◌, true, ◌≢◌, List, [], ◌∷◌, length, is_some, slice_get, slice_set, Some, None, Option, sym, refl, ap, ◌∙◌, subst, arith, none-some, same_Some, slice_get_within, AllByRecursion, all_at, if_found, named, with_named, Trail, IsNumber, type_of, Value, Module, GlobalAddress, LinkedSet, named-with_another, named-with_named, Program, GlobalsAlike, first_global, global_name, memory_name, table_name, Agrees, IsCallableIfAny, IsMade, MemoriesAgree, MemoryAgrees, ObjectsAgree, PointersAreSet, StoresAgree, TableAgrees, TablesAgree, Together, pointer_name}
+use Rattle.c_body.proofs.Common.{◌≡◌, ℕ, zero, suc, ◌+◌, ◌^◌, ◌<◌, true, ◌≢◌, List, [], ◌∷◌, length, is_some, slice_get, slice_set, Some}
+use Rattle.c_body.proofs.Common.{None, Option, sym, refl, ap, ◌∙◌, subst, arith, none-some, same_Some, slice_get_within, AllByRecursion}
+use Rattle.c_body.proofs.Common.{all_at, if_found, named, with_named, Trail, IsNumber, type_of, Value, Module, GlobalAddress, LinkedSet}
+use Rattle.c_body.proofs.Common.{named-with_another, named-with_named, Program, GlobalsAlike, first_global, global_name, memory_name}
+use Rattle.c_body.proofs.Common.{table_name, Agrees, IsCallableIfAny, IsMade, MemoriesAgree, MemoryAgrees, ObjectsAgree, PointersAreSet}
+use Rattle.c_body.proofs.Common.{StoresAgree, TableAgrees, TablesAgree, Together, pointer_name}
 use Rattle.wasm_meaning.specs.Store as store
 use Rattle.c_meaning.specs.State as state
 use Rattle.c_meaning.specs.Machine as machine

@@ -1,9 +1,16 @@
 -- The variables of a running function agree with its operands and locals behind an assignment.
-use Rattle.c_body.proofs.Common.{◌≡◌, ℕ, zero, suc, ◌+◌, ◌^◌, ◌<◌, ◌≤◌, Bool, true, false, ◌≢◌, List, [], ◌∷◌, ◌++◌, length, is_some, IsSome, IsTrue, slice_get, slice_set, Some, None, Option, bytes_eq, sym, refl, ap, ◌∙◌, subst, arith, same_Some, slice_get_within, bytes_eq-Decides, equal_type-eq, named, with_named, IsNumber, type_of, types_of, ValType, Value, named-with_another, named-with_named, numbers_of_one_type, of_one_type, global_name, HoldsFunction, HoldsNumber, Located, Stacked, VarsAgree, Site, StandsAt, Together, element_name, local_name, pointer_name, slot}
+use Rattle.c_body.proofs.Common.{◌≡◌, ℕ, zero, suc, ◌+◌, ◌^◌, ◌<◌, ◌≤◌, Bool, true, false, ◌≢◌, List, [], ◌∷◌, ◌++◌, length, is_some}
+use Rattle.c_body.proofs.Common.{IsSome, IsTrue, slice_get, slice_set, Some, None, Option, bytes_eq, sym, refl, ap, ◌∙◌, subst, arith}
+use Rattle.c_body.proofs.Common.{same_Some, slice_get_within, bytes_eq-Decides, equal_type-eq, named, with_named, IsNumber, type_of}
+use Rattle.c_body.proofs.Common.{types_of, ValType, Value, named-with_another, named-with_named, numbers_of_one_type, of_one_type}
+use Rattle.c_body.proofs.Common.{global_name, HoldsFunction, HoldsNumber, Located, Stacked, VarsAgree, Site, StandsAt, Together}
+use Rattle.c_body.proofs.Common.{element_name, local_name, pointer_name, slot}
 use Rattle.wasm_meaning.specs.Store as store
 use Rattle.wasm_meaning.specs.Execution as exec
 use Rattle.c_meaning.specs.State as state
-use Rattle.c_body.proofs.Names.{slot_at_another_height, slot_is_no_local, slot_is_no_element, slot_is_no_global, slot_is_no_pointer, local_at_another_place, local_is_no_element, local_is_no_global, local_is_no_pointer, element_is_no_global, element_is_no_pointer}
+use Rattle.c_body.proofs.Names.{slot_at_another_height, slot_is_no_local, slot_is_no_element, slot_is_no_global, slot_is_no_pointer}
+use Rattle.c_body.proofs.Names.{local_at_another_place, local_is_no_element, local_is_no_global, local_is_no_pointer, element_is_no_global}
+use Rattle.c_body.proofs.Names.{element_is_no_pointer}
 use Rattle.c_body.proofs.Lists.{all_behind, all_set}
 
 -- the height of operands

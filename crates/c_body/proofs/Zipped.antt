@@ -1,5 +1,7 @@
 -- The function with an index, by what is found of it.
-use Rattle.c_body.proofs.Common.{◌≡◌, ℕ, zero, suc, ◌-◌, Bool, true, false, List, [], ◌∷◌, map, if◌then◌else◌, nat_lt, slice_get, Some, None, Option, option_map, zip, unwrap_or, sym, refl, ap, ◌∙◌, slice_get-map, if_found, FuncType, at_defined, imported_funcs, type_in, BodyEntry, FuncEntry, TypeEntry, Module, body_of, func_of, no_func}
+use Rattle.c_body.proofs.Common.{◌≡◌, ℕ, zero, suc, ◌-◌, Bool, true, false, List, [], ◌∷◌, map, if◌then◌else◌, nat_lt, slice_get, Some}
+use Rattle.c_body.proofs.Common.{None, Option, option_map, zip, unwrap_or, sym, refl, ap, ◌∙◌, slice_get-map, if_found, FuncType}
+use Rattle.c_body.proofs.Common.{at_defined, imported_funcs, type_in, BodyEntry, FuncEntry, TypeEntry, Module, body_of, func_of, no_func}
 use Rattle.c_tree.specs.Tree as tree
 
 none_left : {A B : Type 0} (xs : List A) (ys : List B) (i : ℕ) → slice_get xs i ≡ None → slice_get (zip xs ys) i ≡ None

@@ -1,6 +1,7 @@
 -- The static function of a module's function (WebAssembly Core 1.0, 2.5.3 functions and 4.4.7.1
 -- invocation): a test of the depth of calls, the code, and one exit, which counts the depth down.
-use Rattle.std.specs.Prelude.{filter, ℕ, suc, ◌||◌, max, Bool, true, false, if◌then◌else◌, List, [], ◌∷◌, ◌++◌, map, length, Option, Some, None, option_map, unwrap_or}
+use Rattle.std.specs.Prelude.{filter, ℕ, suc, ◌||◌, max, Bool, true, false, if◌then◌else◌, List, [], ◌∷◌, ◌++◌, map, length, Option, Some}
+use Rattle.std.specs.Prelude.{None, option_map, unwrap_or}
 use Rattle.std.specs.List.{range_with_len}
 use Rattle.w2c_base.specs.declared.value.ValType.{ValType}
 use Rattle.w2c_base.specs.declared.value.ValType.TheVariants as type
@@ -13,9 +14,9 @@ use Rattle.wasm_tree.specs.declared.entries.BodyEntry.{BodyEntry}
 use Rattle.wasm_tree.specs.IndexSpaces.{type_in, declared_locals, at_defined}
 use Rattle.wasm_tree.specs.Instructions.{Code, Kind, Return, CallIndirect}
 use Rattle.wasm_meaning.specs.LinkedSet.{NamedModule}
-use Rattle.wasm_valid.specs.Context.{Context, context_of}
-use Rattle.wasm_valid.specs.Typing.{values}
-use Rattle.wasm_valid.specs.Verdict.{bodies_of}
+use Rattle.wasm_typing.specs.Context.{Context, context_of}
+use Rattle.wasm_typing.specs.Typing.{values}
+use Rattle.wasm_typing.specs.Verdict.{bodies_of}
 use Rattle.c_tree.specs.declared.tree.CType.TheVariants as c_type
 use Rattle.c_tree.specs.declared.tree.Num.{Num}
 use Rattle.c_tree.specs.declared.tree.Num.TheVariants.{N32, N64, Plain}
@@ -23,9 +24,9 @@ use Rattle.c_tree.specs.declared.tree.COp.{COp}
 use Rattle.c_tree.specs.declared.tree.COp.TheVariants as op
 use Rattle.c_tree.specs.Tree as tree
 use Rattle.c_tree.specs.Scope.{Name}
-use Rattle.c_meaning.specs.Linking.{c_type_of, c_result_of}
+use Rattle.c_tree.specs.TypesInC.{c_type_of, c_result_of}
 use Rattle.c_meaning.specs.Step.{depth_name}
-use Rattle.c_prelude.specs.Pieces as pieces
+use Rattle.c_tree.specs.Makers as makers
 use Rattle.alike.specs.Alike.{func_name}
 use Rattle.c_body.specs.Names.{slot, local_name, label_name, element_name}
 use Rattle.c_body.specs.Stack.{stands, occurs, peak}
@@ -102,7 +103,7 @@ code_stmts c code = emit c (exit_of c.context.result ∷ []) [] first_label code
 abbrev pub stmts_of : Setting → Code → List tree.Stmt
 stmts_of c code =
     tree.If op.Lt (tree.Name depth_name) (tree.Number (N32 1024)) (label_name entry_label)
-    ∷ pieces.trap trap.Exhaustion
+    ∷ makers.trap trap.Exhaustion
     ∷ give_back c.context.result
     ∷ tree.Label (label_name entry_label)
     ∷ change_depth op.Add

@@ -8,13 +8,14 @@ use Rattle.w2c_base.specs.declared.value.Value.{Value}
 use Rattle.w2c_base.specs.declared.signature.FuncType.{FuncType}
 use Rattle.w2c_base.specs.Values.{types_of, is_result, IsNumber}
 use Rattle.w2c_base.specs.Run.{Trail}
-use Rattle.wasm_valid.specs.Typing.{Stack, values}
+use Rattle.wasm_typing.specs.Typing.{Stack, values}
 use Rattle.wasm_meaning.specs.LinkedSet as link
 use Rattle.wasm_meaning.specs.Store as store
 use Rattle.wasm_meaning.specs.Execution as exec
 use Rattle.c_tree.specs.Tree as tree
+use Rattle.c_tree.specs.TypesInC.{c_result_of}
 use Rattle.c_meaning.specs.State as state
-use Rattle.c_meaning.specs.Linking.{Program, c_result_of}
+use Rattle.c_meaning.specs.Linking.{Program}
 use Rattle.c_meaning.specs.Run.{Pending, Progress, Going, Over, Stopped, over, IsGoing}
 use Rattle.c_meaning.specs.Reaches.{Reaches}
 use Rattle.c_body.specs.Passing.{StandsFor, called, given}

@@ -5,9 +5,9 @@ use Rattle.std.specs.List.{AllByRecursion}
 use Rattle.wasm_tree.specs.declared.tree.Module.{Module}
 use Rattle.wasm_tree.specs.declared.entries.BodyEntry.{BodyEntry}
 use Rattle.wasm_tree.specs.IndexSpaces.{table_space, memory_space, declared_locals}
-use Rattle.wasm_spelling.specs.Bytes.{AreBytes}
-use Rattle.wasm_spelling.specs.Within.{has_wide, IsMaximum}
-use Rattle.wasm_valid.specs.Context.{Context}
+use Rattle.wasm_tree.specs.Bytes.{AreBytes}
+use Rattle.wasm_tree.specs.Within.{has_wide, IsMaximum}
+use Rattle.wasm_typing.specs.Context.{Context}
 use Rattle.c_body.specs.Stack.{peak}
 use Rattle.c_body.specs.Labels.{labels_in, any_in}
 

@@ -4,15 +4,16 @@ use Rattle.std.specs.Prelude.{◌≡◌, ℕ, suc, ◌<◌, ◌≤◌, ◌+◌, 
 use Rattle.w2c_base.specs.declared.signature.FuncType.{FuncType}
 use Rattle.w2c_base.specs.Lookup.{at_index}
 use Rattle.wasm_tree.specs.declared.tree.Module.{Module}
-use Rattle.wasm_tree.specs.Instructions.{Code, Kind, Otherwise, else_code, Drop, Select, Block, Loop, If, Br, BrIf, BrTable, Call, CallIndirect, LocalGet, LocalSet, LocalTee, GlobalGet, GlobalSet, Unreachable, Return}
+use Rattle.wasm_tree.specs.Instructions.{Code, Kind, Otherwise, else_code, Drop, Select, Block, Loop, If, Br, BrIf, BrTable, Call}
+use Rattle.wasm_tree.specs.Instructions.{CallIndirect, LocalGet, LocalSet, LocalTee, GlobalGet, GlobalSet, Unreachable, Return}
 use Rattle.wasm_tree.specs.InstructionTable.{Typing, of_types, by_rule}
-use Rattle.wasm_valid.specs.Context.{Context, Labels}
-use Rattle.wasm_valid.specs.Typing.{Stack, HasType, KindHasType, BodyHasType, table_type}
+use Rattle.wasm_typing.specs.Context.{Context, Labels}
+use Rattle.wasm_typing.specs.Typing.{Stack, HasType, KindHasType, BodyHasType, table_type}
 use Rattle.std.specs.Prelude.{slice_get}
 use Rattle.c_body.specs.declared.stack.Operands.{Operands}
 use Rattle.c_body.specs.declared.emitter.Emitter.{Emitter}
 use Rattle.c_body.specs.Labels.{labels_in, labels_in_else, labels_of, any_in, any_in_else, any_inside}
-use Rattle.wasm_spelling.specs.Within.{has_wide}
+use Rattle.wasm_tree.specs.Within.{has_wide}
 use Rattle.c_body.specs.Marks.{Covered}
 use Rattle.c_body.specs.Shown.{types_of}
 

@@ -3,7 +3,7 @@ ghost use Rattle.std.specs.Prelude.{◌≡◌, ◌<◌, ◌-◌, ◌^◌, ◌++�
 ghost use Rattle.std.specs.Option.{option_copied};
 ghost use Rattle.w2c_base.specs.Lookup.{if_found};
 ghost use Rattle.wasm_tree.specs.IndexSpaces.{declared_locals, at_defined, type_in};
-ghost use Rattle.wasm_valid.specs.Context.{context_of};
+ghost use Rattle.wasm_typing.specs.Context.{context_of};
 ghost use Rattle.c_tree.specs.View.{body_of as body_seen, func_of as func_seen};
 ghost use Rattle.w2c_base.specs.declared.value.ValType.TheVariants as type;
 ghost use Rattle.c_body.specs.Around.{named_of, setting_of};
@@ -17,12 +17,11 @@ use crate::emitter::Emitter;
 use crate::index_spaces::IndexSpaces;
 use crate::mark::Mark;
 use crate::naming::func_name;
-use c_symbols::c_result;
-use c_tree::{Body, CType, Func, Locals, Name, Params, Stmts};
+use c_tree::{Body, CType, Func, Locals, Name, Params, Stmts, c_result};
 use std::alloc::Global;
 use w2c_base::{FuncType, Memory, ValType};
 use wasm_tree::{BodyEntry, Code, FuncEntry, Run};
-use wasm_valid::ValidModule;
+use wasm_typing::ValidModule;
 
 // Locals of one type.
 fn put_run(types: &mut Vec<ValType>, run: Run) -> Result<(), Memory>

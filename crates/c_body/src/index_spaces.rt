@@ -6,7 +6,7 @@ ghost use Rattle.wasm_tree.specs.IndexSpaces.{func_space, global_space, type_in,
 ghost use Rattle.alike.specs.Alike.{global_name as global_name_of};
 ghost use Rattle.c_tree.specs.Tree as tree_read;
 ghost use Rattle.c_tree.specs.View.{arg_of, expr_of, stmt_of};
-ghost use Rattle.c_body.specs.Names.{pointer_name};
+ghost use Rattle.c_body.specs.Names.{pointer_name as pointer_name_of};
 ghost use Rattle.c_body.specs.Objects as objects;
 ghost use Rattle.c_body.specs.Plain.{operand};
 ghost use Rattle.c_symbols.specs.Symbols.{global_imports, memory_imports, table_imports, func_imports};
@@ -15,15 +15,14 @@ ghost use Rattle.c_symbols.specs.Reached.{usable_symbol};
 ghost use Rattle.c_symbols.specs.Named.{named_of as symbols_of};
 ghost use Rattle.c_symbols.specs.Usable.{AreReached};
 
-use crate::naming::{func_name, global_name, global_pointer, slot};
+use crate::naming::{func_name, global_name, pointer_to_global, slot};
 use crate::pieces::set_to_operand;
-use c_prelude::name_of;
-use c_symbols::{Reached, Symbols};
-use c_tree::{Arg, Expr, Name, Stmt};
+use c_symbols::{MEMORY_NAME, Reached, Symbols, TABLE_NAME, pointer_name};
+use c_tree::{Arg, Expr, Name, Stmt, copy_name, name_of};
 use std::alloc::Global;
 use w2c_base::{FuncType, Memory, ValType};
 use wasm_tree::Module;
-use wasm_valid::ValidModule;
+use wasm_typing::ValidModule;
 
 /// The index spaces of a module under its name, and how its functions, globals, memory and table are
 /// reached, so that nothing is searched for at an instruction.
@@ -44,20 +43,11 @@ pub struct IndexSpaces<'a> {
     ghost globals_are: { reached.globals.items ≡ map (usable_symbol (record { name = name.now; tree = tree.now })) (global_imports tree.now) },
 }
 
-fn copied(alloc: Global, name: &Option<Name>) -> Result<Option<Name>, Memory>
-    ensures { IfOk result (λ out. out ≡ name.now) }
-{
-    match name {
-        None => Ok(None),
-        Some(name) => Ok(Some(name.copy(alloc)?)),
-    }
-}
-
 // An assignment of the operand at a height to an imported global.
 fn set_imported(alloc: Global, index: u32, ty: ValType, height: usize) -> Result<Stmt, Memory>
-    ensures { IfOk result (λ s. stmt_of s ≡ tree_read.SetStar (pointer_name (global_name_of index)) (operand ty height)) }
+    ensures { IfOk result (λ s. stmt_of s ≡ tree_read.SetStar (pointer_name_of (global_name_of index)) (operand ty height)) }
 {
-    let target = global_pointer(alloc, index)?;
+    let target = pointer_to_global(alloc, index as usize)?;
     let value = slot(alloc, ty, height)?;
     Ok(Stmt::SetStar(target, Expr::Name(value)))
 }
@@ -137,7 +127,7 @@ impl<'a> IndexSpaces<'a> {
     {
         match self.reached.funcs.get(index as usize) {
             None => Ok(Some(func_name(alloc, index)?)),
-            Some(name) => copied(alloc, name),
+            Some(name) => copy_name(alloc, name),
         }
     }
 
@@ -160,9 +150,9 @@ impl<'a> IndexSpaces<'a> {
         ensures { IfOk result (λ a. arg_of a ≡ objects.memory_arg self.now.tree.now) }
     {
         if self.imports_memory() {
-            Ok(Arg::Value(Expr::Name(name_of(alloc, b"pm0")?)))
+            Ok(Arg::Value(Expr::Name(pointer_name(alloc, MEMORY_NAME)?)))
         } else {
-            Ok(Arg::Address(name_of(alloc, b"m0")?))
+            Ok(Arg::Address(name_of(alloc, MEMORY_NAME)?))
         }
     }
 
@@ -171,9 +161,9 @@ impl<'a> IndexSpaces<'a> {
         ensures { IfOk result (λ a. arg_of a ≡ objects.table_arg self.now.tree.now) }
     {
         if self.imports_table() {
-            Ok(Arg::Value(Expr::Name(name_of(alloc, b"pt0")?)))
+            Ok(Arg::Value(Expr::Name(pointer_name(alloc, TABLE_NAME)?)))
         } else {
-            Ok(Arg::Address(name_of(alloc, b"t0")?))
+            Ok(Arg::Address(name_of(alloc, TABLE_NAME)?))
         }
     }
 
@@ -189,9 +179,9 @@ impl<'a> IndexSpaces<'a> {
         ensures { IfOk result (λ e. expr_of e ≡ objects.global_value self.now.tree.now index) }
     {
         if self.is_imported_global(index) {
-            Ok(Expr::Star(global_pointer(alloc, index)?))
+            Ok(Expr::Star(pointer_to_global(alloc, index as usize)?))
         } else {
-            Ok(Expr::Name(global_name(alloc, index)?))
+            Ok(Expr::Name(global_name(alloc, index as usize)?))
         }
     }
 
@@ -208,7 +198,7 @@ impl<'a> IndexSpaces<'a> {
         if self.is_imported_global(index) {
             set_imported(alloc, index, ty, height)
         } else {
-            set_to_operand(alloc, global_name(alloc, index)?, ty, height)
+            set_to_operand(alloc, global_name(alloc, index as usize)?, ty, height)
         }
     }
 }

@@ -1,5 +1,6 @@
 -- Numbers without two equal ones, from the end on.
-use Rattle.c_check.proofs.Common.{◌≡◌, ℕ, zero, suc, ◌+◌, Bool, true, false, cond, not, ◌&&◌, ◌||◌, List, [], ◌∷◌, drop, ◌==◌, slice_get, Some, nat_cmp, is_eq, BTreeSet, sym, refl, ap, ◌∙◌, is_at, contains, list_any, are_distinct_numbers}
+use Rattle.c_check.proofs.Common.{◌≡◌, ℕ, zero, suc, ◌+◌, Bool, true, false, cond, not, ◌&&◌, ◌||◌, List, [], ◌∷◌, drop, ◌==◌, slice_get}
+use Rattle.c_check.proofs.Common.{Some, nat_cmp, is_eq, BTreeSet, sym, refl, ap, ◌∙◌, is_at, contains, list_any, are_distinct_numbers}
 use Rattle.std.specs.Cmp.{unsigned_tied}
 use Rattle.w2c_base.proofs.Places.{drop_front}
 

@@ -1,4 +1,6 @@
+-- What the crate's own proofs cite.
 mod Common
-pub mod Behind
-pub mod DistinctNumbers
-pub mod Sets
+mod Behind
+mod DistinctNumbers
+mod Labels
+mod Sets

@@ -14,7 +14,6 @@ ghost use Rattle.c_scope.specs.Tables.{Knows};
 ghost use Rattle.c_rules.specs.UnitNames.{FindsFirst, by_names, defined_of, none_clash};
 ghost use Rattle.c_check.specs.Places.{item_place};
 
-use crate::names::{has_body, name_of};
 use c_rules::same_type;
 use c_scope::FileScope;
 use c_tree::{CType, Func, Item, Name};
@@ -51,7 +50,7 @@ pub fn enter_first<'a>(
     ensures { OnOk result ((q : List ℕ) → option_map (λ (i : Bor Item). item_of i.now) (named q first.new)
         ≡ option_or (option_map (λ (i : Bor Item). item_of i.now) (named q first.old)) (named q (by_names (item_of item.now ∷ [])))) }
 {
-    first.enter(alloc, name_of(item), item)
+    first.enter(alloc, item.name(), item)
 }
 
 /// Whether an item may stand behind those that are declared.
@@ -61,9 +60,9 @@ pub fn is_declared_once(file: &FileScope, earlier: &Earlier, item: &Item) -> boo
     requires kept { none_clash (declared file.now) ≡ true }
     ensures { result ≡ is_declared_once (item_place file.now item.now) }
 {
-    let name = name_of(item);
-    match earlier.first.find(name) {
-        Some(first) => may_both_stand(first, item, earlier.defined.has(name)),
+    let own = item.name();
+    match earlier.first.find(own) {
+        Some(first) => may_both_stand(first, item, earlier.defined.has(own)),
         None => true,
     }
 }
@@ -72,7 +71,7 @@ pub fn is_declared_once(file: &FileScope, earlier: &Earlier, item: &Item) -> boo
 fn may_both_stand(first: &Item, item: &Item, is_defined: bool) -> bool
     ensures { result ≡ (are_alike (item_of first.now) (item_of item.now) && not (is_defined && has_body (item_of item.now))) }
 {
-    are_alike(first, item) && !(is_defined && has_body(item))
+    are_alike(first, item) && !(is_defined && item.has_body())
 }
 
 /// Whether both declare a function of one type and one linkage.

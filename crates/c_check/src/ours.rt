@@ -8,9 +8,9 @@ ghost use Rattle.c_scope.specs.Tables.{Knows};
 ghost use Rattle.c_rules.specs.UnitNames.{names_of};
 ghost use Rattle.c_check.specs.Places.{alone, item_place};
 
-use crate::shapes::{file_name_is_free, is_own_name, proper_params};
+use crate::shapes::{file_name_is_free, proper_params};
 use c_scope::{FileScope, Variable, own_variables};
-use c_tree::{CType, Func, Item, Name};
+use c_tree::{CType, Func, Item, Name, is_own_name};
 use name_table::{NameTable, Salted};
 use std::alloc::Global;
 use w2c_base::Memory;

@@ -5,10 +5,9 @@ ghost use Rattle.c_tree.specs.View.{item_of, func_of};
 ghost use Rattle.c_rules.specs.FirstRule.{first_in_stmts, first_in_body, first_in_items};
 ghost use Rattle.c_scope.specs.ScopeOf.{scope_of};
 ghost use Rattle.c_check.specs.Broken.{broken_at};
-ghost use Rattle.c_rules.specs.FirstRule.{func_in};
 
 use crate::items::item_rule;
-use crate::names::{label_name, label_names, put};
+use crate::names::{label_names, put};
 use crate::progress::Progress;
 use crate::statements::stmt_rule;
 use c_scope::{FileScope, Scope, own_table, own_variables};
@@ -43,7 +42,7 @@ fn broken_in_statements(alloc: Global, s: &Scope, item: usize) -> Result<Option<
                     rule,
                 }));
             }
-            None => put(alloc, &mut earlier, label_name(stmt))?,
+            None => put(alloc, &mut earlier, stmt.label())?,
         }
     }
     Ok(None)
@@ -59,19 +58,9 @@ fn broken_in_item_body(
     requires { file.now.count ≡ i + 1 }
     ensures { IfOk result (λ r. option_map broken_at r ≡ first_in_body (map item_of file.now.items.now) i (item_of item.now)) }
 {
-    match function_of(item) {
+    match item.function() {
         Some(f) => broken_in_function(alloc, file, i, f),
         None => Ok(None),
-    }
-}
-
-/// The function that an item declares.
-fn function_of(item: &Item) -> Option<&Func>
-    ensures { option_map (λ f. func_of f.now) result ≡ func_in (item_of item.now) }
-{
-    match item {
-        Item::Func(f) => Some(f),
-        Item::Array(_, _, _) | Item::Var(_, _, _) => None,
     }
 }
 

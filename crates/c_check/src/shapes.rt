@@ -3,25 +3,12 @@
 ghost use Rattle.std.specs.Prelude.{◌≡◌, ◌&&◌, nat_le, length, true, false, bytes_eq, codes};
 ghost use Rattle.std.specs.List.{list_all};
 ghost use Rattle.c_tree.specs.View.{item_of, stmt_of, maybe_body_of, callee_of};
-ghost use Rattle.c_tree.specs.Rules.{is_symbol, is_own_name, file_name_is_free, is_value_type, is_result_type, proper_params, proper_types, locals_have_values, types_are_proper, written_type_is_proper, number_suits, locals_suit, first_values_suit, body_is_not_empty, ends_body, if_any, label_is_free};
+ghost use Rattle.c_tree.specs.Rules.{is_own_name, file_name_is_free, is_value_type, is_result_type, proper_params, proper_types, locals_have_values, types_are_proper, written_type_is_proper, number_suits, locals_suit, first_values_suit, body_is_not_empty, ends_body, if_any, label_is_free};
 ghost use Rattle.c_tree.specs.Tree as tree;
 ghost use Rattle.c_check.specs.Places.{alone, stmt_alone};
 
-use c_tree::{Body, CType, Callee, Func, Item, Name, Num, Stmt};
+use c_tree::{Body, CType, Callee, Func, Item, Name, Num, Primitive, Stmt, is_own_name, is_symbol};
 use c_types::{Typed, is_result_type, is_value_type, is_void, proper_types};
-
-/// Whether a name is not reserved for the runtime or for other units.
-pub fn is_own_name(name: &[u8]) -> bool
-    ensures { result ≡ is_own_name name.now }
-{
-    !name.starts_with(b"w2c_") && !is_symbol(name)
-}
-
-fn is_symbol(name: &[u8]) -> bool
-    ensures { result ≡ is_symbol name.now }
-{
-    name.starts_with(b"w2cZ_")
-}
 
 /// Whether the name of an item is not reserved for something else.
 pub fn file_name_is_free(item: &Item) -> bool
@@ -221,25 +208,18 @@ fn is_trap(callee: &Callee) -> bool
     ensures { result ≡ elim (callee_of callee.now) [ tree.Called name ↦ bytes_eq name (codes "w2c_trap") | tree.Through t name ↦ false ] }
 {
     match callee {
-        Callee::Named(name) => name.as_slice() == b"w2c_trap".as_slice(),
+        Callee::Named(name) => name.as_slice() == Primitive::Trap.name(),
         Callee::Through(_, _) => false,
     }
 }
 
 /// Whether the label that a statement is has a name of the unit's own.
+#[tactic(auto, using(crate::proofs::Labels::free_by_label))]
 pub fn label_is_free(stmt: &Stmt) -> bool
     ensures { result ≡ label_is_free (stmt_alone stmt.now) }
 {
-    match stmt {
-        Stmt::Label(name) => is_own_name(name.as_slice()),
-        Stmt::Null
-        | Stmt::Set(_, _)
-        | Stmt::SetStar(_, _)
-        | Stmt::Call(_, _, _)
-        | Stmt::Goto(_)
-        | Stmt::If(_, _, _, _)
-        | Stmt::Switch(_, _, _)
-        | Stmt::ReturnNone
-        | Stmt::Return(_) => true,
+    match stmt.label() {
+        Some(name) => is_own_name(name),
+        None => true,
     }
 }

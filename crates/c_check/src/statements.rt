@@ -10,7 +10,6 @@ ghost use Rattle.c_rules.specs.FirstRule.{stmt_breaks};
 ghost use Rattle.c_check.specs.Places.{stmt_place};
 
 use crate::cases::cases_are_distinct;
-use crate::names::label_name;
 use crate::shapes::{ends_body, label_is_free, written_type_is_proper};
 use c_scope::Scope;
 use c_tree::{Name, Num, Stmt};
@@ -62,7 +61,7 @@ fn named_labels_are_there(labels: &NameTable<()>, stmt: &Stmt) -> bool
 fn label_is_new(earlier: &NameTable<()>, stmt: &Stmt) -> bool
     ensures { result ≡ if_any (label_of (stmt_of stmt.now)) (λ n. not (is_some (named n earlier.now))) }
 {
-    match label_name(stmt) {
+    match stmt.label() {
         Some(name) => !earlier.has(name),
         None => true,
     }

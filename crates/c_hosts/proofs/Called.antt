@@ -1,5 +1,6 @@
 -- The host that a call names.
-use Rattle.c_hosts.proofs.Common.{◌≡◌, List, IfSome, slice_get, slice_index_or, Some, None, Option, MatchOption, unwrap_or, sym, refl, ap, ◌∙◌, subst, unwrap_or-slice_get, if_found, HostCall, offered, HostFunction, HostModule}
+use Rattle.c_hosts.proofs.Common.{◌≡◌, List, IfSome, slice_get, slice_index_or, Some, None, Option, MatchOption, unwrap_or, sym, refl, ap}
+use Rattle.c_hosts.proofs.Common.{◌∙◌, subst, unwrap_or-slice_get, if_found, HostCall, offered, HostFunction, HostModule}
 
 module _ {H : Type 0} (m : HostModule H) (hosts : List H) (call : HostCall) (f : HostFunction) (r : H)
     (found : offered m hosts call ≡ Some f) (at : r ≡ slice_index_or hosts call.host r) where

@@ -1,15 +1,17 @@
 -- What proofs of this crate cite of std, of the crates below and of specs/, passed on from one place. Declares nothing.
-pub use Rattle.std.proofs.Common.{◌≡◌, ℕ, suc, ◌+◌, ◌-◌, ◌<◌, ◌≤◌, Bool, true, false, ◌&&◌, List, [], ◌∷◌, ◌++◌, map, length, get_or, drop, is_some, IfSome, if◌then◌else◌, slice_get, slice_index_or, slice_set, Some, None, Option, MatchOption, option_map, bytes_eq, unwrap_or, sym, refl, ap, ◌∙◌, subst, ap₂, append_assoc, append-nil, arith, length-append}
+pub use Rattle.std.proofs.Common.{◌≡◌, ℕ, ◌+◌, ◌-◌, ◌<◌, ◌≤◌, Bool, true, false, List, [], ◌∷◌, ◌++◌, map, length, get_or, is_some, IfSome}
+pub use Rattle.std.proofs.Common.{if◌then◌else◌, slice_get, slice_index_or, slice_set, Some, None, Option, MatchOption, option_map}
+pub use Rattle.std.proofs.Common.{bytes_eq, unwrap_or, sym, refl, ap, ◌∙◌, subst, append_assoc, append-nil, arith, length-append}
 pub use Rattle.std.proofs.Math.Seq.{get_or-append_seam, map-set_same, set-append_seam}
 pub use Rattle.std.proofs.lemmas.Option.{slice_get-map, unwrap_or-slice_get}
 pub use Rattle.w2c_base.specs.Lookup.{if_found, named, with_named}
 pub use Rattle.w2c_base.specs.Run.{Event, Gave, Reply}
-pub use Rattle.w2c_base.specs.Values.{equal_type, equal_types, is_result, type_of, types_of}
+pub use Rattle.w2c_base.specs.Values.{equal_types, is_result, types_of}
 pub use Rattle.w2c_base.specs.declared.signature.FuncType.{FuncType}
 pub use Rattle.w2c_base.specs.declared.value.Value.{Value}
 pub use Rattle.c_meaning.specs.Linking.{Program, host_type}
 pub use Rattle.c_meaning.specs.State.{State, Stuck}
-pub use Rattle.c_meaning.specs.Step.{Back, Next, Step, Stops, assign, assign_depth, c_step, depth_name, give, in_unit, next, put_in, replied, with_vars}
+pub use Rattle.c_meaning.specs.Step.{Step, Stops, assign, assign_depth, c_step, depth_name, give, in_unit, next, put_in, replied, with_vars}
 pub use Rattle.c_objects.specs.Stores.{AreStored}
 pub use Rattle.c_objects.specs.Views.{Naming}
 pub use Rattle.c_thread.specs.Linked.{below_in, host_asked, machine_in, state_in, step_in, waiting_in}

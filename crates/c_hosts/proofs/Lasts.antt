@@ -1,5 +1,6 @@
 -- The last item of a list, which is replaced.
-use Rattle.c_hosts.proofs.Common.{◌≡◌, ℕ, ◌+◌, ◌-◌, List, [], ◌∷◌, ◌++◌, length, slice_index_or, slice_set, ap, ◌∙◌, arith, length-append, get_or-append_seam, set-append_seam}
+use Rattle.c_hosts.proofs.Common.{◌≡◌, ℕ, ◌+◌, ◌-◌, List, [], ◌∷◌, ◌++◌, length, slice_index_or, slice_set, ap, ◌∙◌, arith, length-append}
+use Rattle.c_hosts.proofs.Common.{get_or-append_seam, set-append_seam}
 
 module _ {A : Type 0} (items front : List A) (a : A) (n : ℕ) (are : items ≡ front ++ a ∷ []) (count : n ≡ length items) where
   place : n - 1 ≡ length front

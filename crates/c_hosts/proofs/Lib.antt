@@ -1,7 +1,8 @@
+-- What crates above cite.
+pub mod Offers
+pub mod Runs
+-- What the crate's own proofs cite.
 mod Common
-pub mod Arguments
 mod Called
 mod Lasts
-pub mod Offers
 mod Replies
-pub mod Runs

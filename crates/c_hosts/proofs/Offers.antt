@@ -1,5 +1,8 @@
 -- What hosts offer, and that answers change nothing of it.
-use Rattle.c_hosts.proofs.Common.{◌≡◌, ℕ, List, [], ◌∷◌, ◌++◌, map, get_or, slice_get, Some, None, Option, option_map, unwrap_or, sym, refl, ap, ◌∙◌, subst, append_assoc, map-set_same, slice_get-map, unwrap_or-slice_get, if_found, FuncType, Program, host_type, HostCall, Answered, Answers, function_of, host_of, hosts_of, offered, Asks, HostFunction, HostModule, Asked}
+use Rattle.c_hosts.proofs.Common.{◌≡◌, ℕ, List, [], ◌∷◌, ◌++◌, map, get_or, slice_get, Some, None, Option, option_map, unwrap_or, sym, refl}
+use Rattle.c_hosts.proofs.Common.{ap, ◌∙◌, subst, append_assoc, map-set_same, slice_get-map, unwrap_or-slice_get, if_found, FuncType}
+use Rattle.c_hosts.proofs.Common.{Program, host_type, HostCall, Answered, Answers, function_of, host_of, hosts_of, offered, Asks}
+use Rattle.c_hosts.proofs.Common.{HostFunction, HostModule, Asked}
 use Rattle.w2c_base.specs.Run as run
 
 module _ {H : Type 0} (m : HostModule H) where

@@ -1,10 +1,14 @@
 -- The reply of a host, and what a statement that asks one comes to.
-use Rattle.c_hosts.proofs.Common.{◌≡◌, Bool, true, false, List, [], ◌∷◌, ◌++◌, is_some, if◌then◌else◌, Some, None, Option, option_map, bytes_eq, sym, refl, ap, ◌∙◌, subst, named, with_named, Event, Gave, Reply, equal_types, is_result, types_of, FuncType, Value, Program, host_type, Stuck, Back, Next, Step, Stops, assign, assign_depth, depth_name, give, in_unit, next, put_in, replied, with_vars, Naming, below_in, host_asked, machine_in, step_in, waiting_in, HostCall, LinkedThread, IsOffered, hosts_of, offered, settled_in, HostFunction, HostModule}
+use Rattle.c_hosts.proofs.Common.{◌≡◌, Bool, true, false, List, [], ◌∷◌, ◌++◌, is_some, if◌then◌else◌, Some, None, Option, option_map}
+use Rattle.c_hosts.proofs.Common.{bytes_eq, sym, refl, ap, ◌∙◌, subst, named, with_named, Event, Gave, Reply, equal_types, is_result}
+use Rattle.c_hosts.proofs.Common.{types_of, FuncType, Value, Program, host_type, Stuck, Step, Stops, assign, assign_depth, depth_name, give}
+use Rattle.c_hosts.proofs.Common.{in_unit, next, put_in, replied, with_vars, Naming, below_in, host_asked, machine_in, step_in, waiting_in}
+use Rattle.c_hosts.proofs.Common.{HostCall, LinkedThread, IsOffered, hosts_of, offered, settled_in, HostFunction, HostModule}
 use Rattle.std.specs.Prelude.{⊤}
 use Rattle.w2c_base.specs.declared.value.Value.TheVariants.{I32, I64}
 use Rattle.w2c_base.specs.Run as run
 use Rattle.w2c_base.specs.Run.{Ask, Trail, asked}
-use Rattle.c_meaning.specs.State.{Name, CValue, Number, Pointer, FuncPointer, Machine, Running, Frame as Waiting, Asks, of_one_type}
+use Rattle.c_meaning.specs.State.{Name, CValue, Number, Machine, Running, Frame as Waiting, Asks, of_one_type}
 use Rattle.c_meaning.specs.Machine.{var_in, with_trail, with_var}
 use Rattle.c_thread.specs.declared.linked.LinkedStep.{LinkedStep}
 use Rattle.c_thread.specs.declared.linked.LinkedStep.TheVariants as step
@@ -26,8 +30,7 @@ put_goes_on m (Some held) v does on = go (of_one_type held v)
 depth_goes_on : (m : Machine) (r : Running) (v : CValue) (below : List Waiting) → GoesOn (assign_depth m r v below)
 depth_goes_on m r (Number (I32 n)) below = tt
 depth_goes_on m r (Number (I64 n)) below = tt
-depth_goes_on m r (Pointer to) below = tt
-depth_goes_on m r (FuncPointer to) below = tt
+depth_goes_on m r _ below = tt
 
 assign_goes_on : (m : Machine) (r : Running) (name : Name) (v : CValue) (below : List Waiting) → GoesOn (assign m r name v below)
 assign_goes_on m r name v below = go (bytes_eq name depth_name) (is_some (named name r.vars))
@@ -134,19 +137,11 @@ pub settles : (names : Naming) (p : Program) (told : List Event) (a : Ask) (r : 
     (t : LinkedThread)
     → ((replies : List Reply) → GoesOn (step_in names p (asked told a r replies) o t))
     → settled_in names p (asked told a r later) o t ≡ step_in names p (asked told a r later) o t
-settles names p told a r later step.Next t on = refl
-settles names p told a r later (step.Back value) t on = refl
-settles names p told a r later (step.Trapped kind) t on = refl
-settles names p told a r later (step.Undefined kind) t on = refl
-settles names p told a r later step.Stuck t on = refl
 settles names p told a r later (step.Asks call) t on =
     no_second names p told a r later call t (host_type p call.host call.function) (on [])
+settles names p told a r later _ t on = refl
 
 pub asks_nothing : (names : Naming) (p : Program) (trail : Trail) (o : LinkedStep) (t : LinkedThread)
     → ((call : HostCall) → o ≡ step.Asks call → ⊥) → settled_in names p trail o t ≡ step_in names p trail o t
-asks_nothing names p trail step.Next t not = refl
-asks_nothing names p trail (step.Back value) t not = refl
-asks_nothing names p trail (step.Trapped kind) t not = refl
-asks_nothing names p trail (step.Undefined kind) t not = refl
-asks_nothing names p trail step.Stuck t not = refl
 asks_nothing names p trail (step.Asks call) t not = absurd (not call refl)
+asks_nothing names p trail _ t not = refl

@@ -1,5 +1,8 @@
 -- One statement more of a run with hosts.
-use Rattle.c_hosts.proofs.Common.{◌≡◌, ℕ, ◌+◌, ◌-◌, ◌<◌, ◌≤◌, List, [], ◌∷◌, ◌++◌, None, Option, sym, refl, ap, ◌∙◌, append_assoc, append-nil, arith, Event, Reply, Program, State, Step, c_step, AreStored, Naming, state_in, LinkedThread, hosts_of, event_in, events_in, replies_in, reply_in, IsThread, Runs, RunsPart, step_at, trail_before, trail_behind, HostModule, Asked}
+use Rattle.c_hosts.proofs.Common.{◌≡◌, ℕ, ◌+◌, ◌-◌, ◌<◌, ◌≤◌, List, [], ◌∷◌, ◌++◌, None, Option, sym, refl, ap, ◌∙◌, append_assoc}
+use Rattle.c_hosts.proofs.Common.{append-nil, arith, Event, Reply, Program, State, Step, c_step, AreStored, Naming, state_in, LinkedThread}
+use Rattle.c_hosts.proofs.Common.{hosts_of, event_in, events_in, replies_in, reply_in, IsThread, Runs, RunsPart, step_at, trail_before}
+use Rattle.c_hosts.proofs.Common.{trail_behind, HostModule, Asked}
 use Rattle.std.proofs.lemmas.List.{map-append}
 use Rattle.c_meaning.specs.Run.{Going, Pending, Progress, after, go_on}
 use Rattle.c_meaning.proofs.Longer.{after_sum}

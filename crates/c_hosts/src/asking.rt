@@ -1,6 +1,6 @@
 // Hosts that are asked.
 ghost use Rattle.std.specs.Prelude.{◌≡◌, ◌∷◌, ◌++◌, [], MatchOption, OnErr, IfOk, true, false};
-ghost use Rattle.w2c_base.specs.Values.{equal_type, equal_types, type_of, types_of};
+ghost use Rattle.w2c_base.specs.Values.{equal_types, types_of};
 ghost use Rattle.c_hosts.specs.declared.host.HostFunction.{HostFunction as Function};
 ghost use Rattle.c_hosts.specs.Asking.{Answers, IsOffered};
 ghost use Rattle.c_hosts.specs.Hosts.{IsReply};
@@ -10,7 +10,7 @@ use crate::host::{HostFunction, HostModule};
 use crate::journal::Journal;
 use c_meaning::HostReply;
 use c_thread::HostCall;
-use w2c_base::{Memory, ValType, Value};
+use w2c_base::{Memory, Value, are_of_types};
 
 /// Hosts in order, and what they were asked and replied.
 #[derive(Drop)]
@@ -60,28 +60,4 @@ fn takes(function: &HostFunction, args: &[Value]) -> bool
     ensures { result ≡ equal_types function.now.ty.params (types_of args.now) }
 {
     are_of_types(function.ty.params.as_slice(), args)
-}
-
-// Whether values have these types, one for each.
-fn are_of_types(types: &[ValType], values: &[Value]) -> bool
-    ensures { result ≡ equal_types types.now (types_of values.now) }
-{
-    if types.len() != values.len() {
-        return false;
-    }
-    for i in 0..types.len() {
-        if !has_type(types[i], values[i]) {
-            return false;
-        }
-    }
-    true
-}
-
-fn has_type(ty: ValType, value: Value) -> bool
-    ensures { result ≡ equal_type ty (type_of value) }
-{
-    match value {
-        Value::I32(_) => ty == ValType::I32,
-        Value::I64(_) => ty == ValType::I64,
-    }
 }

@@ -1,5 +1,6 @@
 -- The number that digits write.
-use Rattle.c_lex.proofs.Common.{◌≡◌, ℕ, ◌+◌, ◌-◌, ◌*◌, ◌<◌, ◌≤◌, List, [], ◌∷◌, length, get_or, drop, refl, add-one, arith, drop-cons, value_of}
+use Rattle.c_lex.proofs.Common.{◌≡◌, ℕ, ◌+◌, ◌-◌, ◌*◌, ◌<◌, ◌≤◌, List, [], ◌∷◌, length, get_or, drop, refl, add-one, arith, drop-cons}
+use Rattle.c_lex.proofs.Common.{value_of}
 
 pub value_grows : (n : ℕ) (ds : List ℕ) → n ≤ value_of n ds
 value_grows n [] = omega arith

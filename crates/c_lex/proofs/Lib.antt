@@ -1,5 +1,6 @@
+-- What the crate's own proofs cite.
 mod Common
-pub mod Runs
-pub mod Scanned
-pub mod Digits
-pub mod Words
+mod Runs
+mod Scanned
+mod Digits
+mod Words

@@ -1,5 +1,9 @@
 -- The bytes in front that pass a test.
-use Rattle.c_lex.proofs.Common.{◌≡◌, ℕ, suc, ◌+◌, ◌-◌, ◌<◌, ◌≤◌, Bool, true, false, cond, not, ◌&&◌, List, [], ◌∷◌, ◌++◌, length, get_or, take, drop, ◌==◌, slice_index, Some, None, Option, option_map, sym, refl, ap, ◌∙◌, append_assoc, append-nil, add-one, arith, length-drop, length-take-le, drop-cons, list_all, Begins, are_digits, comment_end, comment_front, front, is_blank, is_comment_byte, is_digit, is_letter, is_word_byte, longer, one_sign, past, run, run_token, sign_front, two_sign, word_token, Token}
+use Rattle.c_lex.proofs.Common.{◌≡◌, ℕ, suc, ◌+◌, ◌-◌, ◌<◌, ◌≤◌, Bool, true, false, cond, not, ◌&&◌, List, [], ◌∷◌, ◌++◌, length, get_or}
+use Rattle.c_lex.proofs.Common.{take, drop, ◌==◌, slice_index, Some, None, Option, option_map, sym, refl, ap, ◌∙◌, append_assoc, append-nil}
+use Rattle.c_lex.proofs.Common.{add-one, arith, length-drop, length-take-le, drop-cons, list_all, Begins, are_digits, comment_end}
+use Rattle.c_lex.proofs.Common.{comment_front, front, is_blank, is_comment_byte, is_digit, is_letter, is_word_byte, longer, one_sign, past}
+use Rattle.c_lex.proofs.Common.{run, run_token, sign_front, two_sign, word_token, Token}
 use Rattle.std.proofs.lemmas.List.{take_more, drop_all}
 
 pub run_more : (p : ℕ → Bool) (xs : List ℕ) (i : ℕ) → i < length xs → p (get_or xs i 0) ≡ true → take i xs ++ run p (drop i xs) ≡ run p xs

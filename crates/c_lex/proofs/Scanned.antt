@@ -1,5 +1,6 @@
 -- The tokens of a text, from its front.
-use Rattle.c_lex.proofs.Common.{◌≡◌, ℕ, zero, suc, ◌+◌, ◌<◌, ◌≤◌, List, [], ◌∷◌, length, drop, slice_index, refl, ap, ◌∙◌, add-one, arith, Begins, Gap, and_then, front, lexeme, lexemes, Fixed, Named, Number, Token, Wrong}
+use Rattle.c_lex.proofs.Common.{◌≡◌, ℕ, zero, suc, ◌+◌, ◌<◌, ◌≤◌, List, [], ◌∷◌, length, drop, slice_index, refl, ap, ◌∙◌, add-one, arith}
+use Rattle.c_lex.proofs.Common.{Begins, Gap, and_then, front, lexeme, lexemes, Fixed, Named, Number, Token, Wrong}
 use Rattle.c_tree.specs.declared.token.Tok.TheVariants as tok
 use Rattle.c_lex.specs.Cursor.{seen}
 

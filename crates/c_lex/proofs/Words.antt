@@ -1,5 +1,6 @@
 -- A key word or a sign by the first token with its text.
-use Rattle.c_lex.proofs.Common.{◌≡◌, ℕ, Bool, true, false, cond, List, [], ◌∷◌, Some, Option, bytes_eq, refl, ap, ◌∙◌, list_any, key_word_among, key_words, other_words, sign_among, word_token, Fixed, fixed_text, among, sign_of, word_of}
+use Rattle.c_lex.proofs.Common.{◌≡◌, ℕ, Bool, true, false, cond, List, [], ◌∷◌, Some, Option, bytes_eq, refl, ap, ◌∙◌, list_any}
+use Rattle.c_lex.proofs.Common.{key_word_among, key_words, other_words, sign_among, word_token, Fixed, fixed_text, among, sign_of, word_of}
 use Rattle.c_tree.specs.declared.token.Tok.{Tok}
 
 pub sign_is : (ts : List Tok) (text : List ℕ) → sign_of (among ts text) ≡ sign_among ts text

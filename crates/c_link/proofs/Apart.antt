@@ -1,5 +1,10 @@
 -- What linked units and hosts define is defined once.
-use Rattle.c_link.proofs.Common.{◌≡◌, ℕ, ◌+◌, Bool, true, false, ◌&&◌, List, [], ◌∷◌, ◌++◌, map, length, take, is_some, if◌then◌else◌, slice_get, Some, None, filter, Option, option_map, zip, flat_map, filter_map, bytes_eq, sym, refl, ap, ◌∙◌, bytes_eq-Decides, cons_option, range_with_len, option_or, if_found, named, numbered, named-append, or_none, Name, type_of_func, CType, Definition, LinkRefusal, defined_for_all, definition_of, external_functions, first, is_external, twice, type_found, signature_of, Offered, host_offer, host_offers, offers, unit_offers, unit_type_of, first_twice}
+use Rattle.c_link.proofs.Common.{◌≡◌, ℕ, ◌+◌, Bool, true, false, ◌&&◌, List, [], ◌∷◌, ◌++◌, map, length, take, is_some, if◌then◌else◌}
+use Rattle.c_link.proofs.Common.{slice_get, Some, None, filter, Option, option_map, zip, flat_map, filter_map, bytes_eq, sym, refl, ap, ◌∙◌}
+use Rattle.c_link.proofs.Common.{bytes_eq-Decides, cons_option, range_with_len, option_or, if_found, named, numbered, named-append, or_none}
+use Rattle.c_link.proofs.Common.{Name, type_of_func, CType, Definition, LinkRefusal, defined_for_all, definition_of, external_functions}
+use Rattle.c_link.proofs.Common.{first, is_external, twice, type_found, signature_of, Offered, host_offer, host_offers, offers, unit_offers}
+use Rattle.c_link.proofs.Common.{unit_type_of, first_twice}
 use Rattle.std.proofs.lemmas.Bool.{both_ways}
 use Rattle.c_tree.specs.Tree as tree
 use Rattle.c_meaning.specs.Linking as linking

@@ -1,5 +1,6 @@
 -- Which arguments fit the parameters of a function.
-use Rattle.c_link.proofs.Common.{◌≡◌, ℕ, suc, ◌+◌, ◌<◌, ◌≤◌, Bool, true, false, ◌&&◌, List, [], ◌∷◌, map, length, drop, refl, ap, ◌∙◌, arith, type_of, types_of, Value, same_type, same_types, CType, c_params_of, c_type_of}
+use Rattle.c_link.proofs.Common.{◌≡◌, ℕ, suc, ◌+◌, ◌<◌, ◌≤◌, Bool, true, false, ◌&&◌, List, [], ◌∷◌, map, length, drop, refl, ap, ◌∙◌}
+use Rattle.c_link.proofs.Common.{arith, type_of, types_of, Value, same_type, same_types, CType, c_params_of, c_type_of}
 use Rattle.c_tree.specs.declared.tree.CType.TheVariants.{Void}
 
 -- ---- types of arguments

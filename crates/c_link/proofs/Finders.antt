@@ -1,5 +1,7 @@
 -- What a table of hosts and units finds, the meaning of C finds.
-use Rattle.c_link.proofs.Common.{◌≡◌, ℕ, ◌&&◌, List, [], ◌∷◌, take, is_some, if◌then◌else◌, None, Option, flat_map, sym, ap, ◌∙◌, option_or, named, Name, LinkRefusal, Twice, external_functions, first, first_refusal, twice, type_found, Holds, offers, told, first_twice, first_unresolved, types_in, Offer}
+use Rattle.c_link.proofs.Common.{◌≡◌, ℕ, ◌&&◌, List, [], ◌∷◌, take, is_some, if◌then◌else◌, None, Option, flat_map, sym, ap, ◌∙◌, option_or}
+use Rattle.c_link.proofs.Common.{named, Name, LinkRefusal, Twice, external_functions, first, first_refusal, twice, type_found, Holds}
+use Rattle.c_link.proofs.Common.{offers, told, first_twice, first_unresolved, types_in, Offer}
 use Rattle.c_tree.specs.Tree as tree
 use Rattle.c_link.proofs.Apart.{found_same, found_some, some_typed, typed}
 use Rattle.c_link.proofs.FirstRefusal.{twice_in}

@@ -1,5 +1,7 @@
 -- The first refusal of units, unit by unit and item by item.
-use Rattle.c_link.proofs.Common.{◌≡◌, ℕ, Bool, true, false, List, [], ◌∷◌, take, if◌then◌else◌, Some, None, Option, flat_map, refl, ap, ◌∙◌, cons_option, option_or, first-append, if_found, numbered, Name, LinkRefusal, external_functions, first, twice, type_found, unresolved, first_twice, first_unresolved, in_item}
+use Rattle.c_link.proofs.Common.{◌≡◌, ℕ, Bool, true, false, List, [], ◌∷◌, take, if◌then◌else◌, Some, None, Option, flat_map, refl, ap, ◌∙◌}
+use Rattle.c_link.proofs.Common.{cons_option, option_or, first-append, if_found, numbered, Name, LinkRefusal, external_functions, first}
+use Rattle.c_link.proofs.Common.{twice, type_found, unresolved, first_twice, first_unresolved, in_item}
 use Rattle.c_tree.specs.Tree as tree
 use Rattle.c_link.proofs.Walks.{first_of}
 

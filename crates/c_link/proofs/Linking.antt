@@ -1,5 +1,7 @@
 -- What the two passes say of the units, where they come to their end and where they stop.
-use Rattle.c_link.proofs.Common.{◌≡◌, List, map, None, sym, refl, ap, ◌∙◌, subst, Name, unit_of, Item, Program, first_refusal, link_refusal, symbols_of, Holds, c_symbols, offers, AllChecked, IsProgramOf, IsRefusal, first_twice, first_unresolved, types_in, HostSymbol, Offer}
+use Rattle.c_link.proofs.Common.{◌≡◌, List, map, None, sym, refl, ap, ◌∙◌, subst, Name, unit_of, Item, Program, first_refusal, link_refusal}
+use Rattle.c_link.proofs.Common.{symbols_of, Holds, c_symbols, offers, AllChecked, IsProgramOf, IsRefusal, first_twice, first_unresolved}
+use Rattle.c_link.proofs.Common.{types_in, HostSymbol, Offer}
 use Rattle.c_tree.specs.Tree as tree
 use Rattle.c_link.specs.declared.refusal.LinkRefusal.{LinkRefusal}
 use Rattle.c_link.proofs.Walks.{refused}

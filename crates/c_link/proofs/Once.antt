@@ -1,7 +1,15 @@
 -- Linked units define each symbol once, with the declared type.
-use Rattle.c_link.proofs.Common.{◌≡◌, ℕ, zero, suc, ◌+◌, ◌<◌, ◌≤◌, Bool, true, false, not, ◌&&◌, ◌||◌, List, [], ◌∷◌, ◌++◌, map, length, take, is_some, if◌then◌else◌, slice_get, Some, None, Option, zip, bytes_eq, sym, refl, ap, ◌∙◌, arith, take_all, map-append, bytes_eq-Decides, list_all, range_with_len, left_holds, right_holds, numbered_at, if_found, named, numbered, among-append, are_distinct, same_func_type, Name, is_among, type_of_func, CType, none_clash, stands_behind, LinkRefusal, NotDefined, TypeDiffers, first, first_refusal, type_found, unresolved, Offered, c_symbols, host_offer, host_offers, offers, unit_offers, AllChecked, first_twice, in_item, HostSymbol}
+use Rattle.c_link.proofs.Common.{◌≡◌, ℕ, zero, suc, ◌+◌, ◌<◌, ◌≤◌, Bool, true, false, not, ◌&&◌, ◌||◌, List, [], ◌∷◌, ◌++◌, map, length}
+use Rattle.c_link.proofs.Common.{take, is_some, if◌then◌else◌, slice_get, Some, None, Option, zip, bytes_eq, sym, refl, ap, ◌∙◌, arith}
+use Rattle.c_link.proofs.Common.{take_all, map-append, list_all, range_with_len, left_holds, right_holds, numbered_at, if_found, named}
+use Rattle.c_link.proofs.Common.{numbered, among-append, are_distinct, same_func_type, Name, is_among, type_of_func, CType, none_clash}
+use Rattle.c_link.proofs.Common.{stands_behind, LinkRefusal, NotDefined, TypeDiffers, first, first_refusal, type_found, unresolved, Offered}
+use Rattle.c_link.proofs.Common.{c_symbols, host_offer, host_offers, offers, unit_offers, AllChecked, first_twice, in_item, HostSymbol}
+use Rattle.c_link.proofs.Common.{append-nil}
+use Rattle.std.proofs.lemmas.Bool.{and_from, not-true, or_right}
+use Rattle.w2c_base.proofs.Tests.{bytes_eq-sym}
 use Rattle.c_tree.specs.Tree as tree
-use Rattle.name_table.proofs.NameTables.{either_way}
+use Rattle.c_meaning.proofs.Lookups.{bytes_equal}
 use Rattle.c_link.specs.Resolved.{AreDefinedOnce, AreResolved, IsResolved, symbol_names}
 use Rattle.c_link.proofs.Apart.{both_none, found_same, found_some, offer_of, says_from, typed, unit_apart}
 use Rattle.c_link.proofs.FirstRefusal.{in_items, twice_in, twice_units, unresolved_in, unresolved_units}
@@ -16,44 +24,26 @@ names entries = map (λ (e : Name × Offered). e.0) entries
 
 among_named : (q : Name) (entries : List (Name × Offered)) → is_among q (names entries) ≡ is_some (named q entries)
 among_named q [] = refl
-among_named q (e ∷ entries) = ap (λ b. b || is_among q (names entries)) (either_way q e.0) ∙ go (bytes_eq e.0 q) (among_named q entries)
+among_named q (e ∷ entries) = ap (λ b. b || is_among q (names entries)) (bytes_eq-sym q e.0) ∙ go (bytes_eq e.0 q) (among_named q entries)
   where
     go : (b : Bool) → is_among q (names entries) ≡ is_some (named q entries)
         → (b || is_among q (names entries)) ≡ is_some (if b then Some e.1 else named q entries)
     go true h = refl
     go false h = h
 
-both : (a b : Bool) → a ≡ true → b ≡ true → (a && b) ≡ true
-both true b e f = f
-both false b e f = cc
-
 or_false : (a b : Bool) → a ≡ false → b ≡ false → (a || b) ≡ false
 or_false false b e f = f
 or_false true b e f = cc
-
-not_true : (a : Bool) → not a ≡ true → a ≡ false
-not_true false e = refl
-not_true true e = cc
-
-same_self : (q : Name) → bytes_eq q q ≡ true
-same_self q = (bytes_eq-Decides q q).1 refl
 
 -- names of two lists, none of which is in both
 distinct_append : (xs ys : List Name) → are_distinct xs ≡ true → are_distinct ys ≡ true
     → ((q : Name) → is_among q xs ≡ true → is_among q ys ≡ false) → are_distinct (xs ++ ys) ≡ true
 distinct_append [] ys e f apart = f
 distinct_append (x ∷ xs) ys e f apart =
-    both (not (is_among x (xs ++ ys))) (are_distinct (xs ++ ys))
+    and_from (not (is_among x (xs ++ ys))) (are_distinct (xs ++ ys))
     (ap not (among-append x xs ys ∙ or_false (is_among x xs) (is_among x ys)
-    (not_true (is_among x xs) (left_holds (not (is_among x xs)) _ e)) (apart x (ap (λ b. b || is_among x xs) (same_self x)))))
-    (distinct_append xs ys (right_holds (not (is_among x xs)) _ e) f (λ q there. apart q (among_behind q there)))
-  where
-    among_behind : (q : Name) → is_among q xs ≡ true → (bytes_eq q x || is_among q xs) ≡ true
-    among_behind q there = go (bytes_eq q x) (is_among q xs) there
-      where
-        go : (a b : Bool) → b ≡ true → (a || b) ≡ true
-        go true b h = refl
-        go false b h = h
+    (not-true (is_among x xs) (left_holds (not (is_among x xs)) _ e)) (apart x (ap (λ b. b || is_among x xs) (bytes_equal x)))))
+    (distinct_append xs ys (right_holds (not (is_among x xs)) _ e) f (λ q there. apart q (or_right (bytes_eq q x) (is_among q xs) there)))
 
 -- ---- one unit
 
@@ -71,7 +61,7 @@ function_once u k items true result name params None all e = e
 function_once u k items false result name params None all e = e
 function_once u k items true result name params (Some body) all e = e
 function_once u k items false result name params (Some body) all e =
-    both (not (is_among name (names (unit_offers (u, items))))) (are_distinct (names (unit_offers (u, items))))
+    and_from (not (is_among name (names (unit_offers (u, items))))) (are_distinct (names (unit_offers (u, items))))
     (ap not (among_named name (unit_offers (u, items))
     ∙ ap is_some (says_from u k name items ∙ ap (offer_of u)
     (none_under name (record
@@ -105,11 +95,7 @@ module _ (units : List (List tree.Item)) (hosts : List HostSymbol) (none : first
     (keep : AllChecked units) (distinct : are_distinct (symbol_names hosts) ≡ true) where
   once_front : (i : ℕ) → i ≤ length units → are_distinct (names (offers (take i units) (c_symbols hosts))) ≡ true
   once_front zero le = ap are_distinct (map-append (λ (e : Name × Offered). e.0) (host_offers (c_symbols hosts)) [])
-      ∙ ap (λ ns. are_distinct (ns ++ [])) (host_names 0 hosts) ∙ ap are_distinct (nothing_behind (symbol_names hosts)) ∙ distinct
-    where
-      nothing_behind : (ns : List Name) → ns ++ [] ≡ ns
-      nothing_behind [] = refl
-      nothing_behind (n ∷ ns) = ap (λ ms. n ∷ ms) (nothing_behind ns)
+      ∙ ap (λ ns. are_distinct (ns ++ [])) (host_names 0 hosts) ∙ ap are_distinct (append-nil (symbol_names hosts)) ∙ distinct
   once_front (suc i) le =
       let less : i < length units = omega arith in
       let next : suc i ≡ i + 1 = omega arith in

@@ -1,16 +1,17 @@
 -- The names of the functions that a unit defines.
-use Rattle.c_link.proofs.Common.{◌≡◌, ℕ, zero, suc, ◌+◌, ◌<◌, ◌≤◌, Bool, true, false, ◌&&◌, ◌||◌, List, [], ◌∷◌, ◌++◌, map, length, get_or, take, is_some, if◌then◌else◌, slice_get, Some, None, filter, Option, option_map, bytes_eq, sym, refl, ap, ◌∙◌, subst, arith, take_all, length-map, slice_get-get_or, list_any, option_or, take_next, if_found, named, defines, Name, unit_of, CType, Item, Definition, Program, defined, external_func, func_named, UnitFunc, HaveOwn, Knows, IsProgramOf, address_in, HostSymbol, Owner}
+use Rattle.c_link.proofs.Common.{◌≡◌, ℕ, zero, suc, ◌+◌, ◌<◌, ◌≤◌, Bool, true, false, ◌&&◌, ◌||◌, List, [], ◌∷◌, ◌++◌, map, length, get_or}
+use Rattle.c_link.proofs.Common.{take, is_some, if◌then◌else◌, slice_get, Some, None, filter, Option, option_map, bytes_eq, sym, refl, ap}
+use Rattle.c_link.proofs.Common.{◌∙◌, subst, arith, take_all, length-map, slice_get-get_or, list_any, option_or, take_next, if_found, named}
+use Rattle.c_link.proofs.Common.{defines, Name, unit_of, CType, Item, Definition, Program, defined, external_func, func_named, UnitFunc}
+use Rattle.c_link.proofs.Common.{HaveOwn, Knows, IsProgramOf, address_in, HostSymbol, Owner, beside}
+use Rattle.std.proofs.Math.Bool.{or-false}
 use Rattle.c_tree.specs.Tree as tree
 use Rattle.c_link.specs.declared.offers.Owner.TheVariants as owner
 use Rattle.c_link.proofs.Apart.{definitions_from}
 use Rattle.c_link.proofs.Rules.{first_defined}
 
 any_push : {A : Type 0} (p : A → Bool) (xs : List A) (x : A) → list_any p (xs ++ x ∷ []) ≡ (list_any p xs || p x)
-any_push p [] x = go (p x)
-  where
-    go : (b : Bool) → (b || false) ≡ b
-    go true = refl
-    go false = refl
+any_push p [] x = or-false (p x)
 any_push p (y ∷ xs) x = go (p y) (any_push p xs x)
   where
     go : (b : Bool) → list_any p (xs ++ x ∷ []) ≡ (list_any p xs || p x) → (b || list_any p (xs ++ x ∷ [])) ≡
@@ -130,14 +131,6 @@ other_named p u items q at own =
         → external_func p q ≡ option_or (option_map (λ (d : Definition). UnitFunc u q) d) (external_func p q)
     go None e = refl
     go (Some d) e = cc
-
--- what stands beside an item of another list
-beside : {A B : Type 0} (xs : List A) (ys : List B) (i : ℕ) (x : A) → length xs ≡ length ys → slice_get xs i ≡ Some x → (y : B)
-    × (slice_get ys i ≡ Some y)
-beside [] ys i x many at = absurd cc
-beside (a ∷ xs) [] i x many at = absurd (omega arith)
-beside (a ∷ xs) (y ∷ ys) zero x many at = (y, refl)
-beside (a ∷ xs) (y ∷ ys) (suc i) x many at = beside xs ys i x (omega arith) at
 
 module _ {A : Type 0} (units : List (List Item)) (hosts : List HostSymbol) (own : List (List (Name × A)))
     (known : HaveOwn own (map unit_of units)) (now : List (List Item) × List HostSymbol) (is : (units, hosts) ≡ now)

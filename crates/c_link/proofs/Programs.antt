@@ -1,5 +1,9 @@
 -- What linked units and hosts define is what symbols stand for in the meaning of C.
-use Rattle.c_link.proofs.Common.{◌≡◌, ℕ, suc, ◌+◌, Bool, true, false, cond, List, [], ◌∷◌, map, length, is_some, if◌then◌else◌, slice_get, Some, None, filter, Option, option_map, zip, flat_map, bytes_eq, sym, refl, ap, ◌∙◌, arith, position_from, range_with_len, option_or, if_found, named, numbered, named-append, or_none, Name, Definition, Program, SymbolCall, defined_for_all, fits, symbols_of, FuncAddress, UnitFunc, signature_of, takes, takes_if_any, Offered, host_offer, host_offers, owner_of, unit_offers, address_in, first_twice}
+use Rattle.c_link.proofs.Common.{◌≡◌, ℕ, suc, ◌+◌, Bool, true, false, cond, List, [], ◌∷◌, map, length, is_some, if◌then◌else◌, slice_get}
+use Rattle.c_link.proofs.Common.{Some, None, filter, Option, option_map, zip, flat_map, bytes_eq, sym, refl, ap, ◌∙◌, arith, position_from}
+use Rattle.c_link.proofs.Common.{range_with_len, option_or, if_found, named, numbered, named-append, or_none, Name, Definition, Program}
+use Rattle.c_link.proofs.Common.{SymbolCall, defined_for_all, fits, symbols_of, FuncAddress, UnitFunc, signature_of, takes, takes_if_any}
+use Rattle.c_link.proofs.Common.{Offered, host_offer, host_offers, owner_of, unit_offers, address_in, first_twice}
 use Rattle.c_tree.specs.Tree as tree
 use Rattle.c_meaning.specs.Linking as linking
 use Rattle.c_meaning.proofs.Links.{defines_it, signature_stands, symbol_pair}

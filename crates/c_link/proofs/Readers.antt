@@ -1,5 +1,8 @@
 -- What the readers of linked units say, by what their table holds.
-use Rattle.c_link.proofs.Common.{◌≡◌, Bool, List, map, None, Option, option_map, sym, ap, ◌∙◌, subst, if_found, named, Value, Name, unit_of, Item, Program, external_func, first_refusal, fits, symbols_of, signature_of, takes_if_any, Holds, Offered, c_symbols, offers, owner_of, told, unit_type_of, AllChecked, IsProgramOf, address_in, first_twice, HostSymbol, Offer, Owner}
+use Rattle.c_link.proofs.Common.{◌≡◌, Bool, List, map, None, Option, option_map, sym, ap, ◌∙◌, subst, if_found, named, Value, Name, unit_of}
+use Rattle.c_link.proofs.Common.{Item, Program, external_func, first_refusal, fits, symbols_of, signature_of, takes_if_any, Holds, Offered}
+use Rattle.c_link.proofs.Common.{c_symbols, offers, owner_of, told, unit_type_of, AllChecked, IsProgramOf, address_in, first_twice}
+use Rattle.c_link.proofs.Common.{HostSymbol, Offer, Owner}
 use Rattle.c_tree.specs.Tree as tree
 use Rattle.c_link.proofs.Apart.{both_none, signed}
 use Rattle.c_link.proofs.Programs.{fits_says, owned}

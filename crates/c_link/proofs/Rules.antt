@@ -1,25 +1,24 @@
 -- In a unit that keeps the rules each function is defined once.
-use Rattle.c_link.proofs.Common.{◌≡◌, ℕ, zero, suc, ◌+◌, ◌<◌, ◌≤◌, Bool, true, false, not, ◌&&◌, ◌||◌, List, [], ◌∷◌, ◌++◌, length, take, is_some, if◌then◌else◌, slice_get, Some, None, filter, Option, bytes_eq, sym, refl, ap, ◌∙◌, subst, arith, take_all, bytes_eq-Decides, list_all, left_holds, right_holds, numbered_at, take_next, numbered, are_alike, item_rules, Name, CType, none_clash, stands_behind, Definition, AllChecked, IsChecked}
+use Rattle.c_link.proofs.Common.{◌≡◌, ℕ, zero, suc, ◌+◌, ◌<◌, ◌≤◌, Bool, true, false, not, ◌&&◌, ◌||◌, List, [], ◌∷◌, ◌++◌, length, take}
+use Rattle.c_link.proofs.Common.{is_some, if◌then◌else◌, slice_get, Some, None, filter, Option, bytes_eq, sym, refl, ap, ◌∙◌, subst, arith}
+use Rattle.c_link.proofs.Common.{take_all, bytes_eq-Decides, list_all, left_holds, right_holds, numbered_at, take_next, numbered, are_alike}
+use Rattle.c_link.proofs.Common.{item_rules, Name, CType, none_clash, stands_behind, Definition, AllChecked, IsChecked}
 use Rattle.c_tree.specs.Tree as tree
 use Rattle.c_tree.specs.FirstBroken.{BrokenAt, KeepsRules, broken_of, broken_in_item, broken_in_body}
 use Rattle.c_rules.specs.FirstRule.{item_breaks}
 use Rattle.c_rules.proofs.Clashes.{none_clash_more}
 use Rattle.c_rules.proofs.FirstOf.{first_broken_of}
 use Rattle.c_rules.proofs.Onward.{declared_once}
-use Rattle.w2c_base.proofs.Nothing.{map_none, none_at, append_none}
+use Rattle.w2c_base.proofs.Nothing.{map_none, none_at, append_none, none_first}
 use Rattle.c_link.proofs.Apart.{seen_under, definitions_from, first_under}
 
 -- ---- no items clash
-
-first_none : {A : Type 0} (xs : List A) → slice_get xs 0 ≡ None → xs ≡ []
-first_none [] e = refl
-first_none (x ∷ xs) e = cc
 
 breaks_none : (items : List tree.Item) (i : ℕ) (item : tree.Item) → KeepsRules items → slice_get items i ≡ Some item
     → item_breaks (record { unit = items; number = i; item = item }) ≡ None
 unfolding item_breaks
 breaks_none items i item keeps at =
-    let none = none_at (broken_in_item items) (numbered items) i (i, item) (first_none _ keeps) (numbered_at items i item at) in
+    let none = none_at (broken_in_item items) (numbered items) i (i, item) (none_first _ keeps) (numbered_at items i item at) in
     let rules = map_none (λ (rule : ℕ). the_at i rule) (broken_of item_rules (record { unit = items; number = i; item = item }))
     (append_none _ (broken_in_body items i item) none).0 in
     sym (first_broken_of item_rules (record { unit = items; number = i; item = item })) ∙ ap (λ rs. slice_get rs 0) rules

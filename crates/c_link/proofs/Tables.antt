@@ -1,5 +1,9 @@
 -- A table of what is defined, as it grows.
-use Rattle.c_link.proofs.Common.{◌≡◌, ℕ, ◌+◌, ◌<◌, ◌≤◌, Bool, true, false, List, [], ◌∷◌, ◌++◌, length, take, if◌then◌else◌, slice_get, Some, None, Option, flat_map, filter_map, bytes_eq, sym, refl, ap, ◌∙◌, subst, append_assoc, arith, length-take-le, take_all, option_or, numbered_push, or_assoc, take_next, named, numbered, named-append, or_none, Name, Holds, Offered, host_offers, item_offer, offered_by, offers, told, unit_offers, Offer, Owner}
+use Rattle.c_link.proofs.Common.{◌≡◌, ℕ, ◌+◌, ◌<◌, ◌≤◌, Bool, true, false, List, [], ◌∷◌, ◌++◌, length, take, if◌then◌else◌, slice_get}
+use Rattle.c_link.proofs.Common.{Some, None, Option, flat_map, filter_map, bytes_eq, sym, refl, ap, ◌∙◌, subst, append_assoc, arith}
+use Rattle.c_link.proofs.Common.{length-take-le, take_all, option_or, numbered_push, or_assoc, take_next, named, numbered, named-append}
+use Rattle.c_link.proofs.Common.{or_none, Name, Holds, Offered, host_offers, item_offer, offered_by, offers, told, unit_offers, Offer}
+use Rattle.c_link.proofs.Common.{Owner, append-nil}
 use Rattle.std.proofs.lemmas.List.Elements.{filter_map-append}
 use Rattle.std.proofs.lemmas.Grind.{flat_map-append}
 use Rattle.c_tree.specs.Tree as tree
@@ -52,10 +56,6 @@ item_added number items i item at =
 
 -- ---- one unit more
 
-none_behind : {A : Type 0} (xs : List A) → xs ++ [] ≡ xs
-none_behind [] = refl
-none_behind (x ∷ xs) = ap (λ ys. x ∷ ys) (none_behind xs)
-
 module _ (units : List (List tree.Item)) (symbols : List (Name × tree.FuncType)) (i : ℕ) where
   pub all_taken : length units ≤ i → offers (take i units) symbols ≡ offers units symbols
   all_taken past = ap (λ us. offers us symbols) (take_all i units past)
@@ -69,7 +69,7 @@ module _ (units : List (List tree.Item)) (symbols : List (Name × tree.FuncType)
       ∙ ap (λ us. host_offers symbols ++ flat_map unit_offers us)
       (numbered_push front unit ∙ ap (λ n. numbered front ++ (n, unit) ∷ []) many)
       ∙ ap (λ es. host_offers symbols ++ es) (flat_map-append unit_offers (numbered front) ((i, unit) ∷ []) ∙ ap
-      (λ es. flat_map unit_offers (numbered front) ++ es) (none_behind (unit_offers (i, unit))))
+      (λ es. flat_map unit_offers (numbered front) ++ es) (append-nil (unit_offers (i, unit))))
       ∙ sym (append_assoc (host_offers symbols) (flat_map unit_offers (numbered front)) (unit_offers (i, unit)))
 
 pub adds_as : (before after : List (Name × Offer)) (entries others : List (Name × Offered)) → others ≡ entries

@@ -1,5 +1,6 @@
 -- Loops over a list that look for the first of what its items give.
-use Rattle.c_link.proofs.Common.{◌≡◌, ℕ, ◌+◌, ◌≤◌, List, [], ◌∷◌, map, length, drop, slice_get, Some, None, Option, sym, ap, ◌∙◌, drop_all, length-map, option_or, numbered_past, drop_front, numbered, IsRefusal}
+use Rattle.c_link.proofs.Common.{◌≡◌, ℕ, ◌+◌, ◌≤◌, List, [], ◌∷◌, map, length, drop, slice_get, Some, None, Option, sym, ap, ◌∙◌, drop_all}
+use Rattle.c_link.proofs.Common.{length-map, option_or, numbered_past, drop_front, numbered, IsRefusal}
 use Rattle.c_meaning.specs.Linking as linking
 use Rattle.c_link.specs.declared.refusal.LinkRefusal.{LinkRefusal}
 use Rattle.c_link.specs.declared.refusal.LinkRefusal.TheVariants as refusal
@@ -27,10 +28,8 @@ module _ {A B : Type 0} (f : A → Option B) (xs : List A) (i : ℕ) where
 -- a refusal of the first part is one of the whole
 pub refused : (r : LinkRefusal) (first rest whole : Option linking.LinkRefusal) → whole ≡ option_or first rest → IsRefusal r first
     → IsRefusal r whole
-refused (refusal.Undefined u name) first rest whole is e = is ∙ ap (λ o. option_or o rest) e
-refused (refusal.Twice u name) first rest whole is e = is ∙ ap (λ o. option_or o rest) e
-refused (refusal.TypeDiffers u name) first rest whole is e = is ∙ ap (λ o. option_or o rest) e
 refused refusal.Memory first rest whole is e = tt
+refused _ first rest whole is e = is ∙ ap (λ o. option_or o rest) e
 
 -- ---- the items of a unit, and the units with their numbers
 

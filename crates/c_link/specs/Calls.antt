@@ -7,7 +7,8 @@ use Rattle.c_tree.specs.declared.tree.CType.TheVariants.{Void, U32, U64}
 use Rattle.c_tree.specs.Tree as tree
 use Rattle.c_tree.specs.Runtime.{same_type, same_types}
 use Rattle.c_tree.specs.Scope.{Name, func_type_of as type_of_func}
-use Rattle.c_meaning.specs.Linking.{c_params_of, defined_for_all, first}
+use Rattle.c_tree.specs.TypesInC.{c_params_of}
+use Rattle.c_meaning.specs.Linking.{defined_for_all, first}
 
 -- the type of the function of external linkage that the first unit that defines one defines under a symbol
 abbrev pub signature_of : List (List tree.Item) → Name → Option tree.FuncType

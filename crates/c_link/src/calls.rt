@@ -4,7 +4,7 @@ ghost use Rattle.std.specs.List.{list_all};
 ghost use Rattle.w2c_base.specs.Values.{is_number, type_of, types_of};
 ghost use Rattle.c_tree.specs.View.{func_type_of};
 ghost use Rattle.c_tree.specs.Runtime.{same_type, same_types};
-ghost use Rattle.c_meaning.specs.Linking.{c_params_of, c_type_of};
+ghost use Rattle.c_tree.specs.TypesInC.{c_params_of, c_type_of};
 ghost use Rattle.c_link.specs.Calls.{takes as takes_of};
 
 use c_tree::{CFuncType, CType};

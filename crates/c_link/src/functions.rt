@@ -1,15 +1,14 @@
 // The functions that items declare and define for all units, and their types.
-ghost use Rattle.std.specs.Prelude.{◌≡◌, ◌∷◌, [], if◌then◌else◌, is_some, map, IfOk, Some, None, option_copied, option_map};
+ghost use Rattle.std.specs.Prelude.{◌≡◌, if◌then◌else◌, is_some, map, IfOk, Some, None, option_copied, option_map};
 ghost use Rattle.c_tree.specs.View.{func_of, func_type_of, item_of};
 ghost use Rattle.c_tree.specs.Runtime.{same_func_type, same_types};
 ghost use Rattle.c_tree.specs.Scope.{func_type_of as type_of_func};
-ghost use Rattle.c_meaning.specs.Linking.{c_func_type_of, c_params_of, c_result_of, c_type_of};
 ghost use Rattle.c_link.specs.Offers.{defined_func, external_func};
 
 use c_rules::same_type;
 use c_tree::{CFuncType, CType, CTypes, Func, Item, Name, Params};
 use std::alloc::Global;
-use w2c_base::{FuncType, Memory, ValType};
+use w2c_base::Memory;
 
 /// The function of external linkage that an item declares.
 pub fn external_function(item: &Item) -> Option<&Func>
@@ -76,53 +75,4 @@ fn have_types(types: &[CType], params: &[(CType, Option<Name>)]) -> bool
         }
     }
     true
-}
-
-/// The C type of a host's function.
-pub fn c_func_type(alloc: Global, ty: &FuncType) -> Result<CFuncType, Memory>
-    ensures { IfOk result (λ c. func_type_of c ≡ c_func_type_of ty.now) }
-{
-    Ok(CFuncType {
-        params: c_params(alloc, ty.params.as_slice())?,
-        result: c_result(ty.result),
-    })
-}
-
-fn c_params(alloc: Global, types: &[ValType]) -> Result<CTypes, Memory>
-    ensures { IfOk result (λ params. params ≡ c_params_of types.now) }
-{
-    if types.is_empty() {
-        return only_void(alloc);
-    }
-    let mut params = CTypes::new(alloc);
-    for ty in types {
-        params.push(c_type(*ty))?;
-    }
-    Ok(params)
-}
-
-fn only_void(alloc: Global) -> Result<CTypes, Memory>
-    ensures { IfOk result (λ params. params ≡ CType.Void ∷ []) }
-{
-    let mut params = CTypes::new(alloc);
-    params.push(CType::Void)?;
-    Ok(params)
-}
-
-fn c_type(ty: ValType) -> CType
-    ensures { result ≡ c_type_of ty }
-{
-    match ty {
-        ValType::I32 => CType::U32,
-        ValType::I64 => CType::U64,
-    }
-}
-
-fn c_result(ty: Option<ValType>) -> CType
-    ensures { result ≡ c_result_of ty }
-{
-    match ty {
-        Some(ty) => c_type(ty),
-        None => CType::Void,
-    }
 }

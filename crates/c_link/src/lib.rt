@@ -11,7 +11,7 @@ mod own;
 mod passes;
 mod refusal;
 
-pub use functions::{c_func_type, defined_function, function_type};
+pub use functions::{defined_function, function_type};
 pub use host_symbol::HostSymbol;
 pub use linked::{Linked, link};
 pub use offers::Owner;

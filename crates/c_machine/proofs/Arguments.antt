@@ -1,5 +1,7 @@
 -- Arguments are evaluated from left to right.
-use Rattle.c_machine.proofs.Common.{◌≡◌, ℕ, ◌+◌, ◌≤◌, List, [], ◌∷◌, ◌++◌, map, length, drop, slice_get, Some, Err, sym, refl, ap, ◌∙◌, append_assoc, append-nil, drop_all, map_push, drop_front, Program, Bad, CValue, Evaluated, Is, Machine, NoRule, Running, then_evaluate, evaluate_arg, evaluate_args}
+use Rattle.c_machine.proofs.Common.{◌≡◌, ℕ, ◌+◌, ◌≤◌, List, [], ◌∷◌, ◌++◌, map, drop, slice_get, Some, Err, sym, refl, ap, ◌∙◌}
+use Rattle.c_machine.proofs.Common.{append_assoc, map_push, drop_front, Program, CValue, Evaluated, Is, Machine, NoRule, Running}
+use Rattle.c_machine.proofs.Common.{then_evaluate, evaluate_arg, evaluate_args}
 use Rattle.c_tree.specs.Tree as tree
 use Rattle.c_machine.specs.declared.evaluation.Fault.{Fault}
 use Rattle.c_machine.specs.declared.evaluation.Fault.TheVariants as fault
@@ -10,11 +12,6 @@ bad : (f : Fault) (go : CValue → Evaluated (List CValue)) (more : List CValue 
 bad (fault.Undefined kind) go more = refl
 bad fault.NoRule go more = refl
 
-same : (e : Evaluated (List CValue)) → e ≡ then_evaluate e (λ vs. Is ([] ++ vs))
-same (Is vs) = refl
-same (Bad kind) = refl
-same NoRule = refl
-
 -- values of any kind, seen as those of C
 module _ {V : Type 0} (view : V → CValue) where
   -- the values so far, and what the arguments from the i-th on give, are what all give
@@ -22,15 +19,11 @@ module _ {V : Type 0} (view : V → CValue) where
   Evaluates p m r values i args =
       evaluate_args p m r args ≡ then_evaluate (evaluate_args p m r (drop i args)) (λ vs. Is (map view values ++ vs))
 
-  pub evaluates_first : (p : Program) (m : Machine) (r : Running) (args : List tree.Arg) → Evaluates p m r [] 0 args
-  evaluates_first p m r args = same (evaluate_args p m r args)
-
   regroup : (done : List V) (v : V) (e : Evaluated (List CValue))
       → then_evaluate (then_evaluate e (λ values. Is (view v ∷ values))) (λ vs. Is (map view done ++ vs))
       ≡ then_evaluate e (λ vs. Is (map view (done ++ v ∷ []) ++ vs))
   regroup done v (Is vs) = ap Is (sym (ap (λ l. l ++ vs) (map_push view done v) ∙ append_assoc (map view done) (view v ∷ []) vs))
-  regroup done v (Bad kind) = refl
-  regroup done v NoRule = refl
+  regroup done v _ = refl
 
   pub evaluates_next : (p : Program) (m : Machine) (r : Running) (done : List V) (i : ℕ) (args : List tree.Arg) (a : tree.Arg)
       (v : V) → slice_get args i ≡ Some a
@@ -49,9 +42,3 @@ module _ {V : Type 0} (view : V → CValue) where
       let first = ap (λ e. then_evaluate (then_evaluate e (λ v. then_evaluate (evaluate_args p m r (drop (i + 1) args))
       (λ values. Is (v ∷ values)))) (λ vs. Is (map view done ++ vs))) (sym is) in
       so_far ∙ front ∙ first ∙ bad f _ _
-
-  pub evaluates_all : (p : Program) (m : Machine) (r : Running) (done : List V) (i : ℕ) (args : List tree.Arg) → length args ≤ i
-      → Evaluates p m r done i args → evaluate_args p m r args ≡ Is (map view done)
-  evaluates_all p m r done i args past so_far =
-      so_far ∙ ap (λ l. then_evaluate (evaluate_args p m r l) (λ vs. Is (map view done ++ vs))) (drop_all i args past)
-      ∙ ap Is (append-nil (map view done))

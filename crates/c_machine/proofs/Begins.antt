@@ -1,5 +1,8 @@
 -- A function that begins.
-use Rattle.c_machine.proofs.Common.{◌≡◌, ℕ, suc, Bool, true, false, ◌&&◌, List, [], ◌∷◌, map, length, slice_get, Some, None, Option, option_map, sym, refl, ap, ◌∙◌, subst, length-map, if_found, CType, Void, Definition, definition_of, of_type, CValue, Name, are_of_types, param_names, param_types, local_names, WithLocals, definition_in, names_at, names_of, result_at, result_of, stmts_at, stmts_of}
+use Rattle.c_machine.proofs.Common.{◌≡◌, ℕ, suc, Bool, true, false, ◌&&◌, List, [], ◌∷◌, map, length, slice_get, Some, None, Option}
+use Rattle.c_machine.proofs.Common.{option_map, sym, refl, ap, ◌∙◌, subst, length-map, if_found, CType, Void, Definition, definition_of}
+use Rattle.c_machine.proofs.Common.{of_type, CValue, Name, are_of_types, param_names, param_types, local_names, WithLocals, definition_in}
+use Rattle.c_machine.proofs.Common.{names_at, names_of, result_at, result_of, stmts_at, stmts_of}
 use Rattle.c_tree.specs.Tree as tree
 
 -- what an item's definition says of the item
@@ -27,9 +30,8 @@ function_is items i is_static result name params (Some body) d at e =
 
 by_item : (items : List tree.Item) (i : ℕ) (item : tree.Item) (d : Definition) → slice_get items i ≡ Some item
     → definition_of (i, item) ≡ Some d → Defines items i d
-by_item items i (tree.Array name count bytes) d at e = absurd cc
-by_item items i (tree.Var ty name number) d at e = absurd cc
 by_item items i (tree.Function f) d at e = function_is items i f.is_static f.result f.name f.params f.body d at e
+by_item items i _ d at e = absurd cc
 
 pub defines : (items : List tree.Item) (i : ℕ) (d : Definition) → definition_in items i ≡ Some d → Defines items i d
 defines items i d e = go (slice_get items i) refl e

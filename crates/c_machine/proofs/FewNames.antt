@@ -1,5 +1,6 @@
 -- Names that are compared one by one.
-use Rattle.c_machine.proofs.Common.{◌≡◌, ℕ, List, [], ◌∷◌, ◌++◌, map, if◌then◌else◌, Some, None, bytes_eq, ap, ◌∙◌, map_push, option_or, named, named-append, entry_of}
+use Rattle.c_machine.proofs.Common.{◌≡◌, ℕ, List, [], ◌∷◌, ◌++◌, map, if◌then◌else◌, Some, None, bytes_eq, ap, ◌∙◌, map_push, option_or}
+use Rattle.c_machine.proofs.Common.{named, named-append, entry_of}
 use Rattle.c_machine.specs.declared.numbered_names.NumberedName.{NumberedName}
 
 -- a name at the end

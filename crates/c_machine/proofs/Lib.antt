@@ -1,11 +1,13 @@
-mod Common
+-- What crates above cite.
 pub mod NameTables
-mod FewNames
-pub mod Labels
-pub mod Tabled
 pub mod Arguments
 pub mod Variables
 pub mod Jumps
 pub mod Locals
 pub mod Functions
 pub mod Begins
+-- What the crate's own proofs cite.
+mod Common
+mod FewNames
+mod Labels
+mod Tabled

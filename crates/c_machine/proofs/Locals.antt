@@ -1,5 +1,8 @@
 -- Locals behind parameters, one by one.
-use Rattle.c_machine.proofs.Common.{◌≡◌, ℕ, zero, suc, ◌+◌, ◌≤◌, List, [], ◌∷◌, ◌++◌, map, length, take, drop, slice_get, Some, None, Option, option_map, zip, sym, refl, ap, ◌∙◌, append_assoc, append-nil, arith, take_all, drop_all, length-map, length_push, map_push, drop_front, if_found, initial_of, CValue, Name, Vars, bind, locals_of, local_name, WithLocals}
+use Rattle.c_machine.proofs.Common.{◌≡◌, ℕ, zero, suc, ◌+◌, ◌≤◌, List, [], ◌∷◌, ◌++◌, map, length, take, drop, slice_get, Some, None}
+use Rattle.c_machine.proofs.Common.{Option, option_map, zip, sym, refl, ap, ◌∙◌, append_assoc, append-nil, arith, take_all, drop_all}
+use Rattle.c_machine.proofs.Common.{length-map, length_push, map_push, drop_front, if_found, initial_of, CValue, Name, Vars, bind}
+use Rattle.c_machine.proofs.Common.{locals_of, local_name, WithLocals}
 use Rattle.c_tree.specs.Tree as tree
 use Rattle.c_machine.proofs.Variables.{zip-push}
 
@@ -12,13 +15,6 @@ pub record Grows {V : Type 0} (view : V → CValue) (params : List Name) (values
   pub count : length (params ++ map local_name (take i locals)) ≡ length so_far
   pub same : option_map (λ ls. vars_in view params values ++ ls) (locals_of locals)
       ≡ option_map (λ ls. vars_in view (params ++ map local_name (take i locals)) so_far ++ ls) (locals_of (drop i locals))
-
-pub grows_first : {V : Type 0} (view : V → CValue) (params : List Name) (values : List V) (locals : List tree.Local)
-    → length params ≡ length values → Grows view params values locals 0 values
-grows_first view params values locals e = record {
-  count = ap length (append-nil params) ∙ e;
-  same = ap (λ ps. option_map (λ ls. vars_in view ps values ++ ls) (locals_of locals)) (sym (append-nil params));
-}
 
 take_push : (locals : List tree.Local) (i : ℕ) (l : tree.Local) → slice_get locals i ≡ Some l
     → take (i + 1) locals ≡ take i locals ++ l ∷ []

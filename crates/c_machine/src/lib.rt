@@ -9,7 +9,7 @@ mod operators;
 mod tables;
 
 pub use ahead::Ahead;
-pub use evaluation::{Fault, constant, is_depth, low_half, widened};
+pub use evaluation::{Fault, constant, low_half, widened};
 pub use names::Numbers;
 pub use numbered_names::NumberedNames;
 pub use operators::operate;

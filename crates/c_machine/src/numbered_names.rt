@@ -55,7 +55,7 @@ impl NumberedNames {
     }
 
     /// Gives a name, where there is one, its number, unless it has one.
-    #[tactic(auto, using(name_table::proofs::Lookups::or_none))]
+    #[tactic(auto, using(w2c_base::proofs::Options::or_none))]
     pub fn enter(&mut self, alloc: Global, name: Option<&[u8]>, number: usize) -> Result<(), Memory>
         ensures { OnOk result ((q : List ℕ) → named q self.new ≡ option_or (named q self.old) (found_at number (option_copied name.entry) q)) }
     {

@@ -1,6 +1,12 @@
 -- A run over a list of calls beside the run over its front: they are the same until the front has
 -- ended, and from there on the longer one goes on with the calls behind it.
-use Rattle.c_meaning.proofs.Common.{◌≡◌, ℕ, zero, suc, ◌+◌, ◌≢◌, ◌⊎◌, List, [], ◌∷◌, ◌++◌, map, length, Some, None, Option, zip, sym, refl, ap, ◌∙◌, subst, inl, inr, append_assoc, append-nil, arith, AllByRecursion, range_with_len, values_behind, numbered, Call, CallEnded, Event, Init, Phase, Reply, values_in, Value, Program, SymbolCall, called_func, init_functions, fresh, CRun, Ended, Entry, Going, OutOfSteps, Over, Pending, Progress, Stopped, after, begin_entry, begun, c_run, c_start, came_back, entries_of, go_on, over, run_of, told_end, CValue, FuncAddress, FuncPointer, Machine, Number, Objects, Pointer, Stop, Stuck, Back, Next, Step, Stops, c_step, call}
+use Rattle.c_meaning.proofs.Common.{◌≡◌, ℕ, zero, suc, ◌+◌, ◌≢◌, ◌⊎◌, List, [], ◌∷◌, ◌++◌, map, length, Some, None, Option, zip, sym, refl}
+use Rattle.c_meaning.proofs.Common.{ap, ◌∙◌, subst, inl, inr, append_assoc, append-nil, arith, AllByRecursion, range_with_len}
+use Rattle.c_meaning.proofs.Common.{values_behind, numbered, Call, CallEnded, Event, Init, Phase, Reply, values_in, Value, Program}
+use Rattle.c_meaning.proofs.Common.{SymbolCall, called_func, init_functions, fresh, CRun, Ended, Entry, Going, OutOfSteps, Over, Pending}
+use Rattle.c_meaning.proofs.Common.{Progress, Stopped, after, begin_entry, begun, c_run, c_start, came_back, entries_of, go_on, over}
+use Rattle.c_meaning.proofs.Common.{run_of, told_end, CValue, FuncAddress, FuncPointer, Machine, Number, Objects, Pointer, Stop, Stuck}
+use Rattle.c_meaning.proofs.Common.{Back, Next, Step, Stops, c_step, call}
 use Rattle.std.proofs.lemmas.List.{map-append}
 use Rattle.c_meaning.proofs.Longer.{after_sum}
 use Rattle.c_meaning.proofs.StepsKeep.{KeptByObjects, KeptByAsks, KeptByEnds, OfMachine, trail_kept, entry_keeps, after_keeps}
@@ -232,8 +238,7 @@ init_pending k es = record { phase = Init k; entries = es }
 none_begun : (k : ℕ) (es : List Entry) (st : Step) → AreInits es → values_in (machine_of st).trail.events ≡ []
     → HasNoValues (begun (init_pending k es) st)
 none_begun k es (Next s) inits none = (none, inits, (k, refl))
-none_begun k es (Back m value) inits none = none
-none_begun k es (Stops m why) inits none = none
+none_begun k es _ inits none = none
 
 none_entry : (p : Program) (m : Machine) (last : Phase) (es : List Entry) → AreInits es → values_in m.trail.events ≡ []
     → HasNoValues (begin_entry p m last es)

@@ -1,5 +1,8 @@
 -- A symbol is found to be that of an init function exactly where it is one.
-use Rattle.c_meaning.proofs.Common.{◌≡◌, ℕ, ◌+◌, ◌-◌, ◌*◌, ◌/◌, ◌%◌, ◌<◌, ◌≤◌, Bool, true, false, cond, ◌&&◌, List, [], ◌∷◌, ◌++◌, length, take, drop, nat_lt, nat_le, ◌==◌, codes, All, bytes_eq, sym, refl, ap, ◌∙◌, subst, arith, length-append, take_at, bytes_eq-Decides, list_all, init_symbol_of, hexadecimal_value, is_init_symbol, is_module_name, unescaped}
+use Rattle.c_meaning.proofs.Common.{◌≡◌, ℕ, ◌+◌, ◌-◌, ◌*◌, ◌/◌, ◌%◌, ◌<◌, ◌≤◌, Bool, true, false, cond, ◌&&◌, List, [], ◌∷◌, ◌++◌, length}
+use Rattle.c_meaning.proofs.Common.{take, drop, nat_lt, nat_le, ◌==◌, codes, All, bytes_eq, sym, refl, ap, ◌∙◌, subst, arith, length-append}
+use Rattle.c_meaning.proofs.Common.{take_at, bytes_eq-Decides, list_all, init_symbol_of, hexadecimal_value, is_init_symbol, is_module_name}
+use Rattle.c_meaning.proofs.Common.{unescaped}
 use Rattle.std.proofs.lemmas.Bool.Decides.{nat_tests}
 use Rattle.std.proofs.lemmas.List.Elements.{All-head, All-tail, All-cons, All-nil}
 use Rattle.w2c_base.proofs.Conjunctions.{both_hold}

@@ -1,4 +1,4 @@
-mod Common
+-- What crates above cite.
 pub mod InitSymbols
 pub mod Links
 pub mod Longer
@@ -10,3 +10,5 @@ pub mod Fronts
 pub mod StepsKeep
 pub mod Told
 pub mod Takes
+-- What the crate's own proofs cite.
+mod Common

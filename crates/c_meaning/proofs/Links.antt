@@ -1,17 +1,20 @@
 -- Linking by what names stand for: the type that is found under a symbol is that of the function that it stands for.
-use Rattle.c_meaning.proofs.Common.{◌≡◌, ℕ, suc, ◌+◌, ◌<◌, ◌≤◌, Bool, true, false, cond, ◌&&◌, ◌||◌, List, [], ◌∷◌, ◌++◌, map, length, take, is_some, if◌then◌else◌, slice_get, Some, None, filter, Option, option_map, zip, flat_map, filter_map, bytes_eq, sym, refl, ap, ◌∙◌, subst, arith, AllByRecursion, cons_option, list_any, position_from, range_with_len, if_found, named, numbered, Host, HostFunction, FuncType, export_symbol_of, same_func_type, Definition, HostSymbol, LinkRefusal, NotDefined, Program, Twice, TypeDiffers, c_func_type_of, defined, defined_for_all, external_func, external_functions, first, first_in, first_refusal, func_type, host_symbol, host_symbols, link_refusal, symbols_of, twice, type_found, typed, unresolved, FuncAddress, HostFunc, Name, UnitFunc}
+use Rattle.c_meaning.proofs.Common.{◌≡◌, ℕ, suc, ◌+◌, ◌<◌, ◌≤◌, Bool, true, false, cond, ◌&&◌, ◌||◌, List, [], ◌∷◌, ◌++◌, map, length, take}
+use Rattle.c_meaning.proofs.Common.{is_some, if◌then◌else◌, slice_get, Some, None, filter, Option, option_map, zip, flat_map, filter_map}
+use Rattle.c_meaning.proofs.Common.{bytes_eq, sym, refl, ap, ◌∙◌, subst, arith, AllByRecursion, cons_option, list_any, position_from}
+use Rattle.c_meaning.proofs.Common.{range_with_len, if_found, named, numbered, Host, HostFunction, FuncType, export_symbol_of}
+use Rattle.c_meaning.proofs.Common.{same_func_type, Definition, HostSymbol, LinkRefusal, NotDefined, Program, Twice, TypeDiffers}
+use Rattle.c_meaning.proofs.Common.{c_func_type_of, defined, defined_for_all, external_func, external_functions, first, first_in}
+use Rattle.c_meaning.proofs.Common.{first_refusal, func_type, host_symbol, host_symbols, link_refusal, symbols_of, twice, type_found, typed}
+use Rattle.c_meaning.proofs.Common.{unresolved, FuncAddress, HostFunc, Name, UnitFunc}
 use Rattle.std.specs.Option.{option_or}
 use Rattle.w2c_mangle.specs.declared.symbol.SymbolKind.TheVariants as symbol
 use Rattle.c_tree.specs.Tree as tree
 use Rattle.c_tree.specs.Scope.{func_type_of}
 use Rattle.w2c_base.proofs.OfEach.{all_append}
-use Rattle.w2c_base.proofs.Options.{is_some_map}
+use Rattle.w2c_base.proofs.Options.{is_some_map, or_none}
 
 -- ---- of options
-
-some-or : {A : Type 0} (a b : Option A) → is_some (option_or a b) ≡ (is_some a || is_some b)
-some-or None b = refl
-some-or (Some x) b = refl
 
 -- ---- the symbols of hosts
 
@@ -157,10 +160,6 @@ module _ (p : Program) where
         let first : (i : ℕ) → i ≡ 0 + i = λ i. omega arith in
         units_found 0 p.units (λ i. ap (slice_get p.units) (first i))
 
-  or_none : {A : Type 0} (a : Option A) → option_or a None ≡ a
-  or_none None = refl
-  or_none (Some x) = refl
-
   -- the type with which units define a symbol is that of the function that they define
   pub signature_stands : (q : Name)
       → units_type p.units q ≡ if_found (option_map (λ u. UnitFunc u q) (position_from (defines_it q) 0 p.units)) (func_type p)
@@ -245,7 +244,7 @@ unit_named (TypeDiffers unit symbol) = unit
 abbrev IsBelow : ℕ → LinkRefusal → Type 0
 IsBelow n r = unit_named r < n
 
-all_flat : {A B : Type 0} (P : B → Type 0) (f : A → List B) (xs : List A) → ((x : A) → AllByRecursion P (f x))
+pub all_flat : {A B : Type 0} (P : B → Type 0) (f : A → List B) (xs : List A) → ((x : A) → AllByRecursion P (f x))
     → AllByRecursion P (flat_map f xs)
 all_flat P f [] each = tt
 all_flat P f (x ∷ xs) each = all_append P (f x) (flat_map f xs) (each x) (all_flat P f xs each)

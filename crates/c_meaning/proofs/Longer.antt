@@ -1,5 +1,6 @@
 -- Runs split, and one that is over stays the same with more statements.
-use Rattle.c_meaning.proofs.Common.{◌≡◌, ℕ, zero, suc, ◌+◌, ◌-◌, ◌≤◌, ◌≢◌, List, sym, refl, ap, ◌∙◌, arith, Reply, Program, SymbolCall, CRun, Going, OutOfSteps, Over, Progress, after, c_run, c_start, go_on, run_of, c_step}
+use Rattle.c_meaning.proofs.Common.{◌≡◌, ℕ, zero, suc, ◌+◌, ◌-◌, ◌≤◌, ◌≢◌, List, sym, refl, ap, ◌∙◌, arith, Reply, Program, SymbolCall}
+use Rattle.c_meaning.proofs.Common.{CRun, Going, OutOfSteps, Over, Progress, after, c_run, c_start, go_on, run_of, c_step}
 
 pub after_over : (p : Program) (k : ℕ) (run : CRun) → after p k (Over run) ≡ Over run
 after_over p zero run = refl

@@ -1,5 +1,7 @@
 -- What stands beside a name, behind a change of what stands beside one.
-use Rattle.c_meaning.proofs.Common.{◌≡◌, ℕ, Bool, true, false, ◌≢◌, List, [], ◌∷◌, is_some, if◌then◌else◌, Some, bytes_eq, sym, refl, ◌∙◌, subst, bytes_eq-Decides, named, with_named}
+use Rattle.c_meaning.proofs.Common.{◌≡◌, ℕ, Bool, true, false, ◌≢◌, List, [], ◌∷◌, is_some, if◌then◌else◌, Some, bytes_eq, sym, refl, ap}
+use Rattle.c_meaning.proofs.Common.{◌∙◌, subst, bytes_eq-Decides, named, with_named}
+use Rattle.std.proofs.lemmas.Option.{same_Some}
 
 pub bytes_equal : (name : List ℕ) → bytes_eq name name ≡ true
 bytes_equal name = (bytes_eq-Decides name name).1 refl
@@ -10,6 +12,18 @@ bytes_differ name other differ = go (bytes_eq name other) refl
     go : (b : Bool) → bytes_eq name other ≡ b → bytes_eq name other ≡ false
     go true e = absurd (differ ((bytes_eq-Decides name other).0 e))
     go false e = e
+
+-- what stands there already
+pub with_same : {A : Type 0} (name : List ℕ) (v : A) (entries : List (List ℕ × A)) → named name entries ≡ Some v
+    → with_named name v entries ≡ entries
+with_same name v [] e = refl
+with_same name v (x ∷ entries) e = go (bytes_eq x.0 name) (with_same name v entries) e
+  where
+    go : (b : Bool) → (named name entries ≡ Some v → with_named name v entries ≡ entries)
+        → (if b then Some x.1 else named name entries) ≡ Some v
+        → (if b then (x.0, v) ∷ entries else x ∷ with_named name v entries) ≡ x ∷ entries
+    go true behind e = ap (λ w. (x.0, w) ∷ entries) (sym (same_Some x.1 v e))
+    go false behind e = ap (λ ys. x ∷ ys) (behind e)
 
 -- the changed name, where it was there
 pub named-with_named : {A : Type 0} (name : List ℕ) (new : A) (entries : List (List ℕ × A)) → is_some (named name entries) ≡ true
@@ -39,17 +53,3 @@ named-with_another name other new (e ∷ entries) differ = go (named-with_anothe
         let not_this : bytes_eq e.0 name ≡ false = bytes_differ e.0 name (λ same. differ (sym same ∙ (bytes_eq-Decides e.0 other).0 is)) in
         rw (is, not_this) refl
     go behind false is = rw is (by_test behind (bytes_eq e.0 name))
-
--- no name is lost
-pub is_some-with_named : {A : Type 0} (name other : List ℕ) (new : A) (entries : List (List ℕ × A))
-    → is_some (named name entries) ≡ true → is_some (named name (with_named other new entries)) ≡ true
-is_some-with_named name other new entries there = go (bytes_eq name other) refl
-  where
-    go : (b : Bool) → bytes_eq name other ≡ b → is_some (named name (with_named other new entries)) ≡ true
-    go true is =
-        let same : name ≡ other = (bytes_eq-Decides name other).0 is in
-        let changed : named name (with_named name new entries) ≡ Some new = named-with_named name new entries there in
-        subst (λ (n : List ℕ). is_some (named name (with_named n new entries)) ≡ true) same (rw changed refl)
-    go false is =
-        let differ : name ≢ other = λ e. let equal : bytes_eq name other ≡ true = (bytes_eq-Decides name other).1 e in cc in
-        rw (named-with_another name other new entries differ) there

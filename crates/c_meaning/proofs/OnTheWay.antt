@@ -1,5 +1,8 @@
 -- A run is out of steps exactly where it is on its way: no statement makes one that is over so.
-use Rattle.c_meaning.proofs.Common.{◌≡◌, ℕ, zero, suc, ◌≢◌, List, [], ◌∷◌, Some, None, Option, refl, arith, ⊤, Call, Init, Phase, Reply, Program, SymbolCall, fresh, Ended, Entry, Going, IsGoing, OutOfSteps, Over, Pending, Progress, Stopped, after, begin_entry, begun, c_run, c_start, came_back, entries_of, go_on, run_of, told_end, CValue, FuncAddress, FuncPointer, Machine, Number, Pointer, Stop, Back, Next, Step, Stops, c_step}
+use Rattle.c_meaning.proofs.Common.{◌≡◌, ℕ, zero, suc, ◌≢◌, List, [], ◌∷◌, Some, None, Option, refl, arith, ⊤, Call, Init, Phase, Reply}
+use Rattle.c_meaning.proofs.Common.{Program, SymbolCall, fresh, Ended, Entry, Going, IsGoing, OutOfSteps, Over, Pending, Progress, Stopped}
+use Rattle.c_meaning.proofs.Common.{after, begin_entry, begun, c_run, c_start, came_back, entries_of, go_on, run_of, told_end, CValue}
+use Rattle.c_meaning.proofs.Common.{FuncAddress, FuncPointer, Machine, Number, Pointer, Stop, Back, Next, Step, Stops, c_step}
 
 -- what is over is over for another reason
 abbrev Proper : Progress → Type 0

@@ -1,6 +1,15 @@
 -- What is so of a machine, and stays so whenever an object, the depth or the trail is changed, is so after a statement and after
 -- a run. So a law of that kind is told by what these changes do, and a new statement of C needs one arm here.
-use Rattle.c_meaning.proofs.Common.{◌≡◌, ℕ, zero, suc, ◌+◌, ◌/◌, min, Bool, true, false, ◌||◌, List, [], ◌∷◌, map, length, is_some, if◌then◌else◌, nat_lt, nat_le, ◌==◌, slice_get, slice_set, Some, None, Option, option_map, find, bytes_eq, sym, refl, ap, ◌∙◌, subst, AllByRecursion, ⊤, if_found, named, with_named, Ask, Call, Event, Gave, HostTrapped, Init, Phase, Reply, Trail, asked, equal_type, equal_types, is_result, number_of, type_of, types_of, FuncType, Value, I32, I64, same_func_type, Definition, Program, definition_at, func_named, func_type, host_type, memory_in, table_in, var_in, with_depth, with_memory, with_objects, with_table, with_trail, with_var, Entry, Going, Over, Pending, Progress, after, begin_entry, begun, came_back, go_on, run_of, told_end, Bad, CValue, Evaluated, Frame, FuncAddress, FuncPointer, HostFunc, Is, Machine, Memory, Name, NoRule, Number, ObjectAddress, Objects, Place, Pointer, Running, State, Stuck, Table, UnitFunc, found, of_one_type, then_evaluate}
+use Rattle.c_meaning.proofs.Common.{◌≡◌, ℕ, zero, suc, ◌+◌, ◌/◌, min, Bool, true, false, ◌||◌, List, [], ◌∷◌, map, length, is_some}
+use Rattle.c_meaning.proofs.Common.{if◌then◌else◌, nat_lt, nat_le, ◌==◌, slice_get, slice_set, Some, None, Option, option_map, find}
+use Rattle.c_meaning.proofs.Common.{bytes_eq, sym, refl, ap, ◌∙◌, subst, AllByRecursion, ⊤, if_found, named, with_named, Ask, Call, Event}
+use Rattle.c_meaning.proofs.Common.{Gave, HostTrapped, Init, Phase, Reply, Trail, asked, equal_type, equal_types, is_result, number_of}
+use Rattle.c_meaning.proofs.Common.{type_of, types_of, FuncType, Value, I32, I64, same_func_type, Definition, Program, definition_at}
+use Rattle.c_meaning.proofs.Common.{func_named, func_type, host_type, memory_in, table_in, var_in, with_depth, with_memory, with_objects}
+use Rattle.c_meaning.proofs.Common.{with_table, with_trail, with_var, Entry, Going, Over, Pending, Progress, after, begin_entry, begun}
+use Rattle.c_meaning.proofs.Common.{came_back, go_on, run_of, told_end, Bad, CValue, Evaluated, Frame, FuncAddress, FuncPointer, HostFunc}
+use Rattle.c_meaning.proofs.Common.{Is, Machine, Memory, Name, NoRule, Number, ObjectAddress, Objects, Place, Pointer, Running, State}
+use Rattle.c_meaning.proofs.Common.{Stuck, Table, UnitFunc, found, of_one_type, then_evaluate}
 use Rattle.w2c_base.specs.declared.value.ValType.{ValType}
 use Rattle.w2c_base.specs.declared.value.ValType.TheVariants as type
 use Rattle.w2c_base.specs.Trap.{code_of}
@@ -133,15 +142,13 @@ module _ {P : Machine → Type 0} (kept : KeptByObjects P) (m : Machine) (has : 
       → ((a : ObjectAddress) (memory : Memory) → EffectHas P (go a memory)) → EffectHas P (prim.on_memory v m go)
   on_memory (Pointer None) go h = tt
   on_memory (Pointer (Some a)) go h = there_or_not (EffectHas P) (memory_in m a) tt (h a)
-  on_memory (Number v) go h = tt
-  on_memory (FuncPointer f) go h = tt
+  on_memory _ go h = tt
 
   on_table : (v : CValue) (go : ObjectAddress → Table → prim.Effect)
       → ((a : ObjectAddress) (table : Table) → EffectHas P (go a table)) → EffectHas P (prim.on_table v m go)
   on_table (Pointer None) go h = tt
   on_table (Pointer (Some a)) go h = there_or_not (EffectHas P) (table_in m a) tt (h a)
-  on_table (Number v) go h = tt
-  on_table (FuncPointer f) go h = tt
+  on_table _ go h = tt
 
   trap : Keeps prim.trap
   trap (Number (I32 code) ∷ []) = there_or_not (EffectHas P) (find (λ kind. code_of kind == code) prim.trap_kinds) tt (λ kind. tt)
@@ -279,8 +286,7 @@ module _ {P : Machine → Type 0} (kept : KeptByObjects P) (m : Machine) where
   assign_depth_keeps : (r : Running) (v : CValue) (below : List Frame) → P m → StepHas P (step.assign_depth m r v below)
   assign_depth_keeps r (Number (I32 n)) below has = kept.depth m n has
   assign_depth_keeps r (Number (I64 n)) below has = has
-  assign_depth_keeps r (Pointer to) below has = has
-  assign_depth_keeps r (FuncPointer to) below has = has
+  assign_depth_keeps r _ below has = has
 
   -- what is done where a value of the type is held
   put_keeps : (held : Option CValue) (v : CValue) (does : step.Step) → P m
@@ -355,9 +361,7 @@ module _ (p : Program) {P : Machine → Type 0} (kept : KeptByObjects P) (asks :
   effect_keeps : (o : prim.Effect) (place : Place) (m : Machine) (below : List Frame) → P m → EffectHas P o
       → StepHas P (step.take_effect o place m below)
   effect_keeps (prim.Gives after value) place m below has does = give_keeps kept after value below does
-  effect_keeps (prim.Traps kind) place m below has does = has
-  effect_keeps (prim.IsUndefined kind) place m below has does = has
-  effect_keeps prim.NoEffect place m below has does = has
+  effect_keeps _ place m below has does = has
 
   named_keeps : (u : ℕ) (name : Name) (place : Place) (m : Machine) (args : List CValue) (below : List Frame) → P m
       → StepHas P (step.call_named p u name place m args below)
@@ -422,8 +426,7 @@ module _ (p : Program) (Q : List Event → List Objects → Type 0) (kept : Kept
     (asks : KeptByAsks p (OfMachine Q)) (ends : KeptByEnds (OfMachine Q)) where
   begun_keeps : (pending : Pending) (o : step.Step) → StepHas (OfMachine Q) o → RunHas Q (begun pending o)
   begun_keeps pending (step.Next s) has = has
-  begun_keeps pending (step.Back m value) has = has
-  begun_keeps pending (step.Stops m why) has = has
+  begun_keeps pending _ has = has
 
   pub entry_keeps : (m : Machine) (last : Phase) (entries : List Entry) → OfMachine Q m → RunHas Q (begin_entry p m last entries)
   entry_keeps m last [] has = has
@@ -439,9 +442,8 @@ module _ (p : Program) (Q : List Event → List Objects → Type 0) (kept : Kept
   back_keeps pending m _ (Some _) has = has
 
   on_keeps : (pending : Pending) (o : step.Step) → StepHas (OfMachine Q) o → RunHas Q (go_on p pending o)
-  on_keeps pending (step.Next s) has = has
   on_keeps pending (step.Back m value) has = back_keeps pending m pending.phase value has
-  on_keeps pending (step.Stops m why) has = has
+  on_keeps pending _ has = has
 
   pub after_keeps : (n : ℕ) (x : Progress) → RunHas Q x → RunHas Q (after p n x)
   after_keeps zero x has = has

@@ -1,5 +1,7 @@
 -- Values that go where a value of their type is held or wanted.
-use Rattle.c_meaning.proofs.Common.{◌≡◌, true, List, [], ◌∷◌, map, Some, None, Option, refl, ap, ◌∙◌, type_of, types_of, Value, I32, I64, c_result_of, c_type_of, of_type, CValue, Machine, Number, of_one_type, Step, are_of_types, is_returned, put_in}
+use Rattle.c_meaning.proofs.Common.{◌≡◌, true, List, [], ◌∷◌, map, Some, Option, refl, ap, ◌∙◌, type_of, types_of, Value, I32, I64}
+use Rattle.c_meaning.proofs.Common.{c_result_of, c_type_of, of_type, CValue, Machine, Number, of_one_type, Step, are_of_types, is_returned}
+use Rattle.c_meaning.proofs.Common.{put_in}
 use Rattle.w2c_base.proofs.Types.{equal_type_of_same}
 
 pub numbers_of_one_type : (v w : Value) → type_of v ≡ type_of w → of_one_type (Number v) (Number w) ≡ true
@@ -24,6 +26,3 @@ numbers_of_their_types (v ∷ args) = rw (number_of_its_type v) (numbers_of_thei
 
 pub number_is_returned : (v : Value) → is_returned (c_result_of (Some (type_of v))) (Some (Number v)) ≡ true
 number_is_returned v = number_of_its_type v
-
-pub nothing_is_returned : is_returned (c_result_of None) None ≡ true
-nothing_is_returned = refl

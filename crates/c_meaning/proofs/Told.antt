@@ -1,6 +1,7 @@
 -- No statement ends a listed call: what it tells are asks. So the values of the calls that ended stay
 -- while a function runs.
-use Rattle.c_meaning.proofs.Common.{◌≡◌, List, [], ◌∷◌, Option, refl, ◌∙◌, append-nil, values_behind, Ask, Asked, Reply, asked, values_in, Program, with_trail, CValue, Frame, FuncAddress, Machine, State}
+use Rattle.c_meaning.proofs.Common.{◌≡◌, List, [], ◌∷◌, Option, refl, ◌∙◌, append-nil, values_behind, Ask, Asked, Reply, asked, values_in}
+use Rattle.c_meaning.proofs.Common.{Program, with_trail, CValue, Frame, FuncAddress, Machine, State}
 use Rattle.c_meaning.specs.Step as step
 use Rattle.c_meaning.proofs.StepsKeep.{KeptByObjects, KeptByAsks, StepHas, trail_kept, call_keeps, steps_keep}
 pub use Rattle.c_meaning.proofs.StepsKeep.{machine_of}

@@ -1,9 +1,11 @@
 -- Ways of a C run: one statement, one way behind another, and a way to the end.
-use Rattle.c_meaning.proofs.Common.{◌≡◌, ℕ, zero, suc, ◌+◌, ◌-◌, ◌<◌, ◌≤◌, ◌⊎◌, List, sym, refl, ap, ◌∙◌, subst, inl, inr, arith, Reply, Program, SymbolCall, Reaches, CRun, Going, IsGoing, OutOfSteps, Over, Pending, Progress, after, c_run, c_start, go_on, run_of, State, c_step}
+use Rattle.c_meaning.proofs.Common.{◌≡◌, ℕ, zero, suc, ◌+◌, ◌-◌, ◌<◌, ◌≤◌, ◌⊎◌, List, sym, refl, ap, ◌∙◌, subst, inl, inr, arith, Reply}
+use Rattle.c_meaning.proofs.Common.{Program, SymbolCall, Reaches, CRun, Going, IsGoing, OutOfSteps, Over, Pending, Progress, after, c_run}
+use Rattle.c_meaning.proofs.Common.{c_start, go_on, run_of, State, c_step}
 use Rattle.c_meaning.proofs.Longer.{after_sum, after_over}
 use Rattle.c_meaning.proofs.OnTheWay.{going_is_out}
 
-less_or_not : (m n : ℕ) → (m < n) ⊎ (n ≤ m)
+pub less_or_not : (m n : ℕ) → (m < n) ⊎ (n ≤ m)
 less_or_not m n = grind arith
 
 pub stays : (p : Program) (progress : Progress) → Reaches p 0 progress progress

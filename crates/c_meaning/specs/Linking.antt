@@ -1,10 +1,9 @@
 -- Units that link with hosts, and what each name of a unit stands for (C11, 6.2.2 linkages of
 -- identifiers, 6.2.7 compatible type, 6.9 external definitions).
-use Rattle.std.specs.Prelude.{ℕ, ◌+◌, ◌-◌, ◌*◌, ◌==◌, ◌&&◌, not, nat_lt, nat_le, Bool, false, if◌then◌else◌, List, [], ◌∷◌, length, map, filter, flat_map, filter_map, take, drop, bytes_eq, slice_get, is_some, Option, Some, None, option_map}
+use Rattle.std.specs.Prelude.{ℕ, ◌+◌, ◌-◌, ◌*◌, ◌==◌, ◌&&◌, not, nat_lt, nat_le, Bool, false, if◌then◌else◌, List, [], ◌∷◌, length, map}
+use Rattle.std.specs.Prelude.{filter, flat_map, filter_map, take, drop, bytes_eq, slice_get, is_some, Option, Some, None, option_map}
 use Rattle.std.specs.List.{list_all, list_any, position_from}
 use Rattle.std.specs.Option.{option_or}
-use Rattle.w2c_base.specs.declared.value.ValType.{ValType}
-use Rattle.w2c_base.specs.declared.value.ValType.TheVariants.{I32, I64}
 use Rattle.w2c_base.specs.declared.value.Value.{Value}
 use Rattle.w2c_base.specs.declared.signature.FuncType.{FuncType}
 use Rattle.w2c_base.specs.Values.{is_number, types_of}
@@ -12,11 +11,11 @@ use Rattle.w2c_base.specs.Lookup.{if_found, named, numbered}
 use Rattle.w2c_base.specs.Run.{Host}
 use Rattle.w2c_mangle.specs.declared.symbol.SymbolKind.TheVariants as symbol
 use Rattle.w2c_mangle.specs.Symbols.{export_symbol_of, init_symbol_of}
-use Rattle.c_tree.specs.declared.tree.CType.{CType}
 use Rattle.c_tree.specs.declared.tree.CType.TheVariants.{Void, U32, U64}
 use Rattle.c_tree.specs.Tree as tree
 use Rattle.c_tree.specs.Runtime.{same_type, same_types, same_func_type}
 use Rattle.c_tree.specs.Scope.{func_type_of}
+use Rattle.c_tree.specs.TypesInC.{c_params_of, c_func_type_of}
 use Rattle.c_meaning.specs.State.{Name, FuncAddress, UnitFunc, HostFunc}
 
 -- units in order, and the hosts that they are linked with
@@ -54,27 +53,11 @@ defined items name = first (filter (λ d. bytes_eq d.func.name name) (definition
 abbrev pub defined_for_all : List tree.Item → Name → Option Definition
 defined_for_all items name = first (filter (λ d. is_external d && bytes_eq d.func.name name) (definitions items))
 
--- the C type of a host's function; the list `void` stands for no parameters
-abbrev pub c_type_of : ValType → CType
-c_type_of I32 = U32
-c_type_of I64 = U64
-
-abbrev pub c_result_of : Option ValType → CType
-c_result_of None = Void
-c_result_of (Some t) = c_type_of t
-
-abbrev pub c_params_of : List ValType → List CType
-c_params_of [] = Void ∷ []
-c_params_of (t ∷ types) = map c_type_of (t ∷ types)
-
 -- a host's function: its symbol and its type
 pub record HostSymbol : Type 0 where
   pub symbol : Name
   pub address : FuncAddress
   pub ty : tree.FuncType
-
-abbrev pub c_func_type_of : FuncType → tree.FuncType
-c_func_type_of ty = record { params = c_params_of ty.params; result = c_result_of ty.result }
 
 abbrev pub host_symbols : List Host → List HostSymbol
 host_symbols hosts = flat_map (λ h. map (λ f. record {

@@ -1,6 +1,7 @@
 -- The objects of file scope that a machine holds (C11, 6.2.4 static storage duration, 6.7.9
 -- initialisation), and how one of them is read and changed.
-use Rattle.std.specs.Prelude.{ℕ, Bool, true, false, ◌||◌, List, [], map, filter_map, is_some, slice_get, slice_set, Option, Some, None, option_map}
+use Rattle.std.specs.Prelude.{ℕ, Bool, true, false, ◌||◌, List, [], map, filter_map, is_some, slice_get, slice_set, Option, Some, None}
+use Rattle.std.specs.Prelude.{option_map}
 use Rattle.w2c_base.specs.declared.value.Value.TheVariants.{I32, I64}
 use Rattle.w2c_base.specs.Lookup.{if_found, named, with_named}
 use Rattle.w2c_base.specs.Run.{Trail, Reply}

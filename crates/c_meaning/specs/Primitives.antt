@@ -1,12 +1,14 @@
 -- The primitives of the runtime that units call (C11, 6.5.2.2 function calls). Where several
 -- undefined kinds hold of one call, the least is the one.
-use Rattle.std.specs.Prelude.{ℕ, ◌+◌, ◌*◌, ◌/◌, ◌==◌, ◌||◌, true, if◌then◌else◌, nat_lt, nat_le, min, List, [], ◌∷◌, ◌++◌, length, replicate, find, codes, slice_get, slice_set, Option, Some, None, option_map}
+use Rattle.std.specs.Prelude.{ℕ, ◌+◌, ◌*◌, ◌/◌, ◌==◌, ◌||◌, true, if◌then◌else◌, nat_lt, nat_le, min, List, [], ◌∷◌, ◌++◌, length}
+use Rattle.std.specs.Prelude.{replicate, find, codes, slice_get, slice_set, Option, Some, None, option_map}
 use Rattle.w2c_base.specs.declared.value.ValType.{ValType}
 use Rattle.w2c_base.specs.declared.value.ValType.TheVariants as type
 use Rattle.w2c_base.specs.declared.value.Value.{Value}
 use Rattle.w2c_base.specs.declared.value.Value.TheVariants.{I32, I64}
 use Rattle.w2c_base.specs.declared.trap.TrapKind.{TrapKind}
-use Rattle.w2c_base.specs.declared.trap.TrapKind.TheVariants.{Unreachable, MemoryOut, DivByZero, IntOverflow, TableOut, Empty, Signature, Exhaustion, ImportLimits, SegmentOut, HostTrap}
+use Rattle.w2c_base.specs.declared.trap.TrapKind.TheVariants.{Unreachable, MemoryOut, DivByZero, IntOverflow, TableOut, Empty, Signature}
+use Rattle.w2c_base.specs.declared.trap.TrapKind.TheVariants.{Exhaustion, ImportLimits, SegmentOut, HostTrap}
 use Rattle.w2c_base.specs.Trap.{code_of}
 use Rattle.w2c_base.specs.Values.{value, number_of, type_of, equal_type}
 use Rattle.w2c_base.specs.LittleEndian.{little_endian, low_bytes, bytes_at, with_bytes}

@@ -1,7 +1,8 @@
 -- One statement of the subset (C11, 6.5 expressions, 6.8 statements and blocks). The left operand
 -- is evaluated first, arguments from left to right, the right side of `*p = e` before p, and a
 -- pointer that is called is looked at after the arguments. Labels and declarations cost nothing.
-use Rattle.std.specs.Prelude.{ℕ, ◌-◌, ◌%◌, ◌^◌, ◌==◌, ◌&&◌, Bool, true, false, if◌then◌else◌, List, [], ◌∷◌, ◌++◌, length, filter_map, bytes_eq, codes, slice_get, is_some, Option, Some, None, option_map}
+use Rattle.std.specs.Prelude.{ℕ, ◌-◌, ◌%◌, ◌^◌, ◌==◌, ◌&&◌, Bool, true, false, if◌then◌else◌, List, [], ◌∷◌, ◌++◌, length, filter_map}
+use Rattle.std.specs.Prelude.{bytes_eq, codes, slice_get, is_some, Option, Some, None, option_map}
 use Rattle.std.specs.Option.{option_or}
 use Rattle.w2c_base.specs.declared.value.Value.{Value}
 use Rattle.w2c_base.specs.declared.value.Value.TheVariants.{I32, I64}
@@ -15,7 +16,9 @@ use Rattle.c_tree.specs.declared.tree.CType.TheVariants.{Void}
 use Rattle.c_tree.specs.declared.tree.Num.{Num}
 use Rattle.c_tree.specs.declared.tree.Num.TheVariants.{N32, N64, Plain}
 use Rattle.c_tree.specs.Tree as tree
-use Rattle.c_meaning.specs.State.{Name, FuncAddress, UnitFunc, HostFunc, ObjectAddress, CValue, Number, Pointer, FuncPointer, Vars, Machine, Running, Frame, State, Place, Stop, Trapped, Undefined, Asks, Stuck, Evaluated, Is, Bad, NoRule, then_evaluate, found, of_one_type}
+use Rattle.c_meaning.specs.State.{Name, FuncAddress, UnitFunc, HostFunc, ObjectAddress, CValue, Number, Pointer, FuncPointer, Vars, Machine}
+use Rattle.c_meaning.specs.State.{Running, Frame, State, Place, Stop, Trapped, Undefined, Asks, Stuck, Evaluated, Is, Bad, NoRule}
+use Rattle.c_meaning.specs.State.{then_evaluate, found, of_one_type}
 use Rattle.c_meaning.specs.Operators.{operate}
 use Rattle.c_tree.specs.Runtime.{same_type, same_func_type}
 use Rattle.c_meaning.specs.Linking.{Program, Definition, func_named, array_named, definition_at, host_type, func_type}

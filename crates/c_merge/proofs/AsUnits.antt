@@ -1,5 +1,7 @@
 -- The one unit that linked units become runs as they do.
-use Rattle.c_merge.proofs.Common.{◌≡◌, ℕ, List, [], ◌∷◌, slice_get, Some, None, sym, ap, ◌∙◌, subst, KeepsRules, Program, first_refusal, runs_same, calls_fit, c_symbols, AllChecked, IsProgramOf, HostSymbol, AreLinked, RunsAsUnits, as_one, merge_names, merged}
+use Rattle.c_merge.proofs.Common.{◌≡◌, ℕ, List, [], ◌∷◌, slice_get, Some, None, sym, ap, ◌∙◌, subst, KeepsRules, Program, first_refusal}
+use Rattle.c_merge.proofs.Common.{runs_same, calls_fit, c_symbols, AllChecked, IsProgramOf, HostSymbol, AreLinked, RunsAsUnits, as_one}
+use Rattle.c_merge.proofs.Common.{merge_names, merged}
 use Rattle.c_tree.specs.Tree as tree
 use Rattle.c_link.proofs.Linking.{link_of}
 use Rattle.c_merge.proofs.OneLinks.{found_same, one_links, one_renames, type_same}

@@ -1,31 +1,48 @@
 -- What proofs of this crate cite of std, of the crates below and of specs/, passed on from one place. Declares nothing.
-pub use Rattle.std.proofs.Common.{◌≡◌, ℕ, zero, suc, ◌+◌, ◌-◌, ◌^◌, ◌<◌, Bool, true, false, not, ◌&&◌, ◌||◌, ◌≢◌, List, [], ◌∷◌, ◌++◌, map, length, get_or, take, drop, is_some, if◌then◌else◌, nat_le, ◌==◌, slice_get, Some, None, codes, decimal, filter, Option, option_map, zip, flat_map, filter_map, bytes_eq, sym, refl, ap, ◌∙◌, subst, inl, inr, append_assoc, append-nil, arith}
-pub use Rattle.std.proofs.lemmas.Bool.{and_parts, both_ways, cases_order, false≢true, not-true, or_cases}
+pub use Rattle.std.proofs.Common.{◌≡◌, ℕ, zero, suc, ◌+◌, ◌-◌, ◌^◌, ◌<◌, Bool, true, false, not, ◌&&◌, ◌||◌, ◌≢◌, List, [], ◌∷◌, ◌++◌, map}
+pub use Rattle.std.proofs.Common.{length, get_or, take, drop, is_some, if◌then◌else◌, nat_le, ◌==◌, slice_get, Some, None, codes, decimal}
+pub use Rattle.std.proofs.Common.{filter, Option, option_map, zip, flat_map, filter_map, bytes_eq, sym, refl, ap, ◌∙◌, subst, inl, inr}
+pub use Rattle.std.proofs.Common.{append_assoc, append-nil, arith}
+pub use Rattle.std.proofs.lemmas.Bool.{and_parts, both_ways, cases_order, false≢true, not-true, or_cases, or_right}
 pub use Rattle.std.proofs.lemmas.List.{length-map, map-append}
 pub use Rattle.std.proofs.lemmas.Option.{same_Some}
 pub use Rattle.std.proofs.lemmas.Slice.Eq.{bytes_eq-Decides}
 pub use Rattle.std.specs.List.{AllByRecursion, cons_option, list_all, list_any, range_with_len}
 pub use Rattle.std.specs.Option.{option_or}
-pub use Rattle.w2c_base.proofs.Nothing.{append_none, flat_empty, map_none}
+pub use Rattle.w2c_base.proofs.Nothing.{append_none, flat_empty, map_none, none_first}
 pub use Rattle.w2c_base.proofs.NumberedLists.{numbered_at}
 pub use Rattle.w2c_base.proofs.Options.{is_some_map, or_assoc}
 pub use Rattle.w2c_base.proofs.Tests.{all_join, all_parts, by_test}
 pub use Rattle.w2c_base.specs.Lookup.{if_found, named, numbered}
 pub use Rattle.c_tree.specs.FirstBroken.{BrokenAt, KeepsRules, broken_in_body, broken_in_item, broken_in_stmt, broken_of, broken_rules}
-pub use Rattle.c_tree.specs.Rules.{AsArray, AsFunction, AsVariable, Use, are_alike, are_distinct, are_distinct_numbers, arg_has_type, arg_suits, arg_uses, args_suit, body_is_not_empty, body_variables, call_suits, callee_type, callee_uses, case_value, cases_are_distinct, cases_suit, defines, ends_body, expr_uses, file_name_is_free, first_values_suit, has_body, has_same_type, hides_none, if_any, is_defined_if_static, is_known, is_own_name, is_result_type, is_runtime_name, is_symbol, is_value_type, is_void, item_rules, label_is_free, label_of, labels_are_there, labels_named, labels_of, last_ends_body, local_names, locals_have_values, locals_suit, may_be_assigned, may_be_called, may_both_stand, number_suits, own_names_are_distinct, params_are_named, proper_params, proper_types, stmt_is_typed, stmt_rules, stmt_suits, stmt_uses, target_suits, target_uses, types_are_proper, written_type_is_proper}
-pub use Rattle.c_tree.specs.Runtime.{primitives, same_func_type, same_type, same_types}
-pub use Rattle.c_tree.specs.Scope.{HasType, IsElement, Scope, array_of, arrays, common_type, file_functions, file_variables, func_type_of, function_of, functions, is_among, is_comparison, is_number_type, is_object_type, local_variables, may_be_narrowed, name_of, name_typing, number_type, op_typing, param_variables, pointed_by, type_of, typed_if, typing_of, value_type, value_typing, variable_of, variables}
+pub use Rattle.c_tree.specs.Rules.{AsArray, AsFunction, AsVariable, Use, are_alike, are_distinct, are_distinct_numbers, arg_has_type}
+pub use Rattle.c_tree.specs.Rules.{arg_suits, arg_uses, args_suit, body_is_not_empty, body_variables, call_suits, callee_type, callee_uses}
+pub use Rattle.c_tree.specs.Rules.{case_value, cases_are_distinct, cases_suit, defines, ends_body, expr_uses, file_name_is_free}
+pub use Rattle.c_tree.specs.Rules.{first_values_suit, has_body, has_same_type, hides_none, if_any, is_defined_if_static, is_known}
+pub use Rattle.c_tree.specs.Rules.{is_own_name, is_result_type, is_runtime_name, is_symbol, is_value_type, is_void, item_rules}
+pub use Rattle.c_tree.specs.Rules.{label_is_free, label_of, labels_are_there, labels_named, labels_of, last_ends_body, local_names}
+pub use Rattle.c_tree.specs.Rules.{locals_have_values, locals_suit, may_be_assigned, may_be_called, may_both_stand, number_suits}
+pub use Rattle.c_tree.specs.Rules.{own_names_are_distinct, params_are_named, proper_params, proper_types, stmt_is_typed, stmt_rules}
+pub use Rattle.c_tree.specs.Rules.{stmt_suits, stmt_uses, target_suits, target_uses, types_are_proper, written_type_is_proper}
+pub use Rattle.c_tree.specs.Runtime.{primitives, same_func_type, same_type}
+pub use Rattle.c_tree.specs.Scope.{HasType, IsElement, Scope, array_of, arrays, common_type, file_functions, file_variables, func_type_of}
+pub use Rattle.c_tree.specs.Scope.{function_of, functions, is_among, is_comparison, is_number_type, is_object_type, local_variables}
+pub use Rattle.c_tree.specs.Scope.{may_be_narrowed, name_of, name_typing, number_type, op_typing, param_variables, pointed_by, type_of}
+pub use Rattle.c_tree.specs.Scope.{typed_if, typing_of, value_type, value_typing, variable_of, variables}
 pub use Rattle.c_tree.specs.Spelled.{FitsArg, FitsBody, FitsCallee, FitsExpr, FitsItem, FitsNum, FitsStmt, Formed, depth_limit}
 pub use Rattle.c_tree.specs.View.{arg_of, item_of, stmt_of, unit_of}
 pub use Rattle.c_tree.specs.declared.tree.CType.{CType}
 pub use Rattle.c_meaning.proofs.Lookups.{bytes_differ, bytes_equal}
-pub use Rattle.c_meaning.specs.Linking.{Definition, LinkRefusal, NotDefined, Program, Twice, TypeDiffers, defined, defined_for_all, definition_at, definitions, external_func, external_functions, first, first_refusal, func_type, is_external, link_refusal, symbols_of, twice, type_found, unresolved}
+pub use Rattle.c_meaning.specs.Linking.{Definition, LinkRefusal, NotDefined, Program, Twice, TypeDiffers, defined, defined_for_all}
+pub use Rattle.c_meaning.specs.Linking.{definition_at, definitions, external_func, external_functions, first, first_refusal, func_type}
+pub use Rattle.c_meaning.specs.Linking.{is_external, link_refusal, symbols_of, twice, type_found, unresolved}
 pub use Rattle.c_meaning.specs.State.{Name}
 pub use Rattle.c_meaning.specs.Step.{depth_name}
 pub use Rattle.c_sound.proofs.Choices.{by_option}
 pub use Rattle.c_sound.proofs.Defined.{any_from, defined_names, is_listed, passes_at, static_defined}
 pub use Rattle.c_sound.proofs.Kept.{free_names, stmt_kept}
-pub use Rattle.c_sound.proofs.Lists.{at_numbered, cons_not_none, first_there, flat_none, kept_at, kept_from, named_from, none_first, take_has, take_keeps}
+pub use Rattle.c_sound.proofs.Lists.{at_numbered, cons_not_none, first_there, flat_none, kept_at, kept_from, named_from, take_has}
+pub use Rattle.c_sound.proofs.Lists.{take_keeps}
 pub use Rattle.c_renaming.proofs.Bodies.{func_type_of-func}
 pub use Rattle.c_renaming.proofs.Each.{each-append, each_at, each_by}
 pub use Rattle.c_renaming.proofs.Merged.{merged_made, split}

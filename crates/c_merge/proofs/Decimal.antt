@@ -1,5 +1,6 @@
 -- Numbers of units in decimal, as the machine writes them, and the new names that are made of them.
-use Rattle.c_merge.proofs.Common.{◌≡◌, ℕ, zero, suc, ◌^◌, ◌<◌, [], ◌∷◌, ◌++◌, decimal, ap, ◌∙◌, append_assoc, arith, Name, decimal_text, name_in}
+use Rattle.c_merge.proofs.Common.{◌≡◌, ℕ, zero, suc, ◌^◌, ◌<◌, [], ◌∷◌, ◌++◌, decimal, ap, ◌∙◌, append_assoc, arith, Name, decimal_text}
+use Rattle.c_merge.proofs.Common.{name_in}
 use Rattle.std.proofs.lemmas.Fmt.{decimal_digit, decimal-digits_of}
 
 decimal_is : (n : ℕ) → n < 2 ^ 64 → decimal n ≡ decimal_text n

@@ -1,8 +1,14 @@
 -- Some text spells the one unit.
-use Rattle.c_merge.proofs.Common.{◌≡◌, ℕ, zero, suc, ◌+◌, ◌-◌, ◌<◌, Bool, true, false, not, ◌&&◌, ◌||◌, List, [], ◌∷◌, ◌++◌, map, if◌then◌else◌, ◌==◌, slice_get, Some, None, Option, option_map, bytes_eq, sym, refl, ap, ◌∙◌, subst, arith, and_parts, both_ways, false≢true, length-map, bytes_eq-Decides, AllByRecursion, list_all, list_any, all_join, by_test, FitsArg, FitsBody, FitsCallee, FitsExpr, FitsItem, FitsNum, FitsStmt, Formed, depth_limit, Program, Name, depth_name, decimal_text, is_outside, name_in, Renaming, merge_names, merged}
+use Rattle.c_merge.proofs.Common.{◌≡◌, ℕ, zero, suc, ◌+◌, ◌-◌, ◌<◌, Bool, true, false, not, ◌&&◌, ◌||◌, List, [], ◌∷◌, ◌++◌, map}
+use Rattle.c_merge.proofs.Common.{if◌then◌else◌, ◌==◌, slice_get, Some, None, Option, option_map, bytes_eq, sym, refl, ap, ◌∙◌, subst}
+use Rattle.c_merge.proofs.Common.{arith, and_parts, both_ways, false≢true, length-map, bytes_eq-Decides, AllByRecursion, list_all, list_any}
+use Rattle.c_merge.proofs.Common.{all_join, by_test, FitsArg, FitsBody, FitsCallee, FitsExpr, FitsItem, FitsNum, FitsStmt, Formed}
+use Rattle.c_merge.proofs.Common.{depth_limit, Program, Name, depth_name, decimal_text, is_outside, name_in, Renaming, merge_names, merged}
+use Rattle.c_merge.proofs.Common.{or_right}
 use Rattle.std.specs.Int.Digits.{digits_of, AllBelowBase}
 use Rattle.std.proofs.lemmas.Bool.Decides.{nat_tests}
 use Rattle.std.proofs.lemmas.Int.Digits.{all_below_base_digits_of}
+use Rattle.std.proofs.Math.Bool.{or-true}
 use Rattle.c_tree.specs.Tree as tree
 use Rattle.c_tree.specs.Tokens.{fixed_text}
 use Rattle.c_tree.specs.Text.{is_letter, is_word_byte, is_digit, key_words, other_words}
@@ -24,10 +30,6 @@ all_map P Q f give (x ∷ xs) all = (give x all.0, all_map P Q f give xs all.1)
 
 digit : (d : ℕ) → d < 10 → is_word_byte (48 + d) ≡ true
 digit d less = or_right (is_letter (48 + d)) (is_digit (48 + d)) (grind (arith, nat_tests))
-  where
-    or_right : (b c : Bool) → c ≡ true → (b || c) ≡ true
-    or_right true c e = refl
-    or_right false c e = e
 
 digits_words : (ds : List ℕ) → AllBelowBase 10 ds → list_all is_word_byte (map (λ d. 48 + d) ds) ≡ true
 digits_words [] all = refl
@@ -63,11 +65,7 @@ none_equal w near (v ∷ words) all =
 
 underscore : (ds : List ℕ) (x : Name) → list_any (λ c. c == 95) (ds ++ 95 ∷ x) ≡ true
 underscore [] x = refl
-underscore (d ∷ ds) x = ap (λ b. (d == 95) || b) (underscore ds x) ∙ go (d == 95)
-  where
-    go : (b : Bool) → (b || true) ≡ true
-    go true = refl
-    go false = refl
+underscore (d ∷ ds) x = ap (λ b. (d == 95) || b) (underscore ds x) ∙ or-true (d == 95)
 
 pub new_named : (u : ℕ) (x : Name) → IsName x → IsName (name_in u x)
 new_named u x is =
@@ -120,7 +118,6 @@ module _ (p : Program) (u : ℕ) where
 
   stmt_named : (s : tree.Stmt) → NamedStmt s → NamedStmt (renamed.stmt ρ u s)
   stmt_named (tree.Label n) is = new_named u n is
-  stmt_named tree.Null is = tt
   stmt_named (tree.Set n a) is = (var_named u n is.0, arg_named a is.1)
   stmt_named (tree.SetStar n e) is = (var_named u n is.0, expr_named e is.1)
   stmt_named (tree.Call n f args) is =
@@ -132,8 +129,8 @@ module _ (p : Program) (u : ℕ) where
     all_map (λ (c : tree.Case). IsName c.1) (λ (c : tree.Case). IsName c.1) (renamed.case ρ u) (λ c. new_named u c.1) cases is.1,
     new_named u n is.2,
   )
-  stmt_named tree.ReturnNone is = tt
   stmt_named (tree.Return a) is = arg_named a is
+  stmt_named _ is = tt
 
   body_named : (o : Option tree.Body) → NamedBody o → NamedBody (option_map (renamed.body ρ u) o)
   body_named None is = tt
@@ -166,8 +163,7 @@ module _ (p : Program) (u : ℕ) where
 
   arg_fits : (d : ℕ) (a : tree.Arg) → FitsArg d a → FitsArg d (renamed.arg ρ u a)
   arg_fits d (tree.Value e) is = expr_fits d e is
-  arg_fits d (tree.Address n) is = tt
-  arg_fits d (tree.OfFunction n) is = tt
+  arg_fits d _ is = tt
 
   callee_fits : (c : tree.Callee) → FitsCallee c → FitsCallee (renamed.callee ρ u c)
   callee_fits (tree.Called n) is = tt
@@ -185,10 +181,7 @@ module _ (p : Program) (u : ℕ) where
     all_map (λ (c : tree.Case). FitsNum c.0) (λ (c : tree.Case). FitsNum c.0) (renamed.case ρ u) (λ c fits. fits) cases is.1,
   )
   stmt_fits d (tree.Return a) is = arg_fits d a is
-  stmt_fits d (tree.Label n) is = tt
-  stmt_fits d tree.Null is = tt
-  stmt_fits d (tree.Goto n) is = tt
-  stmt_fits d tree.ReturnNone is = tt
+  stmt_fits d _ is = tt
 
   body_fits : (d : ℕ) (o : Option tree.Body) → FitsBody d o → FitsBody d (option_map (renamed.body ρ u) o)
   body_fits d None is = tt
@@ -198,9 +191,8 @@ module _ (p : Program) (u : ℕ) where
   )
 
   item_fits : (d : ℕ) (i : tree.Item) → FitsItem d i → FitsItem d (renamed.item ρ u i)
-  item_fits d (tree.Array n count bytes) is = is
-  item_fits d (tree.Var t n v) is = is
   item_fits d (tree.Function f) is = (subst (λ k. 0 < k) (sym (length-map f.params (renamed.param ρ u))) is.0, body_fits d f.body is.1)
+  item_fits d _ is = is
 
 -- units that texts spell become one that some text spells
 pub one_formed : (p : Program) → ((u : ℕ) (items : List tree.Item) → slice_get p.units u ≡ Some items → Formed items)

@@ -1,5 +1,7 @@
 -- The items of units, unit by unit.
-use Rattle.c_merge.proofs.Common.{◌≡◌, ℕ, zero, suc, ◌+◌, ◌<◌, List, [], ◌∷◌, ◌++◌, map, length, get_or, take, slice_get, Some, sym, refl, ap, ◌∙◌, append_assoc, append-nil, arith, length-map, map-append, joined, Renaming}
+use Rattle.c_merge.proofs.Common.{◌≡◌, ℕ, zero, suc, ◌+◌, ◌<◌, List, [], ◌∷◌, ◌++◌, map, length, get_or, take, slice_get, Some, sym, ap}
+use Rattle.c_merge.proofs.Common.{◌∙◌, append_assoc, append-nil, arith, length-map, map-append, joined, Renaming}
+use Rattle.std.proofs.Math.Seq.{take-length}
 use Rattle.c_tree.specs.Tree as tree
 use Rattle.c_renaming.specs.Renamed as renamed
 
@@ -28,15 +30,11 @@ units_next ρ k units items old new at put before =
     ∙ sym (joined_next ρ 0 k units items at)
     ∙ ap (λ n. joined ρ 0 (take n units)) one
 
-take_all : {A : Type 0} (xs : List A) → take (length xs) xs ≡ xs
-take_all [] = refl
-take_all (x ∷ xs) = ap (λ l. x ∷ l) (take_all xs)
-
 -- all of them
 pub units_all : {A : Type 0} (ρ : Renaming) (f : A → List tree.Item) (k : ℕ) (units : List A) (all : List tree.Item) → k ≡ length units
     → all ≡ joined ρ 0 (take k (map f units)) → all ≡ joined ρ 0 (map f units)
 units_all ρ f k units all end before =
-    before ∙ ap (λ n. joined ρ 0 (take n (map f units))) (end ∙ sym (length-map units f)) ∙ ap (joined ρ 0) (take_all (map f units))
+    before ∙ ap (λ n. joined ρ 0 (take n (map f units))) (end ∙ sym (length-map units f)) ∙ ap (joined ρ 0) (take-length (map f units))
 
 -- ---- lists that a loop makes
 

@@ -1,19 +1,20 @@
+-- What the crate's own proofs cite.
 mod Common
-pub mod AsUnits
-pub mod Decimal
-pub mod Formed
-pub mod Joined
-pub mod Linked
-pub mod NewFunctions
-pub mod NewItems
-pub mod NewNames
-pub mod NewScope
-pub mod NewStatements
-pub mod OneLinks
-pub mod OneUnit
-pub mod Places
-pub mod Result
-pub mod Rules
-pub mod SameNames
-pub mod Together
-pub mod Units
+mod AsUnits
+mod Decimal
+mod Formed
+mod Joined
+mod Linked
+mod NewFunctions
+mod NewItems
+mod NewNames
+mod NewScope
+mod NewStatements
+mod OneLinks
+mod OneUnit
+mod Places
+mod Result
+mod Rules
+mod SameNames
+mod Together
+mod Units

@@ -1,7 +1,12 @@
 -- Units that link fit together, whatever symbols the hosts have.
-use Rattle.c_merge.proofs.Common.{◌≡◌, ℕ, zero, suc, ◌<◌, Bool, true, false, not, ◌&&◌, List, [], ◌∷◌, take, is_some, if◌then◌else◌, slice_get, Some, None, Option, option_map, flat_map, filter_map, sym, refl, ap, ◌∙◌, subst, false≢true, same_Some, cons_option, option_or, numbered_at, by_test, named, numbered, KeepsRules, same_func_type, func_type_of, Definition, LinkRefusal, NotDefined, Program, Twice, TypeDiffers, defined_for_all, external_functions, first, first_refusal, symbols_of, twice, type_found, unresolved, Name, by_option, cons_not_none, flat_none, kept_at, none_first, take_has, signature_of, AreLinked}
+use Rattle.c_merge.proofs.Common.{◌≡◌, ℕ, zero, suc, ◌<◌, Bool, true, false, not, ◌&&◌, List, [], ◌∷◌, take, is_some, if◌then◌else◌}
+use Rattle.c_merge.proofs.Common.{slice_get, Some, None, Option, option_map, flat_map, filter_map, sym, refl, ap, ◌∙◌, subst, false≢true}
+use Rattle.c_merge.proofs.Common.{same_Some, cons_option, option_or, numbered_at, by_test, named, numbered, KeepsRules, same_func_type}
+use Rattle.c_merge.proofs.Common.{func_type_of, Definition, LinkRefusal, NotDefined, Program, Twice, TypeDiffers, defined_for_all}
+use Rattle.c_merge.proofs.Common.{external_functions, first, first_refusal, symbols_of, twice, type_found, unresolved, Name, by_option}
+use Rattle.c_merge.proofs.Common.{cons_not_none, flat_none, kept_at, none_first, take_has, signature_of, AreLinked}
 use Rattle.c_tree.specs.Tree as tree
-use Rattle.c_sound.proofs.SameTypes.{func_types_same}
+use Rattle.c_tree.proofs.SameTypes.{func_types_same}
 use Rattle.c_link.specs.Refusals.{first_twice, first_unresolved}
 use Rattle.c_link.proofs.Apart.{both_none}
 use Rattle.c_merge.proofs.Together.{FitTogether, Shows}

@@ -1,10 +1,18 @@
 -- The rules on types, first values, static functions, names of a function's own and bodies, for an item of the one unit.
-use Rattle.c_merge.proofs.Common.{◌≡◌, ℕ, zero, suc, ◌+◌, true, not, ◌&&◌, ◌||◌, ◌≢◌, List, [], ◌∷◌, ◌++◌, map, length, take, drop, is_some, nat_le, slice_get, Some, None, Option, option_map, bytes_eq, sym, refl, ap, ◌∙◌, subst, inl, inr, arith, and_parts, both_ways, cases_order, false≢true, length-map, bytes_eq-Decides, list_all, list_any, is_some_map, by_test, are_distinct, body_is_not_empty, defines, file_name_is_free, first_values_suit, hides_none, if_any, is_defined_if_static, is_own_name, is_result_type, is_value_type, item_rules, local_names, locals_have_values, locals_suit, number_suits, own_names_are_distinct, params_are_named, proper_params, types_are_proper, is_among, name_of, CType, bytes_equal, Program, Name, any_from, free_names, split, Each, joined, is_outside, Renaming, merge_names, merged}
+use Rattle.c_merge.proofs.Common.{◌≡◌, ℕ, zero, suc, ◌+◌, true, not, ◌&&◌, ◌||◌, ◌≢◌, List, [], ◌∷◌, ◌++◌, map, length, take, drop, is_some}
+use Rattle.c_merge.proofs.Common.{nat_le, slice_get, Some, None, Option, option_map, bytes_eq, sym, refl, ap, ◌∙◌, subst, inl, inr, arith}
+use Rattle.c_merge.proofs.Common.{and_parts, both_ways, cases_order, false≢true, length-map, bytes_eq-Decides, list_all, list_any}
+use Rattle.c_merge.proofs.Common.{is_some_map, by_test, are_distinct, body_is_not_empty, defines, file_name_is_free, first_values_suit}
+use Rattle.c_merge.proofs.Common.{hides_none, if_any, is_defined_if_static, is_own_name, is_result_type, is_value_type, item_rules}
+use Rattle.c_merge.proofs.Common.{local_names, locals_have_values, locals_suit, number_suits, own_names_are_distinct, params_are_named}
+use Rattle.c_merge.proofs.Common.{proper_params, types_are_proper, is_among, name_of, CType, bytes_equal, Program, Name, any_from}
+use Rattle.c_merge.proofs.Common.{free_names, split, Each, joined, is_outside, Renaming, merge_names, merged}
+use Rattle.std.proofs.Math.Bool.{and-false}
 use Rattle.c_tree.specs.declared.tree.CType.TheVariants as type
 use Rattle.c_tree.specs.Tree as tree
 use Rattle.c_renaming.specs.Renamed as renamed
 use Rattle.c_merge.proofs.Together.{FitTogether}
-use Rattle.c_merge.proofs.NewItems.{any_map, any_behind, any_front, and_false, declared_once, name_free, own_names, locals_free, stands_by}
+use Rattle.c_merge.proofs.NewItems.{any_map, any_behind, any_front, declared_once, name_free, own_names, locals_free, stands_by}
 use Rattle.c_merge.proofs.NewNames.{new, new_var, own_new, own_var, SameNew, new_same, new_keeps, item_name, among_map}
 use Rattle.c_merge.proofs.NewStatements.{all_map, or_gives}
 use Rattle.c_merge.proofs.Places.{Before, Placed, from_map, placed_at}
@@ -24,25 +32,11 @@ module _ (p : Program) (are : FitTogether p.units) (u : ℕ) (items : List tree.
   params_proper ((type.Void, None) ∷ []) = refl
   params_proper ((type.Void, Some n) ∷ []) = refl
   params_proper ((type.U32, n) ∷ []) = refl
-  params_proper ((type.U64, n) ∷ []) = refl
-  params_proper ((type.PtrU32, n) ∷ []) = refl
-  params_proper ((type.PtrU64, n) ∷ []) = refl
-  params_proper ((type.Mem, n) ∷ []) = refl
-  params_proper ((type.PtrMem, n) ∷ []) = refl
-  params_proper ((type.Tab, n) ∷ []) = refl
-  params_proper ((type.PtrTab, n) ∷ []) = refl
-  params_proper ((type.FnPtr, n) ∷ []) = refl
+  params_proper ((_, n) ∷ []) = refl
   params_proper ((type.Void, None) ∷ r ∷ params) = refl
   params_proper ((type.Void, Some n) ∷ r ∷ params) = refl
   params_proper ((type.U32, n) ∷ r ∷ params) = refl
-  params_proper ((type.U64, n) ∷ r ∷ params) = refl
-  params_proper ((type.PtrU32, n) ∷ r ∷ params) = refl
-  params_proper ((type.PtrU64, n) ∷ r ∷ params) = refl
-  params_proper ((type.Mem, n) ∷ r ∷ params) = refl
-  params_proper ((type.PtrMem, n) ∷ r ∷ params) = refl
-  params_proper ((type.Tab, n) ∷ r ∷ params) = refl
-  params_proper ((type.PtrTab, n) ∷ r ∷ params) = refl
-  params_proper ((type.FnPtr, n) ∷ r ∷ params) = refl
+  params_proper ((_, n) ∷ r ∷ params) = refl
 
   values_same : (locals : List tree.Local)
       → list_all (λ (v : Name × CType). is_value_type v.1) (map (λ (l : tree.Local). (l.1, l.0)) (map (renamed.local ρ u) locals))
@@ -57,13 +51,12 @@ module _ (p : Program) (are : FitTogether p.units) (u : ℕ) (items : List tree.
   types_same : (unit unit' : List tree.Item) (k i : ℕ) (item : tree.Item)
       → types_are_proper (record { unit = unit'; number = k; item = renamed.item ρ u item })
       ≡ types_are_proper (record { unit = unit; number = i; item = item })
-  types_same unit unit' k i (tree.Array n count bytes) = refl
-  types_same unit unit' k i (tree.Var t n number) = refl
   types_same unit unit' k i (tree.Function f) = λ j.
       (is_result_type f.result && (ap (list_all (λ (q : tree.Param). is_value_type q.0)) (params_proper f.params)
       ∙ all_map (renamed.param ρ u) (λ (q : tree.Param). is_value_type q.0) (λ (q : tree.Param). is_value_type q.0) (λ q. refl)
       (proper_params f.params)) j)
       && locals_same f.body j
+  types_same unit unit' k i _ = refl
 
   suits_same : (o : Option tree.Body) → locals_suit (option_map (renamed.body ρ u) o) ≡ locals_suit o
   suits_same None = refl
@@ -73,27 +66,25 @@ module _ (p : Program) (are : FitTogether p.units) (u : ℕ) (items : List tree.
   first_same : (unit unit' : List tree.Item) (k i : ℕ) (item : tree.Item)
       → first_values_suit (record { unit = unit'; number = k; item = renamed.item ρ u item })
       ≡ first_values_suit (record { unit = unit; number = i; item = item })
-  first_same unit unit' k i (tree.Array n count bytes) = refl
-  first_same unit unit' k i (tree.Var t n number) = refl
   first_same unit unit' k i (tree.Function f) = suits_same f.body
+  first_same unit unit' k i _ = refl
 
   filled_same : (unit unit' : List tree.Item) (k i : ℕ) (item : tree.Item)
       → body_is_not_empty (record { unit = unit'; number = k; item = renamed.item ρ u item })
       ≡ body_is_not_empty (record { unit = unit; number = i; item = item })
-  filled_same unit unit' k i (tree.Array n count bytes) = refl
-  filled_same unit unit' k i (tree.Var t n number) = refl
   filled_same unit unit' k i (tree.Function f) = go f.body
     where
       go : (o : Option tree.Body)
           → if_any (option_map (renamed.body ρ u) o) (λ b. nat_le 1 (length b.stmts)) ≡ if_any o (λ b. nat_le 1 (length b.stmts))
       go None = refl
       go (Some b) = ap (nat_le 1) (length-map b.stmts (renamed.stmt ρ u))
+  filled_same unit unit' k i _ = refl
 
   -- ---- rule 5
 
   defines_same : (n : Name) (item : tree.Item) → defines (new u n) (renamed.item ρ u item) ≡ defines n item
-  defines_same n (tree.Array x count bytes) = and_false (bytes_eq (new_var u x) (new u n)) ∙ sym (and_false (bytes_eq x n))
-  defines_same n (tree.Var t x number) = and_false (bytes_eq (new_var u x) (new u n)) ∙ sym (and_false (bytes_eq x n))
+  defines_same n (tree.Array x count bytes) = and-false (bytes_eq (new_var u x) (new u n)) ∙ sym (and-false (bytes_eq x n))
+  defines_same n (tree.Var t x number) = and-false (bytes_eq (new_var u x) (new u n)) ∙ sym (and-false (bytes_eq x n))
   defines_same n (tree.Function f) = λ i. new_keeps u f.name n i && is_some_map (renamed.body ρ u) f.body i
 
   defined_there : (n : Name) → list_any (defines n) items ≡ true → list_any (defines (new u n)) (merged p.units) ≡ true
@@ -109,10 +100,9 @@ module _ (p : Program) (are : FitTogether p.units) (u : ℕ) (items : List tree.
 
   static_defined : (k i : ℕ) (item : tree.Item) → is_defined_if_static (record { unit = items; number = i; item = item }) ≡ true
       → is_defined_if_static (record { unit = merged p.units; number = k; item = renamed.item ρ u item }) ≡ true
-  static_defined k i (tree.Array n count bytes) is = refl
-  static_defined k i (tree.Var t n number) is = refl
   static_defined k i (tree.Function f) is = or_gives (not f.is_static) (list_any (defines f.name) items)
       (list_any (defines (new u f.name)) (merged p.units)) is (defined_there f.name)
+  static_defined k i _ is = refl
 
   -- ---- rule 6
 
@@ -192,8 +182,6 @@ module _ (p : Program) (are : FitTogether p.units) (u : ℕ) (items : List tree.
   names_distinct : (k i : ℕ) (item : tree.Item) → list_all is_own_name (local_names item) ≡ true
       → own_names_are_distinct (record { unit = items; number = i; item = item }) ≡ true
       → own_names_are_distinct (record { unit = merged p.units; number = k; item = renamed.item ρ u item }) ≡ true
-  names_distinct k i (tree.Array n count bytes) own is = refl
-  names_distinct k i (tree.Var t n number) own is = refl
   names_distinct k i (tree.Function f) own is =
       let names = local_names (tree.Function f) in
       let parts = and_parts (params_are_named f) (are_distinct names && hides_none items names) is in
@@ -202,6 +190,7 @@ module _ (p : Program) (are : FitTogether p.units) (u : ℕ) (items : List tree.
       λ j. (named_same f ∙ parts.0) j
       && ((ap are_distinct new_ones ∙ distinct_same names ∙ both.0) j
       && (ap (hides_none (merged p.units)) new_ones ∙ hidden_none names own both.1) j)
+  names_distinct k i _ own is = refl
 
   -- ---- all of them
 

@@ -1,7 +1,14 @@
 -- An item of the one unit keeps the rules that it kept in its own unit.
-use Rattle.c_merge.proofs.Common.{◌≡◌, ℕ, suc, ◌<◌, Bool, true, false, not, ◌&&◌, ◌||◌, ◌≢◌, List, [], ◌∷◌, ◌++◌, map, take, is_some, if◌then◌else◌, slice_get, Some, None, Option, option_map, filter_map, bytes_eq, sym, refl, ap, ◌∙◌, arith, and_parts, both_ways, false≢true, not-true, map-append, bytes_eq-Decides, list_all, list_any, is_some_map, all_join, by_test, KeepsRules, are_alike, body_variables, file_name_is_free, has_body, is_own_name, is_symbol, local_names, may_both_stand, same_func_type, same_type, same_types, func_type_of, local_variables, name_of, param_variables, CType, Program, Name, by_option, passes_at, free_names, take_keeps, func_type_of-func, each_at, Each, is_outside, Renaming, merge_names}
-use Rattle.c_tree.specs.declared.tree.CType.TheVariants as type
+use Rattle.c_merge.proofs.Common.{◌≡◌, ℕ, suc, ◌<◌, Bool, true, false, not, ◌&&◌, ◌||◌, ◌≢◌, List, [], ◌∷◌, ◌++◌, map, take, is_some}
+use Rattle.c_merge.proofs.Common.{if◌then◌else◌, slice_get, Some, None, Option, option_map, filter_map, bytes_eq, sym, refl, ap, ◌∙◌, arith}
+use Rattle.c_merge.proofs.Common.{and_parts, both_ways, false≢true, not-true, map-append, bytes_eq-Decides, list_all, list_any, is_some_map}
+use Rattle.c_merge.proofs.Common.{all_join, by_test, KeepsRules, are_alike, body_variables, file_name_is_free, has_body, is_own_name}
+use Rattle.c_merge.proofs.Common.{is_symbol, local_names, may_both_stand, same_func_type, func_type_of, local_variables, name_of}
+use Rattle.c_merge.proofs.Common.{param_variables, CType, Program, Name, by_option, passes_at, free_names, take_keeps, func_type_of-func}
+use Rattle.c_merge.proofs.Common.{each_at, Each, is_outside, Renaming, merge_names}
+use Rattle.std.proofs.Math.Bool.{or-true, and-false}
 use Rattle.c_tree.specs.Tree as tree
+use Rattle.c_tree.proofs.SameTypes.{same_as_itself, same_as_themselves}
 use Rattle.c_renaming.specs.Renamed as renamed
 use Rattle.c_merge.proofs.Together.{FitTogether}
 use Rattle.c_merge.proofs.NewNames.{new, new_var, outside_stays, own_new, own_var, SameNew, new_same, new_keeps, item_name, one_type}
@@ -23,11 +30,7 @@ any_map f test test' same (x ∷ xs) = λ i. same x i || any_map f test test' sa
 
 pub any_behind : {A : Type 0} (test : A → Bool) (xs ys : List A) → list_any test ys ≡ true → list_any test (xs ++ ys) ≡ true
 any_behind test [] ys is = is
-any_behind test (x ∷ xs) ys is = ap (λ b. test x || b) (any_behind test xs ys is) ∙ go (test x)
-  where
-    go : (b : Bool) → (b || true) ≡ true
-    go true = refl
-    go false = refl
+any_behind test (x ∷ xs) ys is = ap (λ b. test x || b) (any_behind test xs ys is) ∙ or-true (test x)
 
 pub any_front : {A : Type 0} (test : A → Bool) (xs ys : List A) → list_any test xs ≡ true → list_any test (xs ++ ys) ≡ true
 any_front test [] ys is = absurd (false≢true is)
@@ -38,30 +41,10 @@ any_front test (x ∷ xs) ys is = go (test x) is (any_front test xs ys)
     go true is behind = refl
     go false is behind = behind is
 
-pub and_false : (b : Bool) → (b && false) ≡ false
-and_false true = refl
-and_false false = refl
-
 -- ---- types are equal to themselves
 
-type_equal : (t : CType) → same_type t t ≡ true
-type_equal type.U32 = refl
-type_equal type.U64 = refl
-type_equal type.PtrU32 = refl
-type_equal type.PtrU64 = refl
-type_equal type.PtrMem = refl
-type_equal type.PtrTab = refl
-type_equal type.FnPtr = refl
-type_equal type.Void = refl
-type_equal type.Mem = refl
-type_equal type.Tab = refl
-
-types_equal : (ts : List CType) → same_types ts ts ≡ true
-types_equal [] = refl
-types_equal (t ∷ ts) = λ i. type_equal t i && types_equal ts i
-
 func_types_equal : (f : tree.FuncType) → same_func_type f f ≡ true
-func_types_equal f = λ i. types_equal f.params i && type_equal f.result i
+func_types_equal f = λ i. same_as_themselves f.params i && same_as_itself f.result i
 
 module _ (p : Program) (are : FitTogether p.units) (u : ℕ) (items : List tree.Item) (at_u : slice_get p.units u ≡ Some items) where
   abbrev ρ : Renaming
@@ -73,9 +56,8 @@ module _ (p : Program) (are : FitTogether p.units) (u : ℕ) (items : List tree.
   -- ---- rule 1
 
   body_same : (item : tree.Item) → has_body (renamed.item ρ u item) ≡ has_body item
-  body_same (tree.Array n count bytes) = refl
-  body_same (tree.Var t n number) = refl
   body_same (tree.Function f) = is_some_map (renamed.body ρ u) f.body
+  body_same _ = refl
 
   alike_same : (a c : tree.Item) → are_alike (renamed.item ρ u a) (renamed.item ρ u c) ≡ are_alike a c
   alike_same (tree.Function f) (tree.Function g) = go f.is_static g.is_static
@@ -132,7 +114,7 @@ module _ (p : Program) (are : FitTogether p.units) (u : ℕ) (items : List tree.
       one_body = (λ i. is_some_map (renamed.body ρ w) g.body i && is_some_map (renamed.body ρ u) f.body i) ∙ by_option g.body
           (λ none. ap (λ o. is_some o && is_some f.body) none)
           (λ b is. by_option f.body
-          (λ none. ap (λ o. is_some g.body && is_some o) none ∙ and_false (is_some g.body))
+          (λ none. ap (λ o. is_some g.body && is_some o) none ∙ and-false (is_some g.body))
           (λ c is'. absurd (defined_once p are u w f.name differ outside
           (record { items = items; there = at_u; item = j; func = f; body = c; at = at_j; body_is = is'; name_is = refl })
           (record { items = others; there = there; item = k; func = g; body = b; at = at_k; body_is = is; name_is = same }))))
@@ -244,8 +226,6 @@ module _ (p : Program) (are : FitTogether p.units) (u : ℕ) (items : List tree.
   locals_names (l ∷ locals) = ap (λ rest. new_var u l.1 ∷ rest) (locals_names locals)
 
   pub own_names : (item : tree.Item) → local_names (renamed.item ρ u item) ≡ map (new_var u) (local_names item)
-  own_names (tree.Array n count bytes) = refl
-  own_names (tree.Var t n number) = refl
   own_names (tree.Function f) = go f.body
     where
       here : Option tree.Body → tree.Func
@@ -267,6 +247,7 @@ module _ (p : Program) (are : FitTogether p.units) (u : ℕ) (items : List tree.
           ∙ (λ i. params_names f.params i ++ locals_names b.locals i)
           ∙ sym (map-append (new_var u) (map first_name (param_variables f)) (map first_name (local_variables b)))
           ∙ ap (map (new_var u)) (sym (map-append first_name (param_variables f) (local_variables b)))
+  own_names _ = refl
 
   pub locals_free : (names : List Name) → list_all is_own_name names ≡ true → list_all is_own_name (map (new_var u) names) ≡ true
   locals_free names is = all_gives (new_var u) is_own_name is_own_name (λ n own. ap is_own_name (own_var u n own)) names is

@@ -1,5 +1,8 @@
 -- The names that the one unit declares, by those of its units.
-use Rattle.c_merge.proofs.Common.{◌≡◌, ℕ, true, false, not, ◌||◌, ◌≢◌, List, [], ◌∷◌, map, if◌then◌else◌, slice_get, Some, option_map, bytes_eq, sym, refl, ap, ◌∙◌, subst, both_ways, not-true, bytes_eq-Decides, by_test, file_name_is_free, is_own_name, func_type_of, function_of, is_among, name_of, variable_of, bytes_differ, bytes_equal, Program, Name, depth_name, func_type_of-func, is_outside, name_in, Renaming, merge_names}
+use Rattle.c_merge.proofs.Common.{◌≡◌, ℕ, true, false, not, ◌||◌, ◌≢◌, List, [], ◌∷◌, map, if◌then◌else◌, slice_get, Some, option_map}
+use Rattle.c_merge.proofs.Common.{bytes_eq, sym, refl, ap, ◌∙◌, subst, both_ways, not-true, bytes_eq-Decides, by_test, file_name_is_free}
+use Rattle.c_merge.proofs.Common.{is_own_name, func_type_of, function_of, is_among, name_of, variable_of, bytes_differ, bytes_equal}
+use Rattle.c_merge.proofs.Common.{Program, Name, depth_name, func_type_of-func, is_outside, name_in, Renaming, merge_names}
 use Rattle.c_tree.specs.Tree as tree
 use Rattle.c_renaming.specs.Renamed as renamed
 use Rattle.c_renaming.proofs.NewNames.{new_names}
@@ -85,14 +88,12 @@ module _ (p : Program) where
   pub variable_item : (u : ℕ) (item : tree.Item)
       → variable_of (renamed.item ρ u item) ≡ option_map (λ e. (new_var u e.0, e.1)) (variable_of item)
   variable_item u (tree.Array n count bytes) = refl
-  variable_item u (tree.Var t n number) = refl
-  variable_item u (tree.Function f) = refl
+  variable_item u _ = refl
 
   pub function_item : (u : ℕ) (item : tree.Item)
       → function_of (renamed.item ρ u item) ≡ option_map (λ e. (new u e.0, e.1)) (function_of item)
-  function_item u (tree.Array n count bytes) = refl
-  function_item u (tree.Var t n number) = refl
   function_item u (tree.Function f) = ap (λ t. Some (new u f.name, t)) (func_type_of-func ρ u f)
+  function_item u _ = refl
 
 -- ---- functions of one name have one type
 

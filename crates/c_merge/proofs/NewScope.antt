@@ -1,5 +1,12 @@
 -- What names stand for in the scope of a function of the one unit, and the types of expressions there.
-use Rattle.c_merge.proofs.Common.{◌≡◌, ℕ, ◌<◌, Bool, true, false, ◌||◌, ◌≢◌, List, [], ◌∷◌, ◌++◌, map, take, is_some, if◌then◌else◌, slice_get, Some, None, Option, option_map, filter_map, bytes_eq, sym, refl, ap, ◌∙◌, subst, arith, both_ways, same_Some, bytes_eq-Decides, cons_option, option_or, or_assoc, by_test, if_found, named, primitives, HasType, IsElement, Scope, array_of, arrays, common_type, file_functions, file_variables, func_type_of, function_of, functions, is_among, local_variables, may_be_narrowed, name_typing, number_type, op_typing, param_variables, pointed_by, typed_if, typing_of, value_typing, variable_of, variables, CType, Program, Name, depth_name, by_option, free_names, named_from, take_keeps, each_at, merging_names, Each, is_outside, name_in, Renaming, may_name, merge_names}
+use Rattle.c_merge.proofs.Common.{◌≡◌, ℕ, ◌<◌, Bool, true, false, ◌||◌, ◌≢◌, List, [], ◌∷◌, ◌++◌, map, take, is_some, if◌then◌else◌}
+use Rattle.c_merge.proofs.Common.{slice_get, Some, None, Option, option_map, filter_map, bytes_eq, sym, refl, ap, ◌∙◌, subst, arith}
+use Rattle.c_merge.proofs.Common.{both_ways, same_Some, bytes_eq-Decides, cons_option, option_or, or_assoc, by_test, if_found, named}
+use Rattle.c_merge.proofs.Common.{primitives, HasType, IsElement, Scope, array_of, arrays, common_type, file_functions, file_variables}
+use Rattle.c_merge.proofs.Common.{func_type_of, function_of, functions, is_among, local_variables, may_be_narrowed, name_typing}
+use Rattle.c_merge.proofs.Common.{number_type, op_typing, param_variables, pointed_by, typed_if, typing_of, value_typing, variable_of}
+use Rattle.c_merge.proofs.Common.{variables, CType, Program, Name, depth_name, by_option, free_names, named_from, take_keeps, each_at}
+use Rattle.c_merge.proofs.Common.{merging_names, Each, is_outside, name_in, Renaming, may_name, merge_names}
 use Rattle.std.proofs.lemmas.List.Elements.{filter_map-append}
 use Rattle.c_tree.specs.declared.tree.CType.TheVariants as type
 use Rattle.c_tree.specs.Tree as tree
@@ -7,7 +14,8 @@ use Rattle.c_renaming.specs.Renamed as renamed
 use Rattle.c_renaming.proofs.Begins.{named-append}
 use Rattle.c_renaming.proofs.NewNames.{new_names}
 use Rattle.c_merge.proofs.Together.{FitTogether}
-use Rattle.c_merge.proofs.NewNames.{new, new_var, outside_stays, inside_new, var_apart, new_same, new_keeps, variable_item, function_item, one_type, among_map}
+use Rattle.c_merge.proofs.NewNames.{new, new_var, outside_stays, inside_new, var_apart, new_same, new_keeps, variable_item, function_item}
+use Rattle.c_merge.proofs.NewNames.{one_type, among_map}
 use Rattle.c_merge.proofs.Places.{Before}
 use Rattle.c_merge.proofs.Units.{func_not_runtime, variable_free, runtime_reserved}
 
@@ -89,8 +97,7 @@ module _ (p : Program) (are : FitTogether p.units) (u : ℕ) (items : List tree.
           (λ yes_. absurd (both_ways (bytes_eq (new_var b.unit x) (new_var u n)) apart
           ((bytes_eq-Decides (new_var b.unit x) (new_var u n)).1 (same ∙ sym ((bytes_eq-Decides (new_var u n) m).0 yes_)))))
           (λ no_. no_)
-      go (tree.Var t x number) at is = absurd (no_some is)
-      go (tree.Function f) at is = absurd (no_some is)
+      go _ at is = absurd (no_some is)
 
   arrays_other : (n : Name) (others : List tree.Item) → Front others → is_among (new_var u n) (filter_map array_of others) ≡ false
   arrays_other n [] front = refl
@@ -123,8 +130,6 @@ module _ (p : Program) (are : FitTogether p.units) (u : ℕ) (items : List tree.
         where
           go : (item : tree.Item) → slice_get b.from.items b.from.number ≡ Some item
               → option_map {U = Name × tree.FuncType} (λ e. (new b.unit e.0, e.1)) (function_of item) ≡ Some (new u n, t) → Other n t
-          go (tree.Array x count bytes) at is = absurd (no_some is)
-          go (tree.Var ty x number) at is = absurd (no_some is)
           go (tree.Function f) at is =
               let same : (new b.unit f.name, func_type_of f)
               ≡ (new u n, t) = same_Some (new b.unit f.name, func_type_of f) (new u n, t) is in
@@ -140,6 +145,7 @@ module _ (p : Program) (are : FitTogether p.units) (u : ℕ) (items : List tree.
                 type_is = ap (λ (z : Name × tree.FuncType). z.1) same;
                 outside = name.outside;
               }
+          go _ at is = absurd (no_some is)
 
   -- ---- a function's scope
 
@@ -215,8 +221,7 @@ module _ (p : Program) (are : FitTogether p.units) (u : ℕ) (items : List tree.
 
     array_item : (item : tree.Item) → array_of (renamed.item ρ u item) ≡ option_map (new_var u) (array_of item)
     array_item (tree.Array n count bytes) = refl
-    array_item (tree.Var t n number) = refl
-    array_item (tree.Function f) = refl
+    array_item _ = refl
 
     pub arrays_same : (n : Name) → is_among (new_var u n) (arrays now) ≡ is_among n (arrays old)
     arrays_same n =

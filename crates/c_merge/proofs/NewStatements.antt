@@ -1,12 +1,23 @@
 -- A statement of the one unit keeps the rules that it kept in its own unit.
-use Rattle.c_merge.proofs.Common.{◌≡◌, ℕ, ◌-◌, Bool, true, false, not, ◌&&◌, ◌||◌, List, [], ◌∷◌, ◌++◌, map, length, take, is_some, ◌==◌, slice_get, Some, None, codes, Option, option_map, flat_map, bytes_eq, sym, refl, ap, ◌∙◌, and_parts, false≢true, length-map, map-append, bytes_eq-Decides, list_all, all_parts, if_found, named, AsArray, AsFunction, AsVariable, Use, are_distinct_numbers, arg_has_type, arg_suits, arg_uses, args_suit, call_suits, callee_type, callee_uses, case_value, cases_are_distinct, cases_suit, ends_body, expr_uses, has_same_type, if_any, is_known, is_void, label_is_free, label_of, labels_are_there, labels_named, labels_of, last_ends_body, may_be_assigned, may_be_called, number_suits, proper_types, stmt_is_typed, stmt_rules, stmt_suits, stmt_uses, target_suits, target_uses, written_type_is_proper, same_type, Scope, common_type, file_functions, functions, is_among, is_comparison, is_number_type, is_object_type, pointed_by, type_of, typing_of, value_type, variables, CType, Program, Name, by_option, merging_names, Each, is_outside, name_in, Renaming, may_name, merge_names}
+use Rattle.c_merge.proofs.Common.{◌≡◌, ℕ, ◌-◌, Bool, true, false, not, ◌&&◌, ◌||◌, List, [], ◌∷◌, ◌++◌, map, length, take, is_some, ◌==◌}
+use Rattle.c_merge.proofs.Common.{slice_get, Some, None, codes, Option, option_map, flat_map, bytes_eq, sym, refl, ap, ◌∙◌, and_parts}
+use Rattle.c_merge.proofs.Common.{false≢true, length-map, map-append, bytes_eq-Decides, list_all, all_parts, if_found, named, AsArray}
+use Rattle.c_merge.proofs.Common.{AsFunction, AsVariable, Use, are_distinct_numbers, arg_has_type, arg_suits, arg_uses, args_suit}
+use Rattle.c_merge.proofs.Common.{call_suits, callee_type, callee_uses, case_value, cases_are_distinct, cases_suit, ends_body, expr_uses}
+use Rattle.c_merge.proofs.Common.{has_same_type, if_any, is_known, is_void, label_is_free, label_of, labels_are_there, labels_named}
+use Rattle.c_merge.proofs.Common.{labels_of, last_ends_body, may_be_assigned, may_be_called, number_suits, proper_types, stmt_is_typed}
+use Rattle.c_merge.proofs.Common.{stmt_rules, stmt_suits, stmt_uses, target_suits, target_uses, written_type_is_proper, same_type, Scope}
+use Rattle.c_merge.proofs.Common.{common_type, file_functions, functions, is_among, is_comparison, is_number_type, is_object_type}
+use Rattle.c_merge.proofs.Common.{pointed_by, type_of, typing_of, value_type, variables, CType, Program, Name, by_option, merging_names}
+use Rattle.c_merge.proofs.Common.{Each, is_outside, name_in, Renaming, may_name, merge_names}
 use Rattle.c_tree.specs.declared.tree.CType.TheVariants as type
 use Rattle.c_tree.specs.Tree as tree
 use Rattle.c_renaming.specs.Renamed as renamed
 use Rattle.c_renaming.proofs.NewNames.{new_names}
 use Rattle.c_merge.proofs.Together.{FitTogether}
 use Rattle.c_merge.proofs.NewNames.{new, new_var, outside_stays, among_map}
-use Rattle.c_merge.proofs.NewScope.{old, now, variables_same, file_variables_same, arrays_same, function_same, file_functions_there, typing_same}
+use Rattle.c_merge.proofs.NewScope.{old, now, variables_same, file_variables_same, arrays_same, function_same, file_functions_there}
+use Rattle.c_merge.proofs.NewScope.{typing_same}
 use Rattle.c_merge.proofs.Places.{Before, take_map}
 use Rattle.c_merge.proofs.Rules.{Keeps}
 
@@ -83,11 +94,7 @@ module _ (p : Program) (are : FitTogether p.units) (u : ℕ) (items : List tree.
   ends (tree.Switch e cases n) is = refl
   ends tree.ReturnNone is = refl
   ends (tree.Return a) is = refl
-  ends (tree.Label n) is = is
-  ends tree.Null is = is
-  ends (tree.Set n a) is = is
-  ends (tree.SetStar n e) is = is
-  ends (tree.If o x y n) is = is
+  ends _ is = is
 
   last_ends : (number : ℕ) (stmt : tree.Stmt) → last_ends_body (record { scope = s; number = number; stmt = stmt }) ≡ true
       → last_ends_body (record { scope = s'; number = number; stmt = renamed.stmt ρ u stmt }) ≡ true
@@ -148,18 +155,15 @@ module _ (p : Program) (are : FitTogether p.units) (u : ℕ) (items : List tree.
   new_use (AsFunction n) = AsFunction (new u n)
 
   expr_new : (e : tree.Expr) → expr_uses (renamed.expr ρ u e) ≡ map new_use (expr_uses e)
-  expr_new (tree.Name n) = refl
   expr_new (tree.At n i) = ap (λ l. AsArray (new_var u n) ∷ l) (expr_new i)
-  expr_new (tree.Number v) = refl
   expr_new (tree.To32 e) = expr_new e
   expr_new (tree.To64 e) = expr_new e
-  expr_new (tree.Star n) = refl
   expr_new (tree.Op o x y) = (λ i. expr_new x i ++ expr_new y i) ∙ sym (map-append new_use (expr_uses x) (expr_uses y))
+  expr_new _ = refl
 
   arg_new : (a : tree.Arg) → arg_uses (renamed.arg ρ u a) ≡ map new_use (arg_uses a)
   arg_new (tree.Value e) = expr_new e
-  arg_new (tree.Address n) = refl
-  arg_new (tree.OfFunction n) = refl
+  arg_new _ = refl
 
   args_new : (args : List tree.Arg) → flat_map arg_uses (map (renamed.arg ρ u) args) ≡ map new_use (flat_map arg_uses args)
   args_new [] = refl
@@ -201,8 +205,7 @@ module _ (p : Program) (are : FitTogether p.units) (u : ℕ) (items : List tree.
 
   arg_typed : (a : tree.Arg) → arg_has_type s' (renamed.arg ρ u a) ≡ arg_has_type s a
   arg_typed (tree.Value e) = ap is_some (type_same e)
-  arg_typed (tree.Address n) = refl
-  arg_typed (tree.OfFunction n) = refl
+  arg_typed _ = refl
 
   assigned_same : (n : Name) → may_be_assigned s' (new_var u n) ≡ may_be_assigned s n
   assigned_same n = ap (λ o. if_any o (λ t. not (is_object_type t))) (vars_same n)
@@ -220,10 +223,7 @@ module _ (p : Program) (are : FitTogether p.units) (u : ℕ) (items : List tree.
   typed_same (tree.If o x y n) = λ i. is_comparison o && is_some (common_type (types_same x i) (types_same y i))
   typed_same (tree.Switch e cases n) = ap is_some (type_same e)
   typed_same (tree.Return a) = arg_typed a
-  typed_same (tree.Label n) = refl
-  typed_same tree.Null = refl
-  typed_same (tree.Goto n) = refl
-  typed_same tree.ReturnNone = refl
+  typed_same _ = refl
 
   -- ---- rule 10
 
@@ -281,11 +281,7 @@ module _ (p : Program) (are : FitTogether p.units) (u : ℕ) (items : List tree.
   suits (tree.Return a) known is =
       let both = and_parts (not (is_void f.result)) (arg_suits s f.result a) is in
       λ i. both.0 i && arg_fits f.result a both.1 i
-  suits (tree.Label n) known is = refl
-  suits tree.Null known is = refl
-  suits (tree.Goto n) known is = refl
-  suits (tree.If o x y n) known is = refl
-  suits (tree.Switch e cases n) known is = refl
+  suits _ known is = refl
 
   -- ---- rule 11
 

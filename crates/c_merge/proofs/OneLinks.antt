@@ -1,5 +1,10 @@
 -- The one unit that linked units become links with the same hosts, and defines the same functions for others.
-use Rattle.c_merge.proofs.Common.{◌≡◌, ℕ, Bool, true, false, not, ◌&&◌, List, [], ◌∷◌, ◌++◌, take, is_some, if◌then◌else◌, slice_get, Some, None, Option, option_map, flat_map, sym, refl, ap, ◌∙◌, option_or, flat_empty, is_some_map, if_found, named, same_func_type, func_type_of, LinkRefusal, NotDefined, Program, Twice, TypeDiffers, external_func, external_functions, func_type, link_refusal, symbols_of, twice, type_found, unresolved, Name, cons_not_none, kept_from, func_type_of-func, merged_made, merging_names, kept_type_found, MayMerge, is_outside, name_in, Renaming, address, signature_of, AreLinked, as_one, may_name, merge_names, merged}
+use Rattle.c_merge.proofs.Common.{◌≡◌, ℕ, Bool, true, false, not, ◌&&◌, List, [], ◌∷◌, ◌++◌, take, is_some, if◌then◌else◌, slice_get, Some}
+use Rattle.c_merge.proofs.Common.{None, Option, option_map, flat_map, sym, refl, ap, ◌∙◌, option_or, flat_empty, is_some_map, if_found}
+use Rattle.c_merge.proofs.Common.{named, same_func_type, func_type_of, LinkRefusal, NotDefined, Program, Twice, TypeDiffers, external_func}
+use Rattle.c_merge.proofs.Common.{external_functions, func_type, link_refusal, symbols_of, twice, type_found, unresolved, Name}
+use Rattle.c_merge.proofs.Common.{cons_not_none, kept_from, func_type_of-func, merged_made, merging_names, kept_type_found, MayMerge}
+use Rattle.c_merge.proofs.Common.{is_outside, name_in, Renaming, address, signature_of, AreLinked, as_one, may_name, merge_names, merged}
 use Rattle.c_tree.specs.Tree as tree
 use Rattle.c_meaning.proofs.Links.{type_stands}
 use Rattle.c_renaming.specs.Renamed as renamed
@@ -38,8 +43,6 @@ still_found u v x ty (Some found) e = go (same_func_type found ty) e
 
 -- an item that shows a function to others
 shown_item : (item : tree.Item) (g : tree.Func) → external_of item ≡ Some g → (item ≡ tree.Function g) × (g.is_static ≡ false)
-shown_item (tree.Array name count bytes) g e = absurd cc
-shown_item (tree.Var ty name number) g e = absurd cc
 shown_item (tree.Function f) g e = go f.is_static refl e
   where
     go : (b : Bool) → f.is_static ≡ b → (if b then None else Some f) ≡ Some g → (tree.Function f ≡ tree.Function g) × (g.is_static ≡ false)
@@ -47,6 +50,7 @@ shown_item (tree.Function f) g e = go f.is_static refl e
     go false shown e =
         let same : f ≡ g = cc in
         (ap (λ (h : tree.Func). tree.Function h) same, sym (ap (λ (h : tree.Func). h.is_static) same) ∙ shown)
+shown_item _ g e = absurd cc
 
 module _ (p : Program) (are : AreLinked p) where
   abbrev ρ : Renaming
@@ -99,9 +103,8 @@ module _ (p : Program) (are : AreLinked p) where
 
   func_from : (u : ℕ) (x : tree.Item) (g : tree.Func) → tree.Function g ≡ renamed.item ρ u x
       → (f : tree.Func) × (x ≡ tree.Function f) × (g ≡ renamed.func ρ u f)
-  func_from u (tree.Array n count bytes) g is = absurd cc
-  func_from u (tree.Var t n number) g is = absurd cc
   func_from u (tree.Function f) g is = (f, refl, same_func g (renamed.func ρ u f) is)
+  func_from u _ g is = absurd cc
 
   shown_at : (k : ℕ) (g : tree.Func) → slice_get one k ≡ Some (tree.Function g) → g.is_static ≡ false → Shown g
   shown_at k g at shown =

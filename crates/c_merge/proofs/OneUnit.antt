@@ -1,5 +1,6 @@
 -- The one unit that linked units become keeps the rules.
-use Rattle.c_merge.proofs.Common.{◌≡◌, ℕ, ◌+◌, List, map, take, slice_get, Some, None, option_map, sym, refl, ap, ◌∙◌, subst, KeepsRules, item_rules, stmt_rules, Program, by_option, Renaming, merge_names, merged}
+use Rattle.c_merge.proofs.Common.{◌≡◌, ℕ, ◌+◌, List, map, take, slice_get, Some, None, option_map, sym, refl, ap, ◌∙◌, subst, KeepsRules}
+use Rattle.c_merge.proofs.Common.{item_rules, stmt_rules, Program, by_option, Renaming, merge_names, merged}
 use Rattle.c_tree.specs.Tree as tree
 use Rattle.c_renaming.specs.Renamed as renamed
 use Rattle.c_merge.proofs.Together.{FitTogether}
@@ -36,13 +37,8 @@ module _ (p : Program) (are : FitTogether p.units) where
     func_new : g ≡ renamed.func ρ u func
     body_new : c ≡ renamed.body ρ u body
 
-  array_no_func : {g : tree.Func} {n bytes : List ℕ} {count : ℕ} → tree.Function g ≡ tree.Array n count bytes → ⊥
-  array_no_func e = cc
-
   is_body : (u : ℕ) (x : tree.Item) (g : tree.Func) (c : tree.Body) → tree.Function g ≡ renamed.item ρ u x → g.body ≡ Some c
       → IsBody u x g c
-  is_body u (tree.Array n count bytes) g c is body = absurd cc
-  is_body u (tree.Var t n number) g c is body = absurd cc
   is_body u (tree.Function f) g c is body =
       let same : g ≡ renamed.func ρ u f = same_func g (renamed.func ρ u f) is in
       let there : option_map (renamed.body ρ u) f.body ≡ Some c = sym (ap (λ (h : tree.Func). h.body) same) ∙ body in
@@ -64,6 +60,7 @@ module _ (p : Program) (are : FitTogether p.units) where
 
       same_body : (b : tree.Body) → Some (renamed.body ρ u b) ≡ Some c → c ≡ renamed.body ρ u b
       same_body b e = cc
+  is_body u _ g c is body = absurd cc
 
   new_stmt : (k : ℕ) (g : tree.Func) (c : tree.Body) → slice_get one k ≡ Some (tree.Function g) → g.body ≡ Some c
       → (j : ℕ) (stmt : tree.Stmt) → slice_get c.stmts j ≡ Some stmt

@@ -1,5 +1,6 @@
 -- Where the items of the one unit come from.
-use Rattle.c_merge.proofs.Common.{◌≡◌, ℕ, zero, suc, ◌+◌, ◌<◌, List, [], ◌∷◌, ◌++◌, map, take, slice_get, Some, sym, refl, ap, ◌∙◌, subst, append_assoc, arith, Program, each-append, each_by, Each, joined, Renaming, merge_names, merged}
+use Rattle.c_merge.proofs.Common.{◌≡◌, ℕ, zero, suc, ◌+◌, ◌<◌, List, [], ◌∷◌, ◌++◌, map, take, slice_get, Some, sym, refl, ap, ◌∙◌, subst}
+use Rattle.c_merge.proofs.Common.{append_assoc, arith, Program, each-append, each_by, Each, joined, Renaming, merge_names, merged}
 use Rattle.c_tree.specs.Tree as tree
 use Rattle.c_renaming.specs.Renamed as renamed
 use Rattle.c_merge.proofs.Units.{each_from}

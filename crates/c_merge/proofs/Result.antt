@@ -1,5 +1,6 @@
 -- What holds of the items that linked units become.
-use Rattle.c_merge.proofs.Common.{◌≡◌, List, [], None, sym, ◌∙◌, subst, KeepsRules, Formed, Program, first_refusal, joined, c_symbols, AllChecked, HostSymbol, merged, new_names}
+use Rattle.c_merge.proofs.Common.{◌≡◌, List, [], None, sym, ◌∙◌, subst, KeepsRules, Formed, Program, first_refusal, joined, c_symbols}
+use Rattle.c_merge.proofs.Common.{AllChecked, HostSymbol, merged, new_names}
 use Rattle.c_tree.specs.Tree as tree
 use Rattle.c_merge.proofs.Formed.{one_formed}
 use Rattle.c_merge.proofs.Linked.{units_fit}

@@ -1,5 +1,9 @@
 -- A unit keeps the rules exactly where each item and each statement keeps them.
-use Rattle.c_merge.proofs.Common.{◌≡◌, ℕ, ◌+◌, Bool, true, not, List, [], ◌∷◌, ◌++◌, map, take, if◌then◌else◌, slice_get, Some, None, filter, Option, flat_map, sym, refl, ap, ◌∙◌, AllByRecursion, append_none, flat_empty, map_none, numbered_at, by_test, numbered, BrokenAt, KeepsRules, broken_in_body, broken_in_item, broken_in_stmt, broken_of, broken_rules, item_rules, stmt_rules, Scope, by_option, at_numbered, cons_not_none, flat_none, none_first}
+use Rattle.c_merge.proofs.Common.{◌≡◌, ℕ, ◌+◌, Bool, true, not, List, [], ◌∷◌, ◌++◌, map, take, if◌then◌else◌, slice_get, Some, None}
+use Rattle.c_merge.proofs.Common.{filter, Option, flat_map, sym, refl, ap, ◌∙◌, AllByRecursion, append_none, flat_empty, map_none}
+use Rattle.c_merge.proofs.Common.{numbered_at, by_test, numbered, BrokenAt, KeepsRules, broken_in_body, broken_in_item, broken_in_stmt}
+use Rattle.c_merge.proofs.Common.{broken_of, broken_rules, item_rules, stmt_rules, Scope, by_option, at_numbered, cons_not_none, flat_none}
+use Rattle.c_merge.proofs.Common.{none_first}
 use Rattle.c_tree.specs.Tree as tree
 
 abbrev pub Keeps : {P : Type 0} → List (ℕ × (P → Bool)) → P → Type 0
@@ -87,12 +91,11 @@ all_keep items all = ap (λ l. slice_get l 0) (flat_empty (broken_in_item items)
         (all.stmt k f b at is j from.0 from.1))
 
     in_body : (k : ℕ) (item : tree.Item) → slice_get items k ≡ Some item → broken_in_body items k item ≡ []
-    in_body k (tree.Array n count bytes) at = refl
-    in_body k (tree.Var t n number) at = refl
     in_body k (tree.Function f) at = by_option f.body
         (λ none. ap (in_stmts items k f) none)
         (λ b is. ap (in_stmts items k f) is
         ∙ flat_empty (broken_in_stmt (scope_at items k f b) k) (numbered b.stmts) (of_stmt k f b at is))
+    in_body k _ at = refl
 
     each : (i : ℕ) (entry : ℕ × tree.Item) → slice_get (numbered items) i ≡ Some entry → broken_in_item items entry ≡ []
     each i entry at =

@@ -1,5 +1,16 @@
 -- Linked units that keep the rules may become one.
-use Rattle.c_merge.proofs.Common.{◌≡◌, ℕ, zero, suc, ◌+◌, ◌<◌, Bool, true, false, not, ◌&&◌, ◌||◌, ◌≢◌, List, [], ◌∷◌, ◌++◌, take, is_some, if◌then◌else◌, slice_get, Some, None, Option, flat_map, filter_map, bytes_eq, sym, refl, ap, ◌∙◌, subst, inl, inr, and_parts, both_ways, cases_order, false≢true, not-true, or_cases, bytes_eq-Decides, list_all, list_any, all_parts, by_test, if_found, named, KeepsRules, arg_suits, arg_uses, args_suit, call_suits, callee_type, callee_uses, if_any, is_known, is_own_name, is_runtime_name, is_symbol, is_void, proper_types, stmt_suits, stmt_uses, target_suits, target_uses, primitives, Scope, file_variables, func_type_of, function_of, functions, variable_of, variables, CType, Program, defined, defined_for_all, definition_at, definitions, is_external, Name, depth_name, by_option, any_from, defined_names, is_listed, static_defined, free_names, stmt_kept, first_there, named_from, take_keeps, Each, KeptArg, KeptCallee, KeptStmt, Foreign, IsDefinedOnce, KeepsSeen, MayMerge, MayUse, Own, is_outside, name_in, Renaming, declares, may_be_named, may_name, merge_names}
+use Rattle.c_merge.proofs.Common.{◌≡◌, ℕ, zero, suc, ◌+◌, ◌<◌, Bool, true, false, not, ◌&&◌, ◌||◌, ◌≢◌, List, [], ◌∷◌, ◌++◌, take, is_some}
+use Rattle.c_merge.proofs.Common.{if◌then◌else◌, slice_get, Some, None, Option, flat_map, filter_map, bytes_eq, sym, refl, ap, ◌∙◌, subst}
+use Rattle.c_merge.proofs.Common.{inl, inr, and_parts, both_ways, cases_order, false≢true, not-true, or_cases, bytes_eq-Decides, list_all}
+use Rattle.c_merge.proofs.Common.{list_any, all_parts, by_test, if_found, named, KeepsRules, arg_suits, arg_uses, args_suit, call_suits}
+use Rattle.c_merge.proofs.Common.{callee_type, callee_uses, if_any, is_known, is_own_name, is_runtime_name, is_symbol, is_void}
+use Rattle.c_merge.proofs.Common.{proper_types, stmt_suits, stmt_uses, target_suits, target_uses, primitives, Scope, file_variables}
+use Rattle.c_merge.proofs.Common.{func_type_of, function_of, functions, variable_of, variables, CType, Program, defined, defined_for_all}
+use Rattle.c_merge.proofs.Common.{definition_at, definitions, is_external, Name, depth_name, by_option, any_from, defined_names, is_listed}
+use Rattle.c_merge.proofs.Common.{static_defined, free_names, stmt_kept, first_there, named_from, take_keeps, Each, KeptArg, KeptCallee}
+use Rattle.c_merge.proofs.Common.{KeptStmt, Foreign, IsDefinedOnce, KeepsSeen, MayMerge, MayUse, Own, is_outside, name_in, Renaming}
+use Rattle.c_merge.proofs.Common.{declares, may_be_named, may_name, merge_names}
+use Rattle.std.proofs.Math.Bool.{or-true}
 use Rattle.c_tree.specs.Tree as tree
 use Rattle.c_renaming.specs.Parts.{KeptBody, KeptItem}
 use Rattle.c_renaming.proofs.NewNames.{new_names, primitives_outside}
@@ -132,10 +143,9 @@ module _ (items : List tree.Item) (keeps : KeepsRules items) where
   pub variable_free : (k : ℕ) (item : tree.Item) (name : Name) (t : CType) → slice_get items k ≡ Some item
       → variable_of item ≡ Some (name, t)
       → is_own_name name ≡ true
-  variable_free k (tree.Array n count bytes) name t at e = absurd cc
-  variable_free k (tree.Function f) name t at e = absurd cc
   variable_free k (tree.Var ty n number) name t at e =
       subst (λ (x : Name). is_own_name x ≡ true) (same_first n name ty t e) (free_names items keeps k (tree.Var ty n number) at).0
+  variable_free k _ name t at e = absurd cc
 
   -- the name of a function that some place declares
   pub func_declared : (n : ℕ) (name : Name) (ty : tree.FuncType) → named name (filter_map function_of (take n items)) ≡ Some ty
@@ -146,9 +156,8 @@ module _ (items : List tree.Item) (keeps : KeepsRules items) where
     where
       go : (k : ℕ) (item : tree.Item) → slice_get items k ≡ Some item → function_of item ≡ Some (name, ty)
           → (k : ℕ) × (f : tree.Func) × (slice_get items k ≡ Some (tree.Function f)) × (f.name ≡ name)
-      go k (tree.Array x count bytes) at e = absurd cc
-      go k (tree.Var t x number) at e = absurd cc
       go k (tree.Function f) at e = (k, f, at, same_first f.name name (func_type_of f) ty e)
+      go k _ at e = absurd cc
 
   declared_any : (name : Name) (xs : List tree.Item) (k : ℕ) (f : tree.Func) → slice_get xs k ≡ Some (tree.Function f) → f.name ≡ name
       → list_any (declares name) xs ≡ true
@@ -180,17 +189,13 @@ module _ (items : List tree.Item) (keeps : KeepsRules items) where
         (λ ty there.
         let d = func_declared n name ty there in
         let any = declared_any name items d.0 d.1 d.2 d.3 in
-        rw any (or_true (is_some (named name primitives)))))
+        rw any (or-true (is_some (named name primitives)))))
       where
         behind : (xs : List (Name × tree.FuncType)) → named name xs ≡ None → named name (xs ++ primitives) ≡ named name primitives
         behind [] none = refl
         behind (x ∷ xs) none = by_test (bytes_eq x.0 name)
             (λ is. absurd (let f = rw is at none in cc))
             (λ is. rw is (behind xs (rw is at none)))
-
-        or_true : (b : Bool) → (b || true) ≡ true
-        or_true true = refl
-        or_true false = refl
 
     module _ (k : ℕ) (f : tree.Func) (b : tree.Body) (at : slice_get items k ≡ Some (tree.Function f)) (is : f.body ≡ Some b) where
       abbrev s : Scope
@@ -262,9 +267,8 @@ module _ (items : List tree.Item) (keeps : KeepsRules items) where
     unit_text = each_from (KeptItem ρ u (λ x. true)) items item_text
 
   item_seen : (k : ℕ) (item : tree.Item) → slice_get items k ≡ Some item → KeepsSeen is_outside item
-  item_seen k (tree.Array n count bytes) at = tt
-  item_seen k (tree.Var ty n number) at = tt
   item_seen k (tree.Function f) at = λ there. func_seen k f at
+  item_seen k _ at = tt
 
   pub unit_seen : Each (KeepsSeen is_outside) items
   unit_seen = each_from (KeepsSeen is_outside) items item_seen
@@ -343,8 +347,6 @@ module _ (p : Program) (are : FitTogether p.units) where
   item_once : (u v : ℕ) → v ≢ u → (items : List tree.Item) → slice_get p.units v ≡ Some items → (k : ℕ) (item : tree.Item)
       → slice_get items k ≡ Some item
       → IsDefinedOnce (merge_names p) is_outside u item
-  item_once u v differ items there k (tree.Array n count bytes) at = tt
-  item_once u v differ items there k (tree.Var ty n number) at = tt
   item_once u v differ items there k (tree.Function f) at = λ x defines body outside. by_test (bytes_eq f.name x)
       (λ same. absurd (clash x ((bytes_eq-Decides f.name x).0 same) defines body outside))
       (λ other. other)
@@ -354,6 +356,7 @@ module _ (p : Program) (are : FitTogether p.units) where
           (λ none. false≢true (rw none at body))
           (λ b is. defined_once u v x differ (sym (ap is_outside same) ∙ outside) (defines_at u x defines)
           (record { items = items; there = there; item = k; func = f; body = b; at = at; body_is = is; name_is = same }))
+  item_once u v differ items there k _ at = tt
 
   -- ---- names in text
 
@@ -364,9 +367,8 @@ module _ (p : Program) (are : FitTogether p.units) where
   declared_from name items e = let from = any_from (declares name) items e in go from.0 from.1 from.2 from.3
     where
       go : (k : ℕ) (item : tree.Item) → slice_get items k ≡ Some item → declares name item ≡ true → Declared items name
-      go k (tree.Array n count bytes) at is = absurd (false≢true is)
-      go k (tree.Var ty n number) at is = absurd (false≢true is)
       go k (tree.Function f) at is = (k, f, at, (bytes_eq-Decides f.name name).0 is)
+      go k _ at is = absurd (false≢true is)
 
   used : (u : ℕ) (x : Name) → may_name p u x ≡ true → MayUse p is_outside u x
   used u x is = by_option (slice_get p.units u)

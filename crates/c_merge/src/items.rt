@@ -79,13 +79,7 @@ fn new_func(alloc: Global, unit: usize, f: &Func) -> Result<Func, Memory>
     let name = new_function(alloc, unit, f.name.as_slice())?;
     let params = new_params(alloc, unit, f.params.as_slice())?;
     let body = new_body_if_any(alloc, unit, &f.body)?;
-    Ok(Func {
-        is_static: f.is_static,
-        result: f.result,
-        name,
-        params,
-        body,
-    })
+    Ok(f.with_parts(name, params, body))
 }
 
 fn new_item(alloc: Global, unit: usize, item: &Item) -> Result<Item, Memory>

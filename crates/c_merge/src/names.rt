@@ -1,11 +1,9 @@
 // The names that the items of a unit get in the one unit.
-ghost use Rattle.std.specs.Prelude.{◌≡◌, IfOk, bytes_eq};
-ghost use Rattle.c_tree.specs.Rules.{is_runtime_name, is_symbol};
-ghost use Rattle.c_meaning.specs.Step.{depth_name};
+ghost use Rattle.std.specs.Prelude.{◌≡◌, IfOk};
 ghost use Rattle.c_renaming.specs.NewNames.{is_outside, name_in};
 ghost use Rattle.c_merge.specs.Merge.{new_names};
 
-use c_tree::Name;
+use c_tree::{Name, is_depth, is_own_name, name_of};
 use itoa::Buffer;
 use std::alloc::Global;
 use w2c_base::{Bytes, Memory};
@@ -28,7 +26,7 @@ pub(crate) fn new_variable(alloc: Global, unit: usize, name: &[u8]) -> Result<Na
     ensures { IfOk result (λ new. new ≡ new_names.var unit name.now) }
 {
     if is_depth(name) {
-        same_name(alloc, name)
+        name_of(alloc, name)
     } else {
         new_name(alloc, unit, name)
     }
@@ -39,40 +37,14 @@ pub(crate) fn new_function(alloc: Global, unit: usize, name: &[u8]) -> Result<Na
     ensures { IfOk result (λ new. new ≡ new_names.func unit name.now) }
 {
     if is_outside(name) {
-        same_name(alloc, name)
+        name_of(alloc, name)
     } else {
         new_name(alloc, unit, name)
     }
 }
 
-fn same_name(alloc: Global, name: &[u8]) -> Result<Name, Memory>
-    ensures { IfOk result (λ same. same ≡ name.now) }
-{
-    let mut same = Bytes::new(alloc);
-    same.extend(name)?;
-    Ok(same)
-}
-
-fn is_depth(name: &[u8]) -> bool
-    ensures { result ≡ bytes_eq name.now depth_name }
-{
-    name == b"w2c_depth".as_slice()
-}
-
 fn is_outside(name: &[u8]) -> bool
     ensures { result ≡ is_outside name.now }
 {
-    !(!is_runtime_name(name) && !is_symbol(name))
-}
-
-fn is_runtime_name(name: &[u8]) -> bool
-    ensures { result ≡ is_runtime_name name.now }
-{
-    name.starts_with(b"w2c_")
-}
-
-fn is_symbol(name: &[u8]) -> bool
-    ensures { result ≡ is_symbol name.now }
-{
-    name.starts_with(b"w2cZ_")
+    !is_own_name(name)
 }

@@ -5,7 +5,7 @@ ghost use Rattle.c_renaming.specs.Renamed as renamed;
 ghost use Rattle.c_merge.specs.Merge.{new_names};
 
 use crate::names::{new_function, new_name, new_variable};
-use c_tree::{Arg, Args, CFuncType, Callee, Cases, Expr, Name, Num, Stmt, Stmts};
+use c_tree::{Arg, Args, Callee, Cases, Expr, Name, Num, Stmt, Stmts};
 use std::alloc::Global;
 use std::boxed::Box;
 use w2c_base::Memory;
@@ -64,15 +64,9 @@ fn new_callee(alloc: Global, unit: usize, callee: &Callee) -> Result<Callee, Mem
     match callee {
         Callee::Named(name) => Ok(Callee::Named(new_function(alloc, unit, name.as_slice())?)),
         Callee::Through(ty, name) => {
-            let params = ty.params.copy(alloc)?;
+            let ty = ty.copy(alloc)?;
             let name = new_variable(alloc, unit, name.as_slice())?;
-            Ok(Callee::Through(
-                CFuncType {
-                    params,
-                    result: ty.result,
-                },
-                name,
-            ))
+            Ok(Callee::Through(ty, name))
         }
     }
 }

@@ -1,5 +1,8 @@
 -- The elements of a table, seen through their view.
-use Rattle.c_objects.proofs.Common.{◌≡◌, ℕ, zero, suc, ◌<◌, ◌≤◌, Bool, true, false, List, [], ◌∷◌, map, length, replicate, nat_lt, ◌==◌, slice_get, slice_set, Some, None, Option, option_map, sym, refl, ap, ◌∙◌, arith, table_in, with_table, Gives, on_table, set_element, tab_new, tab_set, FuncPointer, Machine, Number, ObjectAddress, Pointer, Table, element_of, Naming, func_of}
+use Rattle.c_objects.proofs.Common.{◌≡◌, ℕ, zero, suc, ◌<◌, ◌≤◌, Bool, true, false, List, [], ◌∷◌, map, length, replicate, nat_lt, ◌==◌}
+use Rattle.c_objects.proofs.Common.{slice_get, slice_set, Some, None, Option, option_map, sym, refl, ap, ◌∙◌, arith, table_in, with_table}
+use Rattle.c_objects.proofs.Common.{Gives, on_table, set_element, tab_new, tab_set, FuncPointer, Machine, Number, ObjectAddress, Pointer}
+use Rattle.c_objects.proofs.Common.{Table, element_of, Naming, func_of}
 use Rattle.w2c_base.specs.declared.value.Value.TheVariants.{I32, I64}
 use Rattle.c_objects.specs.declared.held.FuncId.{FuncId}
 use Rattle.c_objects.specs.declared.table.Entry.{Entry}

@@ -1,5 +1,11 @@
 -- Memories and tables of a store, as those of the machine of the meaning of C.
-use Rattle.c_objects.proofs.Common.{◌≡◌, ℕ, zero, suc, ◌<◌, ◌≤◌, true, false, ◌⊎◌, List, [], ◌∷◌, map, length, get_or, slice_get, slice_set, Some, None, Option, option_map, zip, bytes_eq, sym, refl, ap, ◌∙◌, inl, inr, arith, length-set, slice_get_cases, AllByRecursion, if_found, named, memory_in, table_in, var_in, with_memory, with_objects, with_table, with_var, NoEffect, Machine, Memory, Name, Pointer, Table, memory_effect, table_effect, memory_of, table_of, AreApart, AreNames, AreStored, Differ, IsStored, machine_of, objects_of, units_of, var_at, Naming, UnitNames, address_of, object_name, value_of, MemoryCall, UnitObjects, TableCall}
+use Rattle.c_objects.proofs.Common.{◌≡◌, ℕ, zero, suc, ◌<◌, ◌≤◌, true, false, ◌⊎◌, List, [], ◌∷◌, map, length, get_or, slice_get, slice_set}
+use Rattle.c_objects.proofs.Common.{Some, None, Option, option_map, zip, bytes_eq, sym, refl, ap, ◌∙◌, inl, inr, arith, length-set}
+use Rattle.c_objects.proofs.Common.{slice_get_cases, AllByRecursion, if_found, named, memory_in, table_in, var_in, with_memory}
+use Rattle.c_objects.proofs.Common.{with_objects, with_table, with_var, NoEffect, Machine, Memory, Name, Pointer, Table, memory_effect}
+use Rattle.c_objects.proofs.Common.{table_effect, memory_of, table_of, AreApart, AreNames, AreStored, Differ, IsStored, machine_of}
+use Rattle.c_objects.proofs.Common.{objects_of, units_of, var_at, Naming, UnitNames, address_of, object_name, value_of, MemoryCall}
+use Rattle.c_objects.proofs.Common.{UnitObjects, TableCall}
 use Rattle.std.proofs.lemmas.List.{length-map}
 use Rattle.std.specs.Vec.{with_item}
 use Rattle.w2c_base.specs.Run.{Trail}
@@ -11,7 +17,8 @@ use Rattle.c_objects.specs.declared.memory.MemoryCell.{MemoryCell}
 use Rattle.c_objects.specs.declared.table.TableCell.{TableCell}
 use Rattle.c_objects.proofs.Kept.{memory_kept, table_kept}
 use Rattle.c_objects.proofs.Elements.{get_mapped, set_mapped}
-use Rattle.c_objects.proofs.Stores.{no_memory_effect, no_table_effect, no_such, nameless, later, named_at, set_at, stored_at, stored_set, units_at, units_past, units_set}
+use Rattle.c_objects.proofs.Stores.{no_memory_effect, no_table_effect, no_such, nameless, later, named_at, set_at, stored_at, stored_set}
+use Rattle.c_objects.proofs.Stores.{units_at, units_past, units_set}
 
 differs_from : (x : Name) (ys : List Name) → AllByRecursion (Differ x) ys → AllByRecursion (λ y. bytes_eq y x ≡ false) ys
 differs_from x [] all = tt

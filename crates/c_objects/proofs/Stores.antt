@@ -1,9 +1,13 @@
 -- Objects that stand by number, looked up by name.
-use Rattle.c_objects.proofs.Common.{◌≡◌, ℕ, zero, suc, Bool, true, false, List, [], ◌∷◌, length, get_or, if◌then◌else◌, slice_get, slice_set, Some, None, zip, bytes_eq, sym, refl, ap, subst, arith, rules, AllByRecursion, named, with_named, memory_in, table_in, Effect, NoEffect, on_memory, on_table, Machine, Name, ObjectAddress, Pointer, memory_effect, table_effect, AreNames, AreStored, Differ, IsStored, objects_of, units_of, Naming, UnitNames, MemoryCall, UnitObjects, TableCall}
+use Rattle.c_objects.proofs.Common.{◌≡◌, ℕ, zero, suc, Bool, true, false, List, [], ◌∷◌, length, get_or, if◌then◌else◌, slice_get}
+use Rattle.c_objects.proofs.Common.{slice_set, Some, None, zip, bytes_eq, sym, refl, ap, subst, arith, rules, AllByRecursion, named}
+use Rattle.c_objects.proofs.Common.{with_named, memory_in, table_in, Effect, NoEffect, on_memory, on_table, Machine, Name, ObjectAddress}
+use Rattle.c_objects.proofs.Common.{Pointer, memory_effect, table_effect, AreNames, AreStored, Differ, IsStored, objects_of, units_of}
+use Rattle.c_objects.proofs.Common.{Naming, UnitNames, MemoryCall, UnitObjects, TableCall, same_Some}
 use Rattle.w2c_base.specs.Values.{equal_type, type_of}
 use Rattle.c_objects.specs.declared.memory.MemoryCall.TheVariants as mem
 use Rattle.c_objects.specs.declared.table.TableCall.TheVariants as tab
-use Rattle.c_objects.specs.Widths.{type_at}
+use Rattle.c_tree.specs.Primitives.{type_at}
 
 module _ {A : Type 0} where
   -- a name that differs from all is beside nothing
@@ -51,10 +55,7 @@ module _ (names : Naming) where
   stored_at [] [] u o are e = absurd cc
   stored_at [] (p ∷ os) u o are e = absurd are
   stored_at (n ∷ ns) [] u o are e = absurd are
-  stored_at (n ∷ ns) (p ∷ os) zero o are e = let same : p ≡ o = some_is p o e in (n, refl, subst (λ x. IsStored n x) same are.0)
-    where
-      some_is : (x y : UnitObjects) → Some x ≡ Some y → x ≡ y
-      some_is x y e = cc
+  stored_at (n ∷ ns) (p ∷ os) zero o are e = let same : p ≡ o = same_Some p o e in (n, refl, subst (λ x. IsStored n x) same are.0)
   stored_at (n ∷ ns) (p ∷ os) (suc u) o are e = stored_at ns os u o are.1 e
 
   pub stored_set : (ns : List UnitNames) (os : List UnitObjects) (u : ℕ) (n : UnitNames) (o : UnitObjects) → AreStored ns os
@@ -63,10 +64,7 @@ module _ (names : Naming) where
   stored_set [] [] u n o are e is = absurd cc
   stored_set [] (p ∷ os) u n o are e is = absurd are
   stored_set (k ∷ ns) [] u n o are e is = absurd are
-  stored_set (k ∷ ns) (p ∷ os) zero n o are e is = (subst (λ x. IsStored x o) (some_is n k (sym e)) is, are.1)
-    where
-      some_is : (x y : UnitNames) → Some x ≡ Some y → x ≡ y
-      some_is x y e = cc
+  stored_set (k ∷ ns) (p ∷ os) zero n o are e is = (subst (λ x. IsStored x o) (same_Some n k (sym e)) is, are.1)
   stored_set (k ∷ ns) (p ∷ os) (suc u) n o are e is = (are.0, stored_set ns os u n o are.1 e is)
 
   pub units_at : (ns : List UnitNames) (os : List UnitObjects) (u : ℕ) (n : UnitNames) (o : UnitObjects) → slice_get ns u ≡ Some n
@@ -100,22 +98,14 @@ module _ (names : Naming) where
 -- nothing stands there
 pub no_memory_effect : (names : Naming) (m : Machine) (a : ObjectAddress) (call : MemoryCall) → memory_in m a ≡ None
     → memory_effect call (Pointer (Some a)) m ≡ NoEffect
-no_memory_effect names m a (mem.New least most) e = rw (e, on_memory) refl
-no_memory_effect names m a mem.Len e = rw (e, on_memory) refl
-no_memory_effect names m a mem.Max e = rw (e, on_memory) refl
-no_memory_effect names m a (mem.Grow more) e = rw (e, on_memory) refl
-no_memory_effect names m a (mem.Get width at) e = rw (e, on_memory) refl
 no_memory_effect names m a (mem.Put width at v) e = go (equal_type (type_at width) (type_of v)) (rw (e, on_memory) refl)
   where
     go : {x : Effect} (b : Bool) → x ≡ NoEffect → (if b then x else NoEffect) ≡ NoEffect
     go true e = e
     go false e = refl
+no_memory_effect names m a _ e = rw (e, on_memory) refl
 
 pub no_table_effect : (names : Naming) (m : Machine) (a : ObjectAddress) (call : TableCall) → table_in m a ≡ None
     → table_effect names call (Pointer (Some a)) m ≡ NoEffect
 no_table_effect names m a (tab.New count most) e = rw (e, on_table) refl
-no_table_effect names m a tab.Len e = rw (e, on_table) refl
-no_table_effect names m a tab.Max e = rw (e, on_table) refl
-no_table_effect names m a (tab.Signature at) e = rw (e, on_table) refl
-no_table_effect names m a (tab.Function at) e = rw (e, on_table) refl
-no_table_effect names m a (tab.Set at f signature) e = rw (e, on_table) refl
+no_table_effect names m a _ e = rw (e, on_table) refl

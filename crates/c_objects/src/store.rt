@@ -10,9 +10,9 @@ ghost use Rattle.c_objects.specs.Views.{address_of, effect_of, value_of, Keeps, 
 use crate::done::Done;
 use crate::held::{Held, Object, ObjectId};
 use crate::memory::{MemoryCall, MemoryCell};
-use crate::primitive::Primitive;
 use crate::request::{Request, asked};
 use crate::table::{TableCall, TableCell};
+use c_tree::Primitive;
 use std::alloc::Global;
 use w2c_base::Memory;
 

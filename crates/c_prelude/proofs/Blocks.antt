@@ -1,5 +1,9 @@
 -- Counting ones by sums of blocks: each block of a number holds the count of its ones.
-use Rattle.c_prelude.proofs.Common.{◌≡◌, ℕ, zero, suc, ◌+◌, ◌-◌, ◌*◌, ◌/◌, ◌%◌, ◌^◌, ◌<◌, ◌≤◌, true, false, cond, nat_eq, bit_and, sym, refl, ap, ◌∙◌, subst, inl, inr, le_refl, add_assoc, mul-le-mul_right, mod-lt, mod-eq_of_lt, add_comm, mul-le-mul_left, pow-suc, div-add-mod', arith, pow_pos, pow_mono, pow-add, and_block, and_le_r, and_mask, and_zero_r, add-mul-div_right, eqb_tells, nat_tests, div-mul-add, mod-mul-add, pow_below, shl_below, shr_below}
+use Rattle.c_prelude.proofs.Common.{◌≡◌, ℕ, zero, suc, ◌+◌, ◌-◌, ◌*◌, ◌/◌, ◌%◌, ◌^◌, ◌<◌, ◌≤◌, true, false, cond, nat_eq, bit_and, sym}
+use Rattle.c_prelude.proofs.Common.{refl, ap, ◌∙◌, subst, inl, inr, le_refl, add_assoc, mul-le-mul_right, mod-lt, mod-eq_of_lt, add_comm}
+use Rattle.c_prelude.proofs.Common.{mul-le-mul_left, pow-suc, div-add-mod', arith, pow_pos, pow_mono, pow-add, and_block, and_le_r}
+use Rattle.c_prelude.proofs.Common.{and_mask, and_zero_r, add-mul-div_right, eqb_tells, nat_tests, div-mul-add, mod-mul-add, pow_below}
+use Rattle.c_prelude.proofs.Common.{shl_below, shr_below}
 use lib.Count.{ones, ones_in, ones_cat, ones-le}
 use lib.Pow.{ones_lt}
 

@@ -1,5 +1,8 @@
 -- Bytes that are written one after another are what is written at once.
-use Rattle.c_prelude.proofs.Common.{◌≡◌, ℕ, zero, suc, ◌+◌, ◌-◌, ◌%◌, ◌<◌, ◌≤◌, List, [], ◌∷◌, ◌++◌, length, get_or, take, drop, set, replicate, sym, ap, ◌∙◌, append_assoc, mod-eq_of_lt, arith, length-append, length-drop, length-set, take-append-drop, length-take, get_or-drop, drop-cons, take-suc, take-suc-set, drop-set-lt, AllByRecursion, bytes_at, little_endian, low_bytes, with_bytes}
+use Rattle.c_prelude.proofs.Common.{◌≡◌, ℕ, zero, suc, ◌+◌, ◌-◌, ◌%◌, ◌<◌, ◌≤◌, List, [], ◌∷◌, ◌++◌, length, get_or, take, drop, set}
+use Rattle.c_prelude.proofs.Common.{replicate, sym, ap, ◌∙◌, append_assoc, mod-eq_of_lt, arith, length-append, length-drop, length-set}
+use Rattle.c_prelude.proofs.Common.{take-append-drop, length-take, get_or-drop, drop-cons, take-suc, take-suc-set, drop-set-lt}
+use Rattle.c_prelude.proofs.Common.{AllByRecursion, bytes_at, little_endian, low_bytes, with_bytes}
 use Rattle.std.proofs.lemmas.List.{set_split, take-set-le, drop-set, drop-set-add}
 
 -- ---- one byte

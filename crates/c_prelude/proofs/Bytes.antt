@@ -1,12 +1,19 @@
 -- The helpers that copy and fill bytes of a memory: each is a loop over the bytes that are left.
-use Rattle.c_prelude.proofs.Common.{◌≡◌, ℕ, zero, suc, ◌+◌, ◌*◌, ◌%◌, ◌^◌, ◌<◌, ◌≤◌, Bool, true, false, ◌&&◌, List, [], ◌∷◌, length, get_or, drop, set, replicate, if◌then◌else◌, nat_eq, nat_lt, nat_le, Some, None, codes, Option, sym, refl, ap, ◌∙◌, subst, inl, inr, le_of_lt, arith, length-set, nat_tests, AllByRecursion, bytes_at, little_endian, low_bytes, with_bytes, I32, I64, Void, step_on, walk, Program, memory_in, with_memory, on_memory, with_content, Going, Pending, Progress, CValue, Frame, Machine, Memory, Name, Number, ObjectAddress, Pointer, Vars, after_label, CallComesBetween, GivesBack, call_begun, call_ended, copy_helper, fill_helper, object_stmts, ComesToBytes, DoesCopy, DoesFill, number}
+use Rattle.c_prelude.proofs.Common.{◌≡◌, ℕ, zero, suc, ◌+◌, ◌*◌, ◌%◌, ◌^◌, ◌<◌, ◌≤◌, Bool, true, false, ◌&&◌, List, [], ◌∷◌, length, get_or}
+use Rattle.c_prelude.proofs.Common.{drop, set, replicate, if◌then◌else◌, nat_eq, nat_lt, nat_le, Some, None, codes, Option, sym, refl, ap}
+use Rattle.c_prelude.proofs.Common.{◌∙◌, subst, inl, inr, le_of_lt, arith, length-set, nat_tests, AllByRecursion, bytes_at, little_endian}
+use Rattle.c_prelude.proofs.Common.{low_bytes, with_bytes, I32, I64, Void, step_on, walk, Program, memory_in, with_memory, on_memory}
+use Rattle.c_prelude.proofs.Common.{with_content, Going, Pending, Progress, CValue, Frame, Machine, Memory, Name, Number, ObjectAddress}
+use Rattle.c_prelude.proofs.Common.{Pointer, Vars, after_label, CallComesBetween, GivesBack, call_begun, call_ended, copy_helper}
+use Rattle.c_prelude.proofs.Common.{fill_helper, object_stmts, ComesToBytes, DoesCopy, DoesFill, number}
 use Rattle.w2c_base.specs.declared.value.ValType.TheVariants as type
 use Rattle.c_tree.specs.Tree as tree
 use Rattle.c_prelude.specs.declared.object_tables.TheConstants.{COPY, FILL}
 use Rattle.c_prelude.proofs.Computed.{computed, computed_between}
 use Rattle.c_prelude.proofs.Memories.{no_wrap}
 use Rattle.c_prelude.proofs.Widths.{sides}
-use Rattle.c_prelude.proofs.ByteLists.{byte_moved, put_byte, byte_below, still_bytes, nothing_written, copied_up, up_is, copied_down, down_is, filled, filled_is}
+use Rattle.c_prelude.proofs.ByteLists.{byte_moved, put_byte, byte_below, still_bytes, nothing_written, copied_up, up_is, copied_down}
+use Rattle.c_prelude.proofs.ByteLists.{down_is, filled, filled_is}
 use Rattle.c_prelude.proofs.Holdings.{Holding, holding, put_first}
 
 -- ---- numbers of 64 bits

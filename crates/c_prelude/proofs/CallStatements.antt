@@ -1,5 +1,9 @@
 -- A statement that calls a function of its unit comes to the end of the call.
-use Rattle.c_prelude.proofs.Common.{◌≡◌, ℕ, suc, List, ◌∷◌, slice_get, Some, None, Option, option_map, sym, ap, ◌∙◌, subst, arith, if_found, Definition, Program, defined, definition_at, definition_of, external_func, func_named, Effect, Going, Pending, Progress, go_on, CValue, Evaluated, Frame, FuncAddress, Machine, Name, Running, Stuck, UnitFunc, Step, Stops, act, at_rest, begin, c_step, call, call_callee, place_of, take_effect, with_value, CallComesBetween, CallComesTo, CallEnd, call_begun, call_ended}
+use Rattle.c_prelude.proofs.Common.{◌≡◌, ℕ, suc, List, ◌∷◌, slice_get, Some, None, Option, option_map, sym, ap, ◌∙◌, subst, arith, if_found}
+use Rattle.c_prelude.proofs.Common.{Definition, Program, defined, definition_at, definition_of, external_func, func_named, Effect, Going}
+use Rattle.c_prelude.proofs.Common.{Pending, Progress, go_on, CValue, Evaluated, Frame, FuncAddress, Machine, Name, Running, Stuck}
+use Rattle.c_prelude.proofs.Common.{UnitFunc, Step, Stops, act, at_rest, begin, c_step, call, call_callee, place_of, take_effect}
+use Rattle.c_prelude.proofs.Common.{with_value, CallComesBetween, CallComesTo, CallEnd, call_begun, call_ended}
 use Rattle.std.specs.Option.{option_or}
 use Rattle.c_tree.specs.Tree as tree
 use Rattle.c_meaning.specs.Reaches.{Reaches}
@@ -11,15 +15,11 @@ pub named_here : (p : Program) (u : ℕ) (name : Name) (d : Definition) → defi
     → func_named p u name ≡ Some (UnitFunc u name)
 named_here p u name d = go (slice_get p.units u)
   where
-    at_items : (items : List tree.Item) → defined items name ≡ Some d
-        → option_or (option_map (λ (d : Definition). UnitFunc u name) (defined items name)) (external_func p name) ≡ Some (UnitFunc u name)
-    at_items items e = ap (λ found. option_or (option_map (λ (d : Definition). UnitFunc u name) found) (external_func p name)) e
-
     go : (found : Option (List tree.Item)) → if_found found (λ items. defined items name) ≡ Some d
         → if_found found (λ items. option_or (option_map (λ (d : Definition). UnitFunc u name) (defined items name))
         (external_func p name)) ≡ Some (UnitFunc u name)
     go None e = absurd cc
-    go (Some items) e = at_items items e
+    go (Some items) e = ap (λ found. option_or (option_map (λ (d : Definition). UnitFunc u name) found) (external_func p name)) e
 
 -- the statement begins the call
 begins : (p : Program) (m : Machine) (r : Running) (target : Option Name) (f : tree.Func) (values : List CValue) (rest : List tree.Stmt)

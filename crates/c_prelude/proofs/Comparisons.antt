@@ -1,5 +1,7 @@
 -- The helpers of signed comparisons.
-use Rattle.c_prelude.proofs.Common.{◌≡◌, ℕ, ◌%◌, ◌^◌, Bool, true, false, List, if◌then◌else◌, Some, Option, refl, ap, ◌∙◌, arith, ValType, I32, truth, Program, Pending, Progress, go_on, Frame, Machine, Number, give, number_helper, DoesOperator, Compare}
+use Rattle.c_prelude.proofs.Common.{◌≡◌, ℕ, ◌%◌, ◌^◌, Bool, true, false, List, if◌then◌else◌, Some, Option, refl, ap, ◌∙◌, arith, ValType}
+use Rattle.c_prelude.proofs.Common.{I32, truth, Program, Pending, Progress, go_on, Frame, Machine, Number, give, number_helper}
+use Rattle.c_prelude.proofs.Common.{DoesOperator, Compare}
 use Rattle.w2c_base.specs.declared.value.ValType.TheVariants as type
 use Rattle.wasm_tree.specs.declared.operators.CompareOp.TheVariants as comparison_op
 use Rattle.c_prelude.specs.declared.rows.Form.TheVariants as form

@@ -1,5 +1,7 @@
 -- Calls whose statements compute.
-use Rattle.c_prelude.proofs.Common.{◌≡◌, ℕ, ◌≤◌, List, [], ◌∷◌, Some, ap, ◌∙◌, ValType, walk, walk_reaches, Program, Going, Pending, Progress, CValue, Frame, Machine, CallComesBetween, CallComesTo, CallEnd, call_begun, call_ended, c_type, number_helper, number_stmts, number, Form}
+use Rattle.c_prelude.proofs.Common.{◌≡◌, ℕ, ◌≤◌, List, [], ◌∷◌, Some, ap, ◌∙◌, ValType, walk, walk_reaches, Program, Going, Pending}
+use Rattle.c_prelude.proofs.Common.{Progress, CValue, Frame, Machine, CallComesBetween, CallComesTo, CallEnd, call_begun, call_ended}
+use Rattle.c_prelude.proofs.Common.{c_type_of, number_helper, number_stmts, number, Form}
 use Rattle.c_tree.specs.Tree as tree
 use Rattle.c_prelude.proofs.Widths.{operands}
 
@@ -15,7 +17,7 @@ begun_with f t pending m unit item below x y = Going pending (record {
   running = record {
     unit = unit;
     item = item;
-    result = c_type t;
+    result = c_type_of t;
     stmts = number_stmts (record { ty = t; form = f });
     rest = number_stmts (record { ty = t; form = f });
     vars = operands t x y;

@@ -1,5 +1,6 @@
 -- Every helper does what its instruction does.
-use Rattle.c_prelude.proofs.Common.{◌≡◌, sym, subst, helper_of, number_helper, DoesItsInstruction, DoesOperator, operator_of, row_of, Helper, NumOp}
+use Rattle.c_prelude.proofs.Common.{◌≡◌, sym, subst, helper_of, number_helper, DoesItsInstruction, DoesOperator, operator_of, row_of}
+use Rattle.c_prelude.proofs.Common.{Helper, NumOp}
 use Rattle.w2c_base.specs.declared.value.ValType.TheVariants as type
 use Rattle.c_tree.specs.Tree as tree
 use Rattle.c_prelude.specs.declared.operation.NumOp.TheVariants as num
@@ -7,7 +8,8 @@ use Rattle.c_prelude.specs.declared.operation.Helper.TheVariants as helper
 use Rattle.c_prelude.proofs.Division.{div_u_right, rem_u_right, div_s_right, rem_s_right}
 use Rattle.c_prelude.proofs.Comparisons.{lt_s_right, gt_s_right, le_s_right, ge_s_right}
 use Rattle.c_prelude.proofs.Shifts.{shr_s_right, rotl_right, rotr_right}
-use Rattle.c_prelude.proofs.Extensions.{extend_right, extend8_right_32, extend16_right_32, extend8_right_64, extend16_right_64, extend32_right_64}
+use Rattle.c_prelude.proofs.Extensions.{extend_right, extend8_right_32, extend16_right_32, extend8_right_64, extend16_right_64}
+use Rattle.c_prelude.proofs.Extensions.{extend32_right_64}
 use Rattle.c_prelude.proofs.Zeros.{clz_right, ctz_right}
 use Rattle.c_prelude.proofs.Ones.{popcnt_right}
 use Rattle.c_prelude.proofs.Memories.{load_right, store_right, size_right}

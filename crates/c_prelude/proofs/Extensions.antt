@@ -1,5 +1,8 @@
 -- Sign extension, and its helpers.
-use Rattle.c_prelude.proofs.Common.{◌≡◌, ℕ, zero, suc, ◌+◌, ◌*◌, ◌/◌, ◌%◌, ◌^◌, ◌<◌, List, bit_xor, Some, Option, sym, refl, ap, ◌∙◌, mod-lt, one-add, arith, pow_pos, xor_block, xor_zero_r, add-div_right, add-mod_right, nat_tests, mod-pow-add, ValType, extend_s, Program, Pending, Progress, go_on, Frame, Machine, give, number_helper, DoesOperator, number, Extend, ExtendI32S, Form}
+use Rattle.c_prelude.proofs.Common.{◌≡◌, ℕ, zero, suc, ◌+◌, ◌*◌, ◌/◌, ◌%◌, ◌^◌, ◌<◌, List, bit_xor, Some, Option, sym, refl, ap, ◌∙◌}
+use Rattle.c_prelude.proofs.Common.{mod-lt, one-add, arith, pow_pos, xor_block, xor_zero_r, add-div_right, add-mod_right, nat_tests}
+use Rattle.c_prelude.proofs.Common.{mod-pow-add, ValType, extend_s, Program, Pending, Progress, go_on, Frame, Machine, give, number_helper}
+use Rattle.c_prelude.proofs.Common.{DoesOperator, number, Extend, ExtendI32S, Form}
 use Rattle.w2c_base.specs.declared.value.ValType.TheVariants as type
 use Rattle.c_prelude.specs.declared.rows.Form.TheVariants as form
 use Rattle.c_prelude.proofs.Computed.{computed}

@@ -1,10 +1,11 @@
 -- Counting zeros: from the top by halves, what is left to count, and the count so far; and the lowest bit that is set.
-use Rattle.c_prelude.proofs.Common.{◌≡◌, ℕ, zero, suc, ◌+◌, ◌-◌, ◌*◌, ◌/◌, ◌%◌, ◌^◌, ◌<◌, ◌≤◌, true, false, nat_eq, nat_lt, bit_and, sym, refl, ap, ◌∙◌, subst, inl, inr, add-zero, mul-le-mul_right, mod-eq_of_lt, mul_assoc, lt_of_mul-lt-mul_right, one-mul, pow-suc, zero-mul, mul-one, le_of_mul-le-mul_right, arith, pow_pos, pow-add, and_block, and_zero_r, shifted_even, shifted_half, count_leading_zeros, zero-mod, eqb_tells, nat_tests, shl_below, truth}
+use Rattle.c_prelude.proofs.Common.{◌≡◌, ℕ, zero, suc, ◌+◌, ◌-◌, ◌*◌, ◌/◌, ◌%◌, ◌^◌, ◌<◌, ◌≤◌, true, false, nat_eq, nat_lt, bit_and, sym}
+use Rattle.c_prelude.proofs.Common.{refl, ap, ◌∙◌, subst, inl, inr, add-zero, mul-le-mul_right, mod-eq_of_lt, mul_assoc}
+use Rattle.c_prelude.proofs.Common.{lt_of_mul-lt-mul_right, one-mul, pow-suc, zero-mul, mul-one, le_of_mul-le-mul_right, arith, pow_pos}
+use Rattle.c_prelude.proofs.Common.{pow-add, and_block, and_zero_r, shifted_even, shifted_half, count_leading_zeros, zero-mod, eqb_tells}
+use Rattle.c_prelude.proofs.Common.{nat_tests, shl_below, truth}
 use lib.Count.{leading_unique, leading_of_zero, count_trailing_zeros}
 use Rattle.c_prelude.proofs.Signs.{minus, minus-is}
-
-pub below_test : (a b : ℕ) → a < b → nat_lt a b ≡ true
-below_test a b h = grind (arith, nat_tests)
 
 -- before the stages for 2 ^ (c - 1) bits and less, a was shifted up by n to x
 pub record Shifted (N c a x n : ℕ) : Type 0 where

@@ -1,8 +1,10 @@
 -- A machine in which one memory holds other bytes, and nothing else is changed.
-use Rattle.c_prelude.proofs.Common.{◌≡◌, ℕ, zero, suc, Bool, true, false, List, [], ◌∷◌, is_some, if◌then◌else◌, slice_get, slice_set, Some, None, Option, bytes_eq, sym, refl, ap, ◌∙◌, if_found, named, with_named, memory_in, with_memory, with_objects, with_content, Machine, Memory, Name, ObjectAddress, Objects}
-use Rattle.std.proofs.lemmas.Option.{none-some, same_Some}
+use Rattle.c_prelude.proofs.Common.{◌≡◌, ℕ, zero, suc, Bool, true, false, List, [], ◌∷◌, is_some, if◌then◌else◌, slice_get, slice_set, Some}
+use Rattle.c_prelude.proofs.Common.{None, Option, bytes_eq, sym, refl, ap, ◌∙◌, if_found, named, with_named, memory_in, with_memory}
+use Rattle.c_prelude.proofs.Common.{with_objects, with_content, Machine, Memory, Name, ObjectAddress, Objects}
+use Rattle.std.proofs.lemmas.Option.{none-some}
 use Rattle.w2c_base.proofs.Places.{set_same}
-use Rattle.c_meaning.proofs.Lookups.{named-with_named}
+use Rattle.c_meaning.proofs.Lookups.{named-with_named, with_same}
 
 -- the machine with these bytes or those in its memory
 pub record Holding (m : Machine) (a : ObjectAddress) (memory : Memory) : Type 0 where
@@ -22,17 +24,6 @@ get_set : {A : Type 0} (xs : List A) (k : ℕ) (x y : A) → slice_get xs k ≡ 
 get_set [] k x y e = absurd (none-some y e)
 get_set (z ∷ xs) zero x y e = refl
 get_set (z ∷ xs) (suc k) x y e = get_set xs k x y e
-
-with_same : {A : Type 0} (name : Name) (v : A) (entries : List (Name × A)) → named name entries ≡ Some v
-    → with_named name v entries ≡ entries
-with_same name v [] e = refl
-with_same name v (x ∷ entries) e = go (bytes_eq x.0 name) (with_same name v entries) e
-  where
-    go : (b : Bool) → (named name entries ≡ Some v → with_named name v entries ≡ entries)
-        → (if b then Some x.1 else named name entries) ≡ Some v
-        → (if b then (x.0, v) ∷ entries else x ∷ with_named name v entries) ≡ x ∷ entries
-    go true behind e = ap (λ w. (x.0, w) ∷ entries) (sym (same_Some x.1 v e))
-    go false behind e = ap (λ ys. x ∷ ys) (behind e)
 
 with_again : {A : Type 0} (name : Name) (v w : A) (entries : List (Name × A))
     → with_named name w (with_named name v entries) ≡ with_named name w entries

@@ -1,22 +1,24 @@
-mod Common
-pub mod Blocks
-pub mod ByteLists
-pub mod Bytes
+-- What crates above cite.
 pub mod CallStatements
-pub mod Comparisons
-pub mod Computed
-pub mod Division
 pub mod EachHelper
-pub mod Extensions
 pub mod Functions
-pub mod Halving
-pub mod Holdings
-pub mod Memories
-pub mod Numbers
-pub mod Ones
 pub mod Shifts
-pub mod Signs
-pub mod Tables
-pub mod Whole
 pub mod Widths
-pub mod Zeros
+-- What the crate's own proofs cite.
+mod Common
+mod Blocks
+mod ByteLists
+mod Bytes
+mod Comparisons
+mod Computed
+mod Division
+mod Extensions
+mod Halving
+mod Holdings
+mod Memories
+mod Numbers
+mod Ones
+mod Signs
+mod Tables
+mod Whole
+mod Zeros

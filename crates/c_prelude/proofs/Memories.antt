@@ -1,5 +1,11 @@
 -- The helpers of loads and stores, and of a memory's size.
-use Rattle.c_prelude.proofs.Common.{◌≡◌, ℕ, ◌+◌, ◌/◌, ◌%◌, ◌^◌, ◌<◌, ◌≤◌, true, List, [], ◌∷◌, length, if◌then◌else◌, nat_le, Some, None, codes, Option, refl, ap, ◌∙◌, inl, inr, arith, bytes_at, little_endian, low_bytes, with_bytes, equal_type, type_of, value, MemoryOut, ValType, Value, I32, I64, LoadOp, StoreOp, CType, Void, Answer, Gives, Traps, walk, Program, memory_in, get, on_memory, primitive, put, Going, Pending, Progress, CValue, Evaluated, Frame, Is, Machine, Memory, Name, Number, ObjectAddress, Pointer, Vars, evaluate_arg, CallComesTo, call_begun, c_type, load_helper, size_helper, store_helper, DoesLoad, DoesSize, DoesStore, answered, number, stored, trap}
+use Rattle.c_prelude.proofs.Common.{◌≡◌, ℕ, ◌+◌, ◌/◌, ◌%◌, ◌^◌, ◌<◌, ◌≤◌, true, List, [], ◌∷◌, length, if◌then◌else◌, nat_le, Some, None}
+use Rattle.c_prelude.proofs.Common.{codes, Option, refl, ap, ◌∙◌, inl, inr, arith, bytes_at, little_endian, low_bytes, with_bytes}
+use Rattle.c_prelude.proofs.Common.{equal_type, type_of, value, MemoryOut, ValType, Value, I32, I64, LoadOp, StoreOp, CType, Void, Answer}
+use Rattle.c_prelude.proofs.Common.{Gives, Traps, walk, Program, memory_in, get, on_memory, primitive, put, Going, Pending, Progress}
+use Rattle.c_prelude.proofs.Common.{CValue, Evaluated, Frame, Is, Machine, Memory, Name, Number, ObjectAddress, Pointer, Vars, evaluate_arg}
+use Rattle.c_prelude.proofs.Common.{CallComesTo, call_begun, c_type_of, load_helper, size_helper, store_helper, DoesLoad, DoesSize}
+use Rattle.c_prelude.proofs.Common.{DoesStore, answered, number, stored, trap}
 use Rattle.w2c_base.specs.declared.value.ValType.TheVariants as type
 use Rattle.wasm_tree.specs.declared.operators.LoadOp.TheVariants as load
 use Rattle.wasm_tree.specs.declared.operators.StoreOp.TheVariants as store
@@ -97,7 +103,7 @@ load_args a b o = Pointer (Some a) ∷ number type.I32 b ∷ number type.I32 o �
 -- a call of the helper begins with the statements of this reading
 abbrev BeginsLoad : {k : ℕ} {t : ValType} {f : ℕ → ℕ} → tree.Func → Reading k t f → Type 0
 BeginsLoad {k} {t} func r = (m : Machine) (a : ObjectAddress) (b o : ℕ)
-    → Begins func (c_type t) (load_args a b o) m (load_stmts k r.name r.e r.zero) (loading a b o 0 0 (value r.raw 0))
+    → Begins func (c_type_of t) (load_args a b o) m (load_stmts k r.name r.e r.zero) (loading a b o 0 0 (value r.raw 0))
 
 loads : {k : ℕ} {t : ValType} {f : ℕ → ℕ} (func : tree.Func) (r : Reading k t f) → BeginsLoad func r
     → (m : Machine) (a : ObjectAddress) (memory : Memory) (b o : ℕ) → memory_in m a ≡ Some memory → b < 2 ^ 32 → o < 2 ^ 32
@@ -212,17 +218,7 @@ load_short op = (reading_of op).short
 
 begins_load : (op : LoadOp) → BeginsLoad (load_helper op) (reading_of op)
 begins_load load.I32Load m a b o p pending unit item below = refl
-begins_load load.I64Load m a b o p pending unit item below = refl
-begins_load load.I32Load8S m a b o p pending unit item below = refl
-begins_load load.I32Load8U m a b o p pending unit item below = refl
-begins_load load.I32Load16S m a b o p pending unit item below = refl
-begins_load load.I32Load16U m a b o p pending unit item below = refl
-begins_load load.I64Load8S m a b o p pending unit item below = refl
-begins_load load.I64Load8U m a b o p pending unit item below = refl
-begins_load load.I64Load16S m a b o p pending unit item below = refl
-begins_load load.I64Load16U m a b o p pending unit item below = refl
-begins_load load.I64Load32S m a b o p pending unit item below = refl
-begins_load load.I64Load32U m a b o p pending unit item below = refl
+begins_load _ m a b o p pending unit item below = refl
 
 pub load_right : (op : LoadOp) → DoesLoad (load_helper op) op
 load_right op m a memory is b o pb po = loads (load_helper op) (reading_of op) (begins_load op) m a memory b o is pb po
@@ -354,12 +350,7 @@ store_short op = (writing_of op).short
 
 begins_store : (op : StoreOp) → BeginsStore (store_helper op) (writing_of op)
 begins_store store.I32Store m a b o v p pending unit item below = refl
-begins_store store.I64Store m a b o v p pending unit item below = refl
-begins_store store.I32Store8 m a b o v p pending unit item below = refl
-begins_store store.I32Store16 m a b o v p pending unit item below = refl
-begins_store store.I64Store8 m a b o v p pending unit item below = refl
-begins_store store.I64Store16 m a b o v p pending unit item below = refl
-begins_store store.I64Store32 m a b o v p pending unit item below = refl
+begins_store _ m a b o v p pending unit item below = refl
 
 pub store_right : (op : StoreOp) → DoesStore (store_helper op) op
 store_right op m a memory is b o v pb po = stores (store_helper op) (writing_of op) (begins_store op) m a memory b o v is pb po

@@ -1,5 +1,6 @@
 -- The order of signed numbers, and signed numbers by their patterns.
-use Rattle.c_prelude.proofs.Common.{◌≡◌, ℕ, suc, ◌+◌, ◌-◌, ◌%◌, ◌^◌, ◌<◌, ◌≤◌, pos, negsuc, nat_lt, nat_le, int_lt, int_le, arith, nat_tests, signed}
+use Rattle.c_prelude.proofs.Common.{◌≡◌, ℕ, suc, ◌+◌, ◌-◌, ◌%◌, ◌^◌, ◌<◌, ◌≤◌, pos, negsuc, nat_lt, nat_le, int_lt, int_le, arith}
+use Rattle.c_prelude.proofs.Common.{nat_tests, signed}
 use Rattle.std.proofs.lemmas.Int.{ints}
 
 -- the order of signed numbers is that of the numbers half a turn on

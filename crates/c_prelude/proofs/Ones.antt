@@ -1,13 +1,15 @@
 -- The helper that counts ones.
-use Rattle.c_prelude.proofs.Common.{◌≡◌, ℕ, zero, suc, ◌-◌, ◌*◌, ◌/◌, ◌%◌, ◌^◌, ◌<◌, ◌≤◌, true, List, [], ◌∷◌, nat_lt, Some, codes, Option, refl, ap, ◌∙◌, mod-eq_of_lt, arith, ones, pow_below, bits, value, ValType, step_on, walk, Program, Going, Progress, Number, c_type, number_helper, DoesOperator, num, Unary}
+use Rattle.c_prelude.proofs.Common.{◌≡◌, ℕ, zero, suc, ◌-◌, ◌*◌, ◌/◌, ◌%◌, ◌^◌, ◌<◌, ◌≤◌, true, List, [], ◌∷◌, nat_lt, Some, codes, Option}
+use Rattle.c_prelude.proofs.Common.{refl, ap, ◌∙◌, mod-eq_of_lt, arith, ones, pow_below, bits, value, ValType, step_on, walk, Program}
+use Rattle.c_prelude.proofs.Common.{Going, Progress, Number, c_type_of, number_helper, DoesOperator, num, Unary}
 use Rattle.w2c_base.specs.declared.value.ValType.TheVariants as type
+use Rattle.w2c_base.proofs.Numbers.{below_is_found}
 use Rattle.wasm_tree.specs.declared.operators.UnaryOp.TheVariants as unary_op
 use Rattle.c_tree.specs.declared.tree.COp.TheVariants as op
 use Rattle.c_tree.specs.Tree as tree
 use Rattle.c_prelude.specs.declared.rows.Form.TheVariants as form
 use Rattle.c_prelude.proofs.Computed.{computed}
 use Rattle.c_prelude.proofs.Widths.{widths, evaluate-num, seen}
-use Rattle.c_prelude.proofs.Halving.{below_test}
 use Rattle.c_prelude.proofs.Zeros.{Call, called, gives, steps_of, whole_width}
 use Rattle.c_prelude.proofs.Blocks.{low_halves, summed, sums, sums-below, gathered_32, gathered_64}
 
@@ -32,7 +34,7 @@ at t call rest a = Going call.pending (record {
   running = record {
     unit = call.unit;
     item = call.item;
-    result = c_type t;
+    result = c_type_of t;
     stmts = call.stmts;
     rest = rest;
     vars = (codes "x", Number (value t a)) ∷ [];
@@ -46,7 +48,7 @@ walk-suc p (suc n) from = walk-suc p n (step_on p from)
 
 shift_test : (t : ValType) (i : ℕ) → i < steps_of t → nat_lt (2 ^ i) (bits t) ≡ true
 shift_test t i l = let p : 2 ^ i < 2 ^ steps_of t = pow_below i (steps_of t) l in rw (whole_width t) at
-    (below_test (2 ^ i) (2 ^ steps_of t) p)
+    (below_is_found (2 ^ i) (2 ^ steps_of t) p)
 
 stage_step : (t : ValType) (call : Call) (rest : List tree.Stmt) (i a : ℕ) → i < steps_of t
     → summed (2 ^ i) (low_halves i (steps_of t)) a < 2 ^ bits t

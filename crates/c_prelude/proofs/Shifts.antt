@@ -1,10 +1,15 @@
 -- The helpers of shifts and rotations.
-use Rattle.c_prelude.proofs.Common.{◌≡◌, ℕ, zero, suc, ◌+◌, ◌-◌, ◌*◌, ◌/◌, ◌%◌, ◌^◌, ◌<◌, ◌≤◌, true, false, nat_eq, nat_lt, bit_or, sym, refl, ap, ◌∙◌, inl, inr, add-zero, mod-lt, mod-eq_of_lt, lt_of_mul-lt-mul_right, div-add-mod', zero-add, mul-one, div-one, arith, pow_pos, pow_mono, pow-add, or_self, add-mod_right, add-mul-div_right, div-eq_of_lt, mod_self, mul-mod_left, sub-zero, nat_tests, div-mul-add, mod-pow-add, or_shifted, shl-shr, shr_below, shr_le, bits, ValType, Gives, shr_s, Machine, number_helper, DoesOperator, Binary}
+use Rattle.c_prelude.proofs.Common.{◌≡◌, ℕ, zero, suc, ◌+◌, ◌-◌, ◌*◌, ◌/◌, ◌%◌, ◌^◌, ◌<◌, ◌≤◌, true, false, nat_eq, nat_lt, bit_or, sym}
+use Rattle.c_prelude.proofs.Common.{refl, ap, ◌∙◌, inl, inr, add-zero, mod-lt, mod-eq_of_lt, lt_of_mul-lt-mul_right, div-add-mod', zero-add}
+use Rattle.c_prelude.proofs.Common.{mul-one, div-one, arith, pow_pos, pow_mono, pow-add, or_self, add-mod_right, add-mul-div_right}
+use Rattle.c_prelude.proofs.Common.{div-eq_of_lt, mod_self, mul-mod_left, sub-zero, nat_tests, div-mul-add, mod-pow-add, or_shifted}
+use Rattle.c_prelude.proofs.Common.{shl-shr, shr_below, shr_le, bits, ValType, Gives, shr_s, Machine, number_helper, DoesOperator, Binary}
 use Rattle.w2c_base.specs.declared.value.ValType.TheVariants as type
+use Rattle.w2c_base.proofs.Types.{bits_below}
 use Rattle.wasm_tree.specs.declared.operators.BinaryOp.TheVariants as binary_op
 use Rattle.c_prelude.specs.declared.rows.Form.TheVariants as form
 use Rattle.c_prelude.proofs.Computed.{BeginsWith, computed_from}
-use Rattle.c_prelude.proofs.Widths.{widths, at_operands, twice, half_pos, answers, sides, bits-below}
+use Rattle.c_prelude.proofs.Widths.{widths, at_operands, twice, half_pos, answers, sides}
 use Rattle.c_prelude.proofs.Signs.{is_low, is_high, pattern_of-pos}
 
 some_bits : (t : ValType) → 0 < bits t
@@ -156,7 +161,7 @@ pub rotl_right : (t : ValType) → DoesOperator (number_helper (record { ty = t;
 rotl_right t m x y p q =
     let N = bits t in
     let l : y % N < N = count-lt t y in
-    answers t (Gives _) _ (ap Gives (sym (rotated N (y % N) x (bits-below t) p l)))
+    answers t (Gives _) _ (ap Gives (sym (rotated N (y % N) x (bits_below t) p l)))
     (computed_from form.Rotl t m x y 2 (omega arith) (rotl_begins t m x y) (λ program pending unit item below.
     simp (
       widths,
@@ -185,7 +190,7 @@ pub rotr_right : (t : ValType) → DoesOperator (number_helper (record { ty = t;
 rotr_right t m x y p q =
     let N = bits t in
     let l : y % N < N = count-lt t y in
-    answers t (Gives _) _ (ap Gives (sym (rotated_r N (y % N) x (bits-below t) p l)))
+    answers t (Gives _) _ (ap Gives (sym (rotated_r N (y % N) x (bits_below t) p l)))
     (computed_from form.Rotr t m x y 2 (omega arith) (rotr_begins t m x y) (λ program pending unit item below.
     simp (
       widths,

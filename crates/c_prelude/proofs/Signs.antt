@@ -1,5 +1,7 @@
 -- Signed numbers of N bits by the numbers that C computes.
-use Rattle.c_prelude.proofs.Common.{◌≡◌, ℕ, zero, suc, ◌+◌, ◌-◌, ◌*◌, ◌/◌, ◌%◌, ◌^◌, ◌<◌, ◌≤◌, true, false, ◌≢◌, ◌⊎◌, pos, negsuc, neg_ℤ, nat_eq, int_div, int_rem, refl, mod-eq_of_lt, arith, mod_self, zero-mod, nat_tests, DivByZero, IntOverflow, Gives, Traps, div_s, overflows, pattern_of, rem_s, signed}
+use Rattle.c_prelude.proofs.Common.{◌≡◌, ℕ, zero, suc, ◌+◌, ◌-◌, ◌*◌, ◌/◌, ◌%◌, ◌^◌, ◌<◌, ◌≤◌, true, false, ◌≢◌, ◌⊎◌, pos, negsuc, neg_ℤ}
+use Rattle.c_prelude.proofs.Common.{nat_eq, int_div, int_rem, refl, mod-eq_of_lt, arith, mod_self, zero-mod, nat_tests, DivByZero}
+use Rattle.c_prelude.proofs.Common.{IntOverflow, Gives, Traps, div_s, overflows, pattern_of, rem_s, signed}
 use Rattle.c_prelude.proofs.Numbers.{signed_low, signed_high}
 
 -- 0 - v in C

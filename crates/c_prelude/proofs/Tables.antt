@@ -1,5 +1,7 @@
 -- The helper of a table's elements.
-use Rattle.c_prelude.proofs.Common.{◌≡◌, ℕ, zero, suc, ◌<◌, ◌≤◌, true, false, ◌≢◌, ◌⊎◌, List, [], ◌∷◌, length, nat_eq, nat_le, slice_get, Some, None, Option, refl, inl, inr, arith, eqb_tells, nat_tests, on_table, Element, Pointer, CallComesTo, element_helper, DoesElement, element_found, number}
+use Rattle.c_prelude.proofs.Common.{◌≡◌, ℕ, zero, suc, ◌<◌, ◌≤◌, true, false, ◌≢◌, ◌⊎◌, List, [], ◌∷◌, length, nat_eq, nat_le, slice_get}
+use Rattle.c_prelude.proofs.Common.{Some, None, Option, refl, inl, inr, arith, eqb_tells, nat_tests, on_table, Element, Pointer}
+use Rattle.c_prelude.proofs.Common.{CallComesTo, element_helper, DoesElement, element_found, number}
 use Rattle.w2c_base.specs.declared.value.ValType.TheVariants as type
 use Rattle.c_prelude.proofs.Computed.{computed}
 

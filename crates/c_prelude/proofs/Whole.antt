@@ -16,12 +16,7 @@ static f = f ≡ record {
 -- a helper is made of its parts
 of_its_parts : (which : Helper) → static (helper_of which)
 of_its_parts (helper.Num op) = refl
-of_its_parts (helper.Load op) = refl
-of_its_parts (helper.Store op) = refl
-of_its_parts helper.Size = refl
-of_its_parts helper.Element = refl
-of_its_parts helper.Copy = refl
-of_its_parts helper.Fill = refl
+of_its_parts _ = refl
 
 pub is_whole : (which : Helper) (f : tree.Func) (result : CType) (name : List ℕ) (params : List tree.Param) (locals : List tree.Local)
     (stmts : List tree.Stmt)

@@ -1,5 +1,8 @@
 -- What numbers of a type do, so that one proof serves both types.
-use Rattle.c_prelude.proofs.Common.{◌≡◌, ℕ, ◌-◌, ◌*◌, ◌%◌, ◌^◌, ◌<◌, ◌≤◌, Bool, true, false, ◌⊎◌, List, [], ◌∷◌, if◌then◌else◌, nat_lt, nat_le, codes, sym, refl, ap, subst, inl, inr, arith, leb_tells, nat_tests, bits, number_of, type_of, value, ValType, Value, I32, I64, Void, Answer, Program, of_type, CValue, Evaluated, Is, Machine, Number, Running, Vars, then_evaluate, evaluate, CallComesTo, c_type, answered, flag, num}
+use Rattle.c_prelude.proofs.Common.{◌≡◌, ℕ, ◌-◌, ◌*◌, ◌%◌, ◌^◌, ◌<◌, ◌≤◌, Bool, true, false, ◌⊎◌, List, [], ◌∷◌, if◌then◌else◌, nat_lt}
+use Rattle.c_prelude.proofs.Common.{nat_le, codes, sym, refl, ap, subst, inl, inr, arith, leb_tells, nat_tests, bits, number_of, type_of}
+use Rattle.c_prelude.proofs.Common.{value, ValType, Value, I32, I64, Void, Answer, Program, of_type, CValue, Evaluated, Is, Machine, Number}
+use Rattle.c_prelude.proofs.Common.{Running, Vars, then_evaluate, evaluate, CallComesTo, c_type_of, answered, flag, num}
 use Rattle.w2c_base.specs.declared.value.ValType.TheVariants as type
 use Rattle.c_tree.specs.declared.tree.COp.{COp}
 use Rattle.c_tree.specs.Tree as tree
@@ -37,7 +40,7 @@ flagged-bit type.I32 b = ap (λ n. Is (I32 n)) (bit_stays b)
 flagged-bit type.I64 b = ap (λ n. Is (I64 n)) (bit_stays b)
 
 -- a number goes where its type is wanted or one of its type is held
-pub of_type-value : (t : ValType) (n : ℕ) → of_type (c_type t) (Number (value t n)) ≡ true
+pub of_type-value : (t : ValType) (n : ℕ) → of_type (c_type_of t) (Number (value t n)) ≡ true
 of_type-value type.I32 n = refl
 of_type-value type.I64 n = refl
 
@@ -62,10 +65,6 @@ twice type.I64 = refl
 pub half_pos : (t : ValType) → 0 < 2 ^ (bits t - 1)
 half_pos type.I32 = omega arith
 half_pos type.I64 = omega arith
-
-pub bits-below : (t : ValType) → bits t < 2 ^ bits t
-bits-below type.I32 = omega arith
-bits-below type.I64 = omega arith
 
 pub at_operands : (p : Program) (m : Machine) (unit : ℕ) (t : ValType) (x y n : ℕ)
     → evaluate p m (seen unit (operands t x y)) (num t n) ≡ Is (value t n)

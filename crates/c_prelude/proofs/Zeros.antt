@@ -1,13 +1,20 @@
 -- The helpers that count zeros.
-use Rattle.c_prelude.proofs.Common.{◌≡◌, ℕ, zero, suc, ◌+◌, ◌-◌, ◌*◌, ◌/◌, ◌%◌, ◌^◌, ◌<◌, ◌≤◌, true, List, [], ◌∷◌, nat_eq, nat_lt, bit_and, Some, codes, sym, refl, ap, ◌∙◌, inl, inr, arith, count_leading_zeros, count_trailing_zeros, trailing_of_zero, eqb_tells, bits, value, ValType, Gives, truth, walk, Program, Going, Pending, Progress, Frame, Machine, Number, Vars, call_ended, c_type, number_helper, number_stmts, DoesOperator, answered, flag, num, Unary, Form}
+use Rattle.c_prelude.proofs.Common.{◌≡◌, ℕ, zero, suc, ◌+◌, ◌-◌, ◌*◌, ◌/◌, ◌%◌, ◌^◌, ◌<◌, ◌≤◌, true, List, [], ◌∷◌, nat_eq, nat_lt, bit_and}
+use Rattle.c_prelude.proofs.Common.{Some, codes, sym, refl, ap, ◌∙◌, inl, inr, arith, count_leading_zeros, count_trailing_zeros}
+use Rattle.c_prelude.proofs.Common.{trailing_of_zero, eqb_tells, bits, value, ValType, Gives, truth, walk, Program, Going, Pending}
+use Rattle.c_prelude.proofs.Common.{Progress, Frame, Machine, Number, Vars, call_ended, c_type_of, number_helper, number_stmts}
+use Rattle.c_prelude.proofs.Common.{DoesOperator, answered, flag, num, Unary, Form}
 use Rattle.w2c_base.specs.declared.value.ValType.TheVariants as type
+use Rattle.w2c_base.proofs.Types.{bits_below}
+use Rattle.w2c_base.proofs.Numbers.{below_is_found}
 use Rattle.wasm_tree.specs.declared.operators.UnaryOp.TheVariants as unary_op
 use Rattle.c_tree.specs.declared.tree.COp.TheVariants as op
 use Rattle.c_tree.specs.Tree as tree
 use Rattle.c_prelude.specs.declared.rows.Form.TheVariants as form
 use Rattle.c_prelude.proofs.Computed.{computed}
-use Rattle.c_prelude.proofs.Widths.{widths, evaluate-num, evaluate-flag, seen, sides, bits-below, twice, half_pos}
-use Rattle.c_prelude.proofs.Halving.{below_test, Shifted, shift-some, shift-none, shifted-some, shifted-none, counted, room, more_room, lowest, lowest-is}
+use Rattle.c_prelude.proofs.Widths.{widths, evaluate-num, evaluate-flag, seen, sides, twice, half_pos}
+use Rattle.c_prelude.proofs.Halving.{Shifted, shift-some, shift-none, shifted-some, shifted-none, counted, room, more_room, lowest}
+use Rattle.c_prelude.proofs.Halving.{lowest-is}
 
 -- ---- the statements, by recursion on the stages
 
@@ -78,7 +85,7 @@ at t call rest a b c = Going call.pending (record {
   running = record {
     unit = call.unit;
     item = call.item;
-    result = c_type t;
+    result = c_type_of t;
     stmts = call.stmts;
     rest = rest;
     vars = counting t a b c;
@@ -122,19 +129,19 @@ clz_run : (t : ValType) (call : Call) (c y a b v : ℕ) → Shifted (bits t) c y
     → walk call.program (turns c) (Some (at t call (stages clz_stage t c (count_end t)) a b v)) ≡ Some
     (gives t call (count_leading_zeros (bits t) y))
 unfolding turns
-clz_run t call zero y a b v h = ends t call a b v ∙ ap (λ n. Some (gives t call n)) (counted (bits t) y a b (bits-below t) h)
+clz_run t call zero y a b v h = ends t call a b v ∙ ap (λ n. Some (gives t call n)) (counted (bits t) y a b (bits_below t) h)
 clz_run t call (suc c) y a b v h =
     let N = bits t in
     let rest = stages clz_stage t c (count_end t) in
     elim (sides (2 ^ (N - 2 ^ c)) a) [
       | inl l ↦
-          ap (walk call.program (turns c)) (clz_step t call rest (2 ^ c) a b v 0 (shift-none N c y a b (bits-below t) h l.2)
-          (below_test 0 N (room N c b h.reach)))
-          ∙ clz_run t call c y _ _ 0 (shifted-none N c y a b (bits-below t) h l.2)
+          ap (walk call.program (turns c)) (clz_step t call rest (2 ^ c) a b v 0 (shift-none N c y a b (bits_below t) h l.2)
+          (below_is_found 0 N (room N c b h.reach)))
+          ∙ clz_run t call c y _ _ 0 (shifted-none N c y a b (bits_below t) h l.2)
       | inr l ↦
-          ap (walk call.program (turns c)) (clz_step t call rest (2 ^ c) a b v (2 ^ c) (shift-some N c y a b (bits-below t) h l.2)
-          (below_test (2 ^ c) N (more_room N c b h.reach)))
-          ∙ clz_run t call c y _ _ (2 ^ c) (shifted-some N c y a b (bits-below t) h l.2)
+          ap (walk call.program (turns c)) (clz_step t call rest (2 ^ c) a b v (2 ^ c) (shift-some N c y a b (bits_below t) h l.2)
+          (below_is_found (2 ^ c) N (more_room N c b h.reach)))
+          ∙ clz_run t call c y _ _ (2 ^ c) (shifted-some N c y a b (bits_below t) h l.2)
     ]
 
 -- ---- the same of trailing zeros: each stage by itself
@@ -148,7 +155,7 @@ at_place t call rest a b = Going call.pending (record {
   running = record {
     unit = call.unit;
     item = call.item;
-    result = c_type t;
+    result = c_type_of t;
     stmts = call.stmts;
     rest = rest;
     vars = places t a b;

@@ -8,11 +8,11 @@ use Rattle.c_tree.specs.Scope.{func_type_of}
 use Rattle.c_tree.specs.Spelled.{depth_limit}
 use Rattle.c_tree.specs.Tests.{item_formed}
 use Rattle.c_tree.specs.FirstBroken.{KeepsRules}
+use Rattle.c_tree.specs.TypesInC.{c_type_of}
 use Rattle.c_meaning.specs.Primitives.{primitive}
 use Rattle.c_prelude.specs.declared.operation.Helper.{Helper}
 use Rattle.c_prelude.specs.declared.operation.Helper.TheVariants as helper
 use Rattle.c_prelude.specs.Rows.{Operator, Unary, Binary, Compare, ExtendI32S, Extend, operator_of, row_of}
-use Rattle.c_prelude.specs.Helpers.{c_type}
 
 abbrev signature : CType → List CType → tree.FuncType
 signature result params = record { params = params; result = result }
@@ -28,9 +28,9 @@ operator_type t (Extend width) = signature t (t ∷ [])
 -- a memory, a base, an offset, and for a store the value; a memory; a table, an index and a signature
 -- number; a memory and three numbers
 abbrev pub helper_type : Helper → tree.FuncType
-helper_type (helper.Num op) = operator_type (c_type (row_of op).ty) (operator_of (row_of op).form)
-helper_type (helper.Load op) = signature (c_type (load_access op).ty) (type.PtrMem ∷ type.U32 ∷ type.U32 ∷ [])
-helper_type (helper.Store op) = signature type.Void (type.PtrMem ∷ type.U32 ∷ type.U32 ∷ c_type (store_access op).ty ∷ [])
+helper_type (helper.Num op) = operator_type (c_type_of (row_of op).ty) (operator_of (row_of op).form)
+helper_type (helper.Load op) = signature (c_type_of (load_access op).ty) (type.PtrMem ∷ type.U32 ∷ type.U32 ∷ [])
+helper_type (helper.Store op) = signature type.Void (type.PtrMem ∷ type.U32 ∷ type.U32 ∷ c_type_of (store_access op).ty ∷ [])
 helper_type helper.Size = signature type.U32 (type.PtrMem ∷ [])
 helper_type helper.Element = signature type.FnPtr (type.PtrTab ∷ type.U32 ∷ type.U64 ∷ [])
 helper_type helper.Copy = signature type.Void (type.PtrMem ∷ type.U32 ∷ type.U32 ∷ type.U32 ∷ [])

@@ -8,16 +8,19 @@ use Rattle.wasm_tree.specs.declared.operators.StoreOp.{StoreOp}
 use Rattle.wasm_tree.specs.Accesses.{load_access, store_access}
 use Rattle.c_tree.specs.declared.tree.CType.{CType}
 use Rattle.c_tree.specs.declared.tree.CType.TheVariants as type
-use Rattle.c_tree.specs.declared.tree.Num.{Num}
-use Rattle.c_tree.specs.declared.tree.Num.TheVariants.{N32, N64, Plain}
 use Rattle.c_tree.specs.Tree as tree
+use Rattle.c_tree.specs.Makers.{zero_number}
+use Rattle.c_tree.specs.TypesInC.{c_type_of}
 use Rattle.c_prelude.specs.declared.operation.Helper.{Helper}
 use Rattle.c_prelude.specs.declared.operation.Helper.TheVariants as helper
 use Rattle.c_prelude.specs.declared.rows.Form.{Form}
-use Rattle.c_prelude.specs.declared.rows.Form.TheVariants.{DivS, DivU, RemS, RemU, ShrS, Rotl, Rotr, Clz, Ctz, Popcnt, LtS, GtS, LeS, GeS, ExtendS, Extend8S, Extend16S, Extend32S}
+use Rattle.c_prelude.specs.declared.rows.Form.TheVariants.{DivS, DivU, RemS, RemU, ShrS, Rotl, Rotr, Clz, Ctz, Popcnt, LtS, GtS, LeS, GeS}
+use Rattle.c_prelude.specs.declared.rows.Form.TheVariants.{ExtendS, Extend8S, Extend16S, Extend32S}
 use Rattle.c_prelude.specs.declared.rows.Row.{Row}
 use Rattle.c_prelude.specs.declared.piece.Piece.{Piece}
-use Rattle.c_prelude.specs.declared.number_tables.TheConstants.{LT_S, GT_S, LE_S, GE_S, DIV_U, REM_U, DIV_S, REM_S, SHR_S, ROTL, ROTR, CLZ_STAGE, CTZ_STAGE, COUNT_END, POPCNT_STAGE, POPCNT_END, EXTEND_S, EXTEND_LOW_S}
+use Rattle.c_prelude.specs.declared.number_tables.TheConstants.{LT_S, GT_S, LE_S, GE_S, DIV_U, REM_U, DIV_S, REM_S, SHR_S, ROTL, ROTR}
+use Rattle.c_prelude.specs.declared.number_tables.TheConstants.{CLZ_STAGE, CTZ_STAGE, COUNT_END, POPCNT_STAGE, POPCNT_END, EXTEND_S}
+use Rattle.c_prelude.specs.declared.number_tables.TheConstants.{EXTEND_LOW_S}
 use Rattle.c_prelude.specs.declared.object_tables.TheConstants.{ACCESS, LOAD, LOAD_S, STORE, SIZE, ELEMENT, COPY, FILL}
 use Rattle.c_prelude.specs.Rows.{row_of, prefix_of, form_name, load_name, store_name}
 use Rattle.c_prelude.specs.Pieces.{letter, nothing_made, all_placed, staged}
@@ -28,12 +31,6 @@ Variable = CType × ℕ
 
 abbrev pub param : Variable → tree.Param
 param v = (v.0, Some (letter v.1))
-
--- the first value of a local variable: 0
-abbrev pub zero_number : CType → Num
-zero_number type.U32 = N32 0
-zero_number type.U64 = N64 0
-zero_number _ = Plain 0
 
 abbrev pub local : Variable → tree.Local
 local v = (v.0, letter v.1, zero_number v.0)
@@ -47,10 +44,6 @@ static_function name result params locals stmts = record {
   body = Some (record { locals = map local locals; stmts = stmts });
 }
 
-abbrev pub c_type : ValType → CType
-c_type I32 = type.U32
-c_type I64 = type.U64
-
 -- variables of one type
 abbrev pub all_of : CType → List ℕ → List Variable
 all_of t names = map (λ c. (t, c)) names
@@ -58,7 +51,7 @@ all_of t names = map (λ c. (t, c)) names
 -- ---- operators on numbers
 
 abbrev pub operand_type : Row → CType
-operand_type r = elim r.form [ ExtendS ↦ type.U32 | _ ↦ c_type r.ty ]
+operand_type r = elim r.form [ ExtendS ↦ type.U32 | _ ↦ c_type_of r.ty ]
 
 abbrev pub operand_names : Form → List ℕ
 operand_names Clz = codes "x"
@@ -76,7 +69,7 @@ local_names Ctz = codes "n"
 local_names _ = []
 
 abbrev pub result_type : Row → CType
-result_type r = elim r.form [ LtS ↦ type.U32 | GtS ↦ type.U32 | LeS ↦ type.U32 | GeS ↦ type.U32 | _ ↦ c_type r.ty ]
+result_type r = elim r.form [ LtS ↦ type.U32 | GtS ↦ type.U32 | LeS ↦ type.U32 | GeS ↦ type.U32 | _ ↦ c_type_of r.ty ]
 
 -- the sizes of the stages, in order
 abbrev pub falling_sizes : ValType → List ℕ
@@ -129,7 +122,7 @@ number_helper r = static_function
     (prefix_of r.ty ++ form_name r.form)
     (result_type r)
     (all_of (operand_type r) (operand_names r.form))
-    (all_of (c_type r.ty) (local_names r.form))
+    (all_of (c_type_of r.ty) (local_names r.form))
     (number_stmts r)
 
 -- ---- loads and stores: a memory, a base and an offset
@@ -153,7 +146,7 @@ load_pieces is_signed = if is_signed then LOAD_S else LOAD
 abbrev pub load_helper : LoadOp → tree.Func
 load_helper op = static_function
     (load_name op)
-    (c_type (load_access op).ty)
+    (c_type_of (load_access op).ty)
     address_params
     (address_locals ++ (read_type (load_access op).width, 118) ∷ [])
     (access_stmts (load_access op) (load_pieces (load_access op).is_signed))
@@ -162,7 +155,7 @@ abbrev pub store_helper : StoreOp → tree.Func
 store_helper op = static_function
     (store_name op)
     type.Void
-    (address_params ++ (c_type (store_access op).ty, 118) ∷ [])
+    (address_params ++ (c_type_of (store_access op).ty, 118) ∷ [])
     address_locals
     (access_stmts (store_access op) STORE)
 

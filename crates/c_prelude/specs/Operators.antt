@@ -1,6 +1,7 @@
 -- That a helper does what its instruction does (WebAssembly Core 1.0, 4.3.2, 4.4.4 memory instructions and
 -- 4.4.5 call_indirect; Core 2.0, 4.4.7 memory.copy and memory.fill).
-use Rattle.std.specs.Prelude.{◌≡◌, ◌≢◌, ℕ, suc, ◌+◌, ◌*◌, ◌/◌, ◌^◌, ◌==◌, ◌<◌, ◌≤◌, if◌then◌else◌, List, [], ◌∷◌, length, slice_get, Option, Some, None}
+use Rattle.std.specs.Prelude.{◌≡◌, ◌≢◌, ℕ, suc, ◌+◌, ◌*◌, ◌/◌, ◌^◌, ◌==◌, ◌<◌, ◌≤◌, if◌then◌else◌, List, [], ◌∷◌, length, slice_get, Option}
+use Rattle.std.specs.Prelude.{Some, None}
 use Rattle.std.specs.List.{AllByRecursion}
 use Rattle.w2c_base.specs.declared.trap.TrapKind.TheVariants.{MemoryOut, TableOut, Empty, Signature}
 use Rattle.w2c_base.specs.declared.value.ValType.{ValType}

@@ -1,19 +1,18 @@
 -- What pieces make, one behind another: expressions on a stack, the arguments of the next call, and
 -- statements.
-use Rattle.std.specs.Prelude.{ℕ, ◌+◌, ◌-◌, ◌/◌, ◌^◌, ◌==◌, if◌then◌else◌, nat_lt, List, [], ◌∷◌, ◌++◌, map, reverse, codes, Option, Some, None}
+use Rattle.std.specs.Prelude.{ℕ, ◌+◌, ◌-◌, ◌/◌, ◌^◌, ◌==◌, if◌then◌else◌, nat_lt, List, [], ◌∷◌, ◌++◌, map, reverse, codes, Option, Some}
+use Rattle.std.specs.Prelude.{None}
 use Rattle.w2c_base.specs.declared.value.ValType.{ValType}
 use Rattle.w2c_base.specs.declared.value.ValType.TheVariants.{I32, I64}
-use Rattle.w2c_base.specs.declared.trap.TrapKind.{TrapKind}
 use Rattle.w2c_base.specs.Values.{bits}
-use Rattle.w2c_base.specs.Trap.{code_of}
-use Rattle.c_tree.specs.declared.tree.Num.TheVariants.{N32, N64}
+use Rattle.c_tree.specs.declared.tree.Num.TheVariants.{N64}
 use Rattle.c_tree.specs.declared.tree.Expr.{Expr}
 use Rattle.c_tree.specs.Tree as tree
+use Rattle.c_tree.specs.Makers.{num, trap}
+use Rattle.c_tree.specs.Primitives.{primitive_name}
 use Rattle.c_tree.specs.View.{expr_of, arg_of, stmt_of}
 use Rattle.c_prelude.specs.declared.piece.Number.{Number}
 use Rattle.c_prelude.specs.declared.piece.Number.TheVariants as number
-use Rattle.c_prelude.specs.declared.piece.Primitive.{Primitive}
-use Rattle.c_prelude.specs.declared.piece.Primitive.TheVariants as primitive
 use Rattle.c_prelude.specs.declared.piece.Cast.{Cast}
 use Rattle.c_prelude.specs.declared.piece.Cast.TheVariants as cast
 use Rattle.c_prelude.specs.declared.piece.Piece.{Piece}
@@ -39,11 +38,6 @@ number_in t size number.EachByte = (2 ^ bits t - 1) / 255
 number_in t size number.Bytes = size / 8
 number_in t size number.Page = 65536
 
--- a number of a type in C
-abbrev pub num : ValType → ℕ → tree.Expr
-num I32 n = tree.Number (N32 n)
-num I64 n = tree.Number (N64 n)
-
 -- a comparison as a number of a type
 abbrev pub flag : ValType → tree.Expr → tree.Expr
 flag I32 e = tree.To32 e
@@ -65,6 +59,7 @@ cast_to t size cast.Flag e = flag t e
 cast_to t size cast.Widen e = widened t e
 cast_to t size cast.Narrow e = narrowed t size e
 
+-- the runtime's functions that read and write so many bits
 abbrev pub get_name : ℕ → List ℕ
 get_name size =
     if size == 8 then codes "w2c_get1" else (if size == 16 then codes "w2c_get2" else
@@ -74,14 +69,6 @@ abbrev pub put_name : ℕ → List ℕ
 put_name size =
     if size == 8 then codes "w2c_put1" else (if size == 16 then codes "w2c_put2" else
     (if size == 32 then codes "w2c_put4" else codes "w2c_put8"))
-
-abbrev pub primitive_name : ℕ → Primitive → List ℕ
-primitive_name size primitive.MemLen = codes "w2c_mem_len"
-primitive_name size primitive.Get = get_name size
-primitive_name size primitive.Put = put_name size
-primitive_name size primitive.TabLen = codes "w2c_tab_len"
-primitive_name size primitive.TabSig = codes "w2c_tab_sig"
-primitive_name size primitive.TabFn = codes "w2c_tab_fn"
 
 -- what pieces made: the uppermost expression comes first
 pub record Made : Type 0 where
@@ -114,9 +101,6 @@ with_stmt m stack s = record { stack = stack; args = m.args; stmts = m.stmts ++ 
 abbrev pub with_call : Made → Option (List ℕ) → List ℕ → Made
 with_call m target name = record { stack = m.stack; args = []; stmts = m.stmts ++ tree.Call target (tree.Called name) m.args ∷ [] }
 
-abbrev pub trap : TrapKind → tree.Stmt
-trap kind = tree.Call None (tree.Called (codes "w2c_trap")) (tree.Value (tree.Number (N32 (code_of kind))) ∷ [])
-
 abbrev pub placed : ValType → ℕ → Made → Piece → Made
 placed t size m (piece.Name c) = with_stack m (tree.Name (letter c) ∷ m.stack)
 placed t size m (piece.Number n) = with_stack m (num t (number_in t size n) ∷ m.stack)
@@ -124,8 +108,9 @@ placed t size m (piece.Long n) = with_stack m (tree.Number (N64 (number_in t siz
 placed t size m (piece.Op o) = with_stack m (tree.Op o (top t (below_top m.stack)) (top t m.stack) ∷ below_top (below_top m.stack))
 placed t size m (piece.Cast c) = with_stack m (cast_to t size c (top t m.stack) ∷ below_top m.stack)
 placed t size m piece.Arg = record { stack = below_top m.stack; args = m.args ++ tree.Value (top t m.stack) ∷ []; stmts = m.stmts }
-placed t size m (piece.Get c does) = with_call m (Some (letter c)) (primitive_name size does)
-placed t size m (piece.Do does) = with_call m None (primitive_name size does)
+placed t size m (piece.Get c does) = with_call m (Some (letter c)) (primitive_name does)
+placed t size m (piece.Read c) = with_call m (Some (letter c)) (get_name size)
+placed t size m piece.Write = with_call m None (put_name size)
 placed t size m (piece.Set c) = with_stmt m (below_top m.stack) (tree.Set (letter c) (tree.Value (top t m.stack)))
 placed t size m (piece.If o c) = with_stmt m (below_top (below_top m.stack))
     (tree.If o (top t (below_top m.stack)) (top t m.stack) (letter c))

@@ -16,7 +16,8 @@ use Rattle.wasm_tree.specs.declared.operators.StoreOp.TheVariants as store
 use Rattle.c_prelude.specs.declared.operation.NumOp.{NumOp}
 use Rattle.c_prelude.specs.declared.operation.NumOp.TheVariants as num
 use Rattle.c_prelude.specs.declared.rows.Form.{Form}
-use Rattle.c_prelude.specs.declared.rows.Form.TheVariants.{DivS, DivU, RemS, RemU, ShrS, Rotl, Rotr, Clz, Ctz, Popcnt, LtS, GtS, LeS, GeS, ExtendS, Extend8S, Extend16S, Extend32S}
+use Rattle.c_prelude.specs.declared.rows.Form.TheVariants.{DivS, DivU, RemS, RemU, ShrS, Rotl, Rotr, Clz, Ctz, Popcnt, LtS, GtS, LeS, GeS}
+use Rattle.c_prelude.specs.declared.rows.Form.TheVariants.{ExtendS, Extend8S, Extend16S, Extend32S}
 use Rattle.c_prelude.specs.declared.rows.Row.{Row}
 
 abbrev row : ValType → Form → Row

@@ -1,5 +1,6 @@
 // The parts of a helper by its form: operands, local variables, sizes of stages, and tables.
 ghost use Rattle.std.specs.Prelude.{◌≡◌};
+ghost use Rattle.c_tree.specs.TypesInC.{c_type_of};
 ghost use Rattle.c_prelude.specs.Helpers as of;
 
 use crate::number_tables::{
@@ -8,21 +9,11 @@ use crate::number_tables::{
 };
 use crate::piece::Piece;
 use crate::rows::{Form, Row};
-use c_tree::CType;
+use c_tree::{CType, c_type};
 use w2c_base::ValType;
 
 /// A parameter or a local variable: its type, and its name of one letter.
 pub type Variable = (CType, u8);
-
-/// The type of C whose numbers are those of a type.
-pub fn c_type(ty: ValType) -> CType
-    ensures { result ≡ of.c_type ty }
-{
-    match ty {
-        ValType::I32 => CType::U32,
-        ValType::I64 => CType::U64,
-    }
-}
 
 /// The operands.
 pub fn operands(row: Row) -> &'static [Variable]
@@ -55,7 +46,7 @@ pub fn operands(row: Row) -> &'static [Variable]
 
 /// The local variables.
 pub fn number_locals(row: Row) -> &'static [Variable]
-    ensures { result.now ≡ of.all_of (of.c_type row.ty) (of.local_names row.form) }
+    ensures { result.now ≡ of.all_of (c_type_of row.ty) (of.local_names row.form) }
 {
     match (row.form, row.ty) {
         (Form::Clz, ValType::I32) => &[(CType::U32, b'n'), (CType::U32, b't')],

@@ -3,9 +3,9 @@ ghost use Rattle.std.specs.Prelude.{◌≡◌, ◌∷◌, OnOk};
 ghost use Rattle.c_tree.specs.View.{expr_of, stmt_of};
 ghost use Rattle.c_prelude.specs.Pieces.{top, below_top, with_stack, with_stmt, with_call, placed, all_placed, staged, made_by, nothing_made};
 
-use crate::parts::{cast_to, letter, literal, name_of, number_in, operation, primitive_name, trap};
+use crate::parts::{cast_to, get_name, letter, number_in, put_name};
 use crate::piece::{Piece, Setting};
-use c_tree::{Arg, Args, Callee, Expr, Name, Num, Stmt, Stmts};
+use c_tree::{Arg, Args, Callee, Expr, Name, Num, Stmt, Stmts, literal, name_of, operation, trap};
 use std::alloc::Global;
 use std::mem;
 use w2c_base::{Memory, ValType};
@@ -89,9 +89,13 @@ impl Builder {
             }
             Piece::Get(c, primitive) => {
                 let target = letter(alloc, c)?;
-                self.call(Some(target), primitive_name(setting.size, primitive))
+                self.call(Some(target), primitive.name())
             }
-            Piece::Do(primitive) => self.call(None, primitive_name(setting.size, primitive)),
+            Piece::Read(c) => {
+                let target = letter(alloc, c)?;
+                self.call(Some(target), get_name(setting.size))
+            }
+            Piece::Write => self.call(None, put_name(setting.size)),
             Piece::Set(c) => {
                 let name = letter(alloc, c)?;
                 let e = self.take(ty);

@@ -23,5 +23,4 @@ pub use laws::{
 };
 pub use make::{helper, helper_name};
 pub use operation::{HELPERS, Helper, NumOp};
-pub use parts::{name_of, to_32, to_64, trap};
 pub use wasm_tree::{LoadOp, StoreOp};

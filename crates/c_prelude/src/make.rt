@@ -8,16 +8,14 @@ ghost use Rattle.c_prelude.specs.Helpers as of;
 ghost use Rattle.c_prelude.specs.Operators.{DoesItsInstruction};
 ghost use Rattle.c_prelude.specs.Functions.{IsStaticFunction, helper_type};
 
-use crate::body::{
-    Variable, c_type, end, end_size, number_locals, operands, result_type, sizes, stage,
-};
+use crate::body::{Variable, end, end_size, number_locals, operands, result_type, sizes, stage};
 use crate::builder::Builder;
 use crate::object_tables::{ACCESS, COPY, ELEMENT, FILL, LOAD, LOAD_S, SIZE, STORE};
 use crate::operation::Helper;
-use crate::parts::{letter, name_of};
+use crate::parts::letter;
 use crate::piece::{Piece, Setting};
-use crate::rows::{Row, form_name, load_name, number_row, prefix, store_name};
-use c_tree::{Body, CType, Func, Locals, Name, Num, Params, Stmts};
+use crate::rows::{form_name, load_name, number_row, prefix, store_name};
+use c_tree::{Body, CType, Func, Locals, Name, Params, Stmts, c_type, name_of, zero_number};
 use std::alloc::Global;
 use w2c_base::{Memory, ValType};
 use wasm_tree::Access;
@@ -243,17 +241,7 @@ fn locals_of(alloc: Global, variables: &[Variable]) -> Result<Locals, Memory>
     let mut locals = Locals::new(alloc);
     for variable in variables {
         let (ty, c) = *variable;
-        locals.push((ty, letter(alloc, c)?, zero(ty)))?;
+        locals.push((ty, letter(alloc, c)?, zero_number(ty)))?;
     }
     Ok(locals)
-}
-
-fn zero(ty: CType) -> Num
-    ensures { result ≡ of.zero_number ty }
-{
-    match ty {
-        CType::U32 => Num::N32(0),
-        CType::U64 => Num::N64(0),
-        _ => Num::Plain(0),
-    }
 }

@@ -1,7 +1,7 @@
 // The bodies of the helpers of memories and tables as tables of pieces, each with the C text that it makes. A
 // `return` that no run reaches stands behind a last trap, so that C sees each path end.
-use crate::piece::{Cast, Number, Piece, Primitive};
-use c_tree::COp;
+use crate::piece::{Cast, Number, Piece};
+use c_tree::{COp, Primitive};
 use w2c_base::TrapKind;
 
 // a = ((u64)b + (u64)o); n = w2c_mem_len(m); if ((a + 4ull) > n) goto T;
@@ -28,7 +28,7 @@ pub const LOAD: [Piece; 12] = [
     Piece::Arg,
     Piece::Name(b'a'),
     Piece::Arg,
-    Piece::Get(b'v', Primitive::Get),
+    Piece::Read(b'v'),
     Piece::Name(b'v'),
     Piece::Cast(Cast::Widen),
     Piece::Return,
@@ -44,7 +44,7 @@ pub const LOAD_S: [Piece; 18] = [
     Piece::Arg,
     Piece::Name(b'a'),
     Piece::Arg,
-    Piece::Get(b'v', Primitive::Get),
+    Piece::Read(b'v'),
     Piece::Name(b'v'),
     Piece::Cast(Cast::Widen),
     Piece::Number(Number::Block),
@@ -69,7 +69,7 @@ pub const STORE: [Piece; 11] = [
     Piece::Name(b'v'),
     Piece::Cast(Cast::Narrow),
     Piece::Arg,
-    Piece::Do(Primitive::Put),
+    Piece::Write,
     Piece::ReturnNone,
     Piece::Label(b'T'),
     Piece::Trap(TrapKind::MemoryOut),
@@ -173,7 +173,7 @@ pub const COPY: [Piece; 85] = [
     Piece::Name(b'k'),
     Piece::Op(COp::Add),
     Piece::Arg,
-    Piece::Get(b'v', Primitive::Get),
+    Piece::Read(b'v'),
     Piece::Name(b'm'),
     Piece::Arg,
     Piece::Name(b'a'),
@@ -182,7 +182,7 @@ pub const COPY: [Piece; 85] = [
     Piece::Arg,
     Piece::Name(b'v'),
     Piece::Arg,
-    Piece::Do(Primitive::Put),
+    Piece::Write,
     Piece::Name(b'k'),
     Piece::Long(Number::Zero),
     Piece::If(COp::Ne, b'D'),
@@ -192,14 +192,14 @@ pub const COPY: [Piece; 85] = [
     Piece::Arg,
     Piece::Name(b'b'),
     Piece::Arg,
-    Piece::Get(b'v', Primitive::Get),
+    Piece::Read(b'v'),
     Piece::Name(b'm'),
     Piece::Arg,
     Piece::Name(b'a'),
     Piece::Arg,
     Piece::Name(b'v'),
     Piece::Arg,
-    Piece::Do(Primitive::Put),
+    Piece::Write,
     Piece::Name(b'a'),
     Piece::Long(Number::One),
     Piece::Op(COp::Add),
@@ -249,7 +249,7 @@ pub const FILL: [Piece; 40] = [
     Piece::Arg,
     Piece::Name(b'v'),
     Piece::Arg,
-    Piece::Do(Primitive::Put),
+    Piece::Write,
     Piece::Name(b'a'),
     Piece::Long(Number::One),
     Piece::Op(COp::Add),

@@ -1,24 +1,13 @@
-// What single pieces make: names, numbers, casts and traps.
+// What single pieces make: names of one letter, numbers, casts, and accesses.
 ghost use Rattle.std.specs.Prelude.{◌≡◌, ◌<◌, ◌-◌, ◌^◌, IfOk};
 ghost use Rattle.w2c_base.specs.Values.{bits};
-ghost use Rattle.c_tree.specs.Tree as tree;
-ghost use Rattle.c_tree.specs.View.{expr_of, stmt_of};
+ghost use Rattle.c_tree.specs.View.{expr_of};
 ghost use Rattle.c_prelude.specs.Pieces as made;
 
-use crate::piece::{Cast, Number, Primitive, Setting};
-use c_tree::{Arg, Args, COp, Callee, Expr, Name, Num, Stmt};
+use crate::piece::{Cast, Number, Setting};
+use c_tree::{Expr, Name, Primitive, Width, to_32, to_64};
 use std::alloc::Global;
-use std::boxed::Box;
-use w2c_base::{Memory, TrapKind, ValType};
-
-/// A name of these bytes.
-pub fn name_of(alloc: Global, text: &[u8]) -> Result<Name, Memory>
-    ensures { IfOk result (λ name. name ≡ text.now) }
-{
-    let mut name = Name::new(alloc);
-    name.extend(text)?;
-    Ok(name)
-}
+use w2c_base::{Memory, ValType};
 
 /// A name of one letter.
 pub fn letter(alloc: Global, c: u8) -> Result<Name, Memory>
@@ -29,18 +18,7 @@ pub fn letter(alloc: Global, c: u8) -> Result<Name, Memory>
     Ok(name)
 }
 
-/// A number of a type.
-pub fn literal(ty: ValType, n: u64) -> Expr
-    requires { n < 2 ^ bits ty }
-    ensures { expr_of result ≡ made.num ty n }
-{
-    match ty {
-        ValType::I32 => Expr::Num(Num::N32(n as u32)),
-        ValType::I64 => Expr::Num(Num::N64(n)),
-    }
-}
-
-fn width(ty: ValType) -> u32
+fn bits_of(ty: ValType) -> u32
     ensures { result ≡ bits ty }
 {
     match ty {
@@ -74,7 +52,7 @@ fn power(ty: ValType, k: u32) -> u64
     ensures value { result ≡ made.power ty k }
     ensures fits { result < 2 ^ bits ty }
 {
-    if k < width(ty) { 1u64 << k } else { 0 }
+    if k < bits_of(ty) { 1u64 << k } else { 0 }
 }
 
 /// The number that is meant in a setting.
@@ -87,39 +65,18 @@ pub fn number_in(setting: Setting, n: Number) -> u64
     match n {
         Number::Zero => 0,
         Number::One => 1,
-        Number::Bits => width(ty) as u64,
+        Number::Bits => bits_of(ty) as u64,
         Number::Half => half(ty),
         Number::Greatest => greatest(ty),
         Number::Size => size as u64,
         Number::Block => power(ty, size),
         Number::Sign => power(ty, size.saturating_sub(1)),
-        Number::High => power(ty, width(ty).saturating_sub(size)),
+        Number::High => power(ty, bits_of(ty).saturating_sub(size)),
         Number::Mask => greatest(ty) / (power(ty, size) + 1),
         Number::EachByte => greatest(ty) / 255,
         Number::Bytes => (size / 8) as u64,
         Number::Page => 65_536,
     }
-}
-
-/// An operator on two expressions.
-pub fn operation(alloc: Global, op: COp, left: Expr, right: Expr) -> Result<Expr, Memory>
-    ensures { IfOk result (λ e. expr_of e ≡ tree.Op op (expr_of left) (expr_of right)) }
-{
-    Ok(Expr::Op(op, Box::new(alloc, left)?, Box::new(alloc, right)?))
-}
-
-/// An expression as a u32.
-pub fn to_32(alloc: Global, e: Expr) -> Result<Expr, Memory>
-    ensures { IfOk result (λ cast. expr_of cast ≡ tree.To32 (expr_of e)) }
-{
-    Ok(Expr::To32(Box::new(alloc, e)?))
-}
-
-/// An expression as a u64.
-pub fn to_64(alloc: Global, e: Expr) -> Result<Expr, Memory>
-    ensures { IfOk result (λ cast. expr_of cast ≡ tree.To64 (expr_of e)) }
-{
-    Ok(Expr::To64(Box::new(alloc, e)?))
 }
 
 /// An expression in another type.
@@ -139,48 +96,26 @@ pub fn cast_to(alloc: Global, setting: Setting, cast: Cast, e: Expr) -> Result<E
     }
 }
 
-/// The name of a function of the runtime, for accesses of so many bits.
-pub fn primitive_name(size: u32, primitive: Primitive) -> &'static [u8]
-    ensures { result.now ≡ made.primitive_name size primitive }
-{
-    match primitive {
-        Primitive::MemLen => b"w2c_mem_len",
-        Primitive::Get => get_name(size),
-        Primitive::Put => put_name(size),
-        Primitive::TabLen => b"w2c_tab_len",
-        Primitive::TabSig => b"w2c_tab_sig",
-        Primitive::TabFn => b"w2c_tab_fn",
-    }
-}
-
-fn get_name(size: u32) -> &'static [u8]
+/// The name of the runtime's function that reads so many bits.
+pub fn get_name(size: u32) -> &'static [u8]
     ensures { result.now ≡ made.get_name size }
 {
     match size {
-        8 => b"w2c_get1",
-        16 => b"w2c_get2",
-        32 => b"w2c_get4",
-        _ => b"w2c_get8",
+        8 => Primitive::Get(Width::One).name(),
+        16 => Primitive::Get(Width::Two).name(),
+        32 => Primitive::Get(Width::Four).name(),
+        _ => Primitive::Get(Width::Eight).name(),
     }
 }
 
-fn put_name(size: u32) -> &'static [u8]
+/// The name of the runtime's function that writes so many bits.
+pub fn put_name(size: u32) -> &'static [u8]
     ensures { result.now ≡ made.put_name size }
 {
     match size {
-        8 => b"w2c_put1",
-        16 => b"w2c_put2",
-        32 => b"w2c_put4",
-        _ => b"w2c_put8",
+        8 => Primitive::Put(Width::One).name(),
+        16 => Primitive::Put(Width::Two).name(),
+        32 => Primitive::Put(Width::Four).name(),
+        _ => Primitive::Put(Width::Eight).name(),
     }
-}
-
-/// The statement that ends the run with a trap.
-pub fn trap(alloc: Global, kind: TrapKind) -> Result<Stmt, Memory>
-    ensures { IfOk result (λ s. stmt_of s ≡ made.trap kind) }
-{
-    let name = name_of(alloc, b"w2c_trap")?;
-    let mut args = Args::new(alloc);
-    args.push(Arg::Value(Expr::Num(Num::N32(kind.code()))))?;
-    Ok(Stmt::Call(None, Callee::Named(name), args))
 }

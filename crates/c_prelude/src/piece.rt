@@ -1,5 +1,5 @@
 // The pieces of a body, in the order in which a stack of expressions takes them.
-use c_tree::COp;
+use c_tree::{COp, Primitive};
 use w2c_base::{TrapKind, ValType};
 
 /// Where pieces are placed: the type of the helper's numbers, and how many bits a stage or an
@@ -39,17 +39,6 @@ pub enum Number {
     Page,
 }
 
-/// A function of the runtime. `Get` and `Put` are those of the setting's size.
-#[derive(Clone, Copy)]
-pub enum Primitive {
-    MemLen,
-    Get,
-    Put,
-    TabLen,
-    TabSig,
-    TabFn,
-}
-
 /// How an expression is turned into another type.
 #[derive(Clone, Copy)]
 pub enum Cast {
@@ -57,9 +46,9 @@ pub enum Cast {
     To64,
     /// A comparison becomes a number of the helper's type.
     Flag,
-    /// What `Get` gives becomes a number of the helper's type.
+    /// What `Read` gives becomes a number of the helper's type.
     Widen,
-    /// A number of the helper's type becomes what `Put` takes.
+    /// A number of the helper's type becomes what `Write` takes.
     Narrow,
 }
 
@@ -77,10 +66,12 @@ pub enum Piece {
     Cast(Cast),
     /// The uppermost expression becomes the next argument.
     Arg,
-    /// A call whose value is assigned.
+    /// A call of the runtime whose value is assigned.
     Get(u8, Primitive),
-    /// A call without a value.
-    Do(Primitive),
+    /// The same, which reads as many bits as the setting's size.
+    Read(u8),
+    /// A call of the runtime that writes as many.
+    Write,
     Set(u8),
     If(COp, u8),
     Label(u8),

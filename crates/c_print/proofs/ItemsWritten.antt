@@ -1,5 +1,7 @@
 -- The include line and the first items of a unit stand in the current file, and the others are left.
-use Rattle.c_print.proofs.Common.{◌≡◌, List, [], ◌∷◌, ◌++◌, Contains, Option, sym, refl, ap, ◌∙◌, subst, append_assoc, append-nil, arith, front_passed, more_passed, none_passed, nothing_put, part_passed, fixed_text, Item, each, print_item_of, print_of}
+use Rattle.c_print.proofs.Common.{◌≡◌, List, [], ◌∷◌, ◌++◌, Contains, Option, sym, refl, ap, ◌∙◌, subst, append_assoc, append-nil, arith}
+use Rattle.c_print.proofs.Common.{front_passed, more_passed, none_passed, nothing_put, part_passed, fixed_text, Item, each, print_item_of}
+use Rattle.c_print.proofs.Common.{print_of}
 use Rattle.std.proofs.lemmas.List.Elements.{Contains-append_right}
 use Rattle.w2c_io.specs.Contents.{Name, Told, appending, AppendsPart}
 use Rattle.w2c_io.specs.declared.answers.WriteAnswer.{WriteAnswer}

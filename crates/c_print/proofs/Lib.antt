@@ -1,5 +1,7 @@
-mod Common
+-- What crates above cite.
 pub mod ItemsWritten
-pub mod Onto
-pub mod PageText
 pub mod Spells
+-- What the crate's own proofs cite.
+mod Common
+mod Onto
+mod PageText

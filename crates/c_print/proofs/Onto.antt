@@ -1,5 +1,7 @@
 -- Tokens that are put at the end of a page, one list after another.
-use Rattle.c_print.proofs.Common.{◌≡◌, ℕ, ◌+◌, ◌<◌, List, [], ◌∷◌, ◌++◌, map, length, get_or, take, drop, sym, refl, ap, ◌∙◌, append_assoc, append-nil, add-one, drop-cons, Fixed, Token, Item, each, item_tokens, separated, ended, items_onto, printed, printed_onto, Page}
+use Rattle.c_print.proofs.Common.{◌≡◌, ℕ, ◌+◌, ◌<◌, List, [], ◌∷◌, ◌++◌, map, length, get_or, take, drop, sym, refl, ap, ◌∙◌, append_assoc}
+use Rattle.c_print.proofs.Common.{append-nil, add-one, drop-cons, Fixed, Token, Item, each, item_tokens, separated, ended, items_onto}
+use Rattle.c_print.proofs.Common.{printed, printed_onto, Page}
 use Rattle.c_tree.specs.declared.token.Tok.TheVariants as tok
 use Rattle.c_tree.proofs.Tested.{at_front}
 

@@ -1,5 +1,7 @@
 -- The text of a page on which tokens and items were put.
-use Rattle.c_print.proofs.Common.{◌≡◌, ℕ, List, [], ◌∷◌, ◌++◌, sym, refl, ap, ◌∙◌, append_assoc, append-nil, laid, Fixed, Token, fixed_text, kind_of, token_text, Item, each, item_tokens, items_onto, printed_onto, gap, gap_between, print_item_of, Page}
+use Rattle.c_print.proofs.Common.{◌≡◌, ℕ, List, [], ◌∷◌, ◌++◌, sym, refl, ap, ◌∙◌, append_assoc, append-nil, laid, Fixed, Token, fixed_text}
+use Rattle.c_print.proofs.Common.{kind_of, token_text, Item, each, item_tokens, items_onto, printed_onto, gap, gap_between, print_item_of}
+use Rattle.c_print.proofs.Common.{Page}
 use Rattle.c_tree.specs.declared.token.Tok.TheVariants as tok
 use Rattle.c_tree.specs.declared.token.Kind.TheVariants as kind
 use Rattle.c_print.specs.Page.{printed, ended}

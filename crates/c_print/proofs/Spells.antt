@@ -1,14 +1,18 @@
 -- The text that is printed of a unit spells it.
-use Rattle.c_print.proofs.Common.{◌≡◌, ℕ, ◌+◌, Bool, true, false, cond, ◌&&◌, List, [], ◌∷◌, ◌++◌, map, sym, refl, ap, ◌∙◌, append_assoc, append-nil, laid, CSpells, FitsItem, Formed, depth_limit, Fixed, Named, Number, Token, Wrong, kind_of, token_text, Item, each, item_tokens, unit_tokens, begins_list, closes, ends_block, ends_line, gap_between, is_named, opens, print_item_of, print_of}
+use Rattle.c_print.proofs.Common.{◌≡◌, ℕ, ◌+◌, Bool, true, false, cond, ◌&&◌, List, [], ◌∷◌, ◌++◌, map, sym, refl, ap, ◌∙◌, append_assoc}
+use Rattle.c_print.proofs.Common.{append-nil, laid, CSpells, FitsItem, Formed, depth_limit, Fixed, Token, kind_of, token_text, Item, each}
+use Rattle.c_print.proofs.Common.{item_tokens, unit_tokens, begins_list, closes, ends_block, ends_line, gap_between, is_named, opens}
+use Rattle.c_print.proofs.Common.{print_item_of, print_of}
 use Rattle.std.specs.List.{AllByRecursion}
 use Rattle.c_tree.specs.declared.token.Tok.TheVariants as tok
 use Rattle.c_tree.specs.Text.{lexeme, lexemes}
-use Rattle.c_tree.proofs.Proper.{both_true, IsProper, EndsToken, IsReadAnywhere, reads, include_read, left_paren_read, left_bracket_read}
+use Rattle.c_tree.proofs.Proper.{IsProper, EndsToken, IsReadAnywhere, reads, include_read, left_paren_read, left_bracket_read}
 use Rattle.c_tree.proofs.Laid.{tokens_from, KeepsApart, laid_tokens}
 use Rattle.c_tree.proofs.TextIsProper.{tokens_proper}
 use Rattle.c_tree.proofs.TreeIsProper.{AllProper, each_of}
 use Rattle.c_print.specs.ItemText.{IsItemOfUnit, SpellsItem}
 use Rattle.w2c_base.proofs.OfEach.{of_contained}
+use Rattle.w2c_base.proofs.Conjunctions.{both_hold}
 
 -- ---- what stands between two tokens keeps them apart
 
@@ -26,10 +30,7 @@ opens_read : (t : Token) → opens (kind_of t) ≡ true → IsReadAnywhere t
 opens_read (Fixed tok.Include) e = include_read
 opens_read (Fixed tok.LeftParen) e = left_paren_read
 opens_read (Fixed tok.LeftBracket) e = left_bracket_read
-opens_read (Fixed t) e = absurd cc
-opens_read (Named n) e = absurd cc
-opens_read (Number s ds) e = absurd cc
-opens_read Wrong e = absurd cc
+opens_read _ e = absurd cc
 
 closes_ends : (u : Token) (rest : List ℕ) → closes (kind_of u) ≡ true → EndsToken (token_text u ++ rest)
 closes_ends (Fixed tok.RightParen) rest e = refl
@@ -38,18 +39,12 @@ closes_ends (Fixed tok.RightBrace) rest e = refl
 closes_ends (Fixed tok.Semicolon) rest e = refl
 closes_ends (Fixed tok.Comma) rest e = refl
 closes_ends (Fixed tok.Colon) rest e = refl
-closes_ends (Fixed t) rest e = absurd cc
-closes_ends (Named n) rest e = absurd cc
-closes_ends (Number s ds) rest e = absurd cc
-closes_ends Wrong rest e = absurd cc
+closes_ends _ rest e = absurd cc
 
 begins_ends : (u : Token) (rest : List ℕ) → begins_list (kind_of u) ≡ true → EndsToken (token_text u ++ rest)
 begins_ends (Fixed tok.LeftParen) rest e = refl
 begins_ends (Fixed tok.LeftBracket) rest e = refl
-begins_ends (Fixed t) rest e = absurd cc
-begins_ends (Named n) rest e = absurd cc
-begins_ends (Number s ds) rest e = absurd cc
-begins_ends Wrong rest e = absurd cc
+begins_ends _ rest e = absurd cc
 
 line_apart : (t u : Token) → IsProper t → IsApart t u (10 ∷ [])
 line_apart t u is rest place = let h = reads t is (10 ∷ (token_text u ++ rest)) place refl in (h.0 + 1, h.1)
@@ -65,7 +60,7 @@ gap_apart t u is next =
     choose t u (closes (kind_of u)) _ _ (λ e rest place. reads t is (token_text u ++ rest) place (closes_ends u rest e)) (λ _.
     choose t u (is_named (kind_of t) && begins_list (kind_of u)) _ _
     (λ e rest place. reads t is (token_text u ++ rest) place
-    (begins_ends u rest (both_true (is_named (kind_of t)) (begins_list (kind_of u)) e).1)) (λ _. space_apart t u is)))))
+    (begins_ends u rest (both_hold (is_named (kind_of t)) (begins_list (kind_of u)) e).1)) (λ _. space_apart t u is)))))
 
 -- ---- the tokens of the text are those of the unit
 

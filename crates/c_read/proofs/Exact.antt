@@ -1,5 +1,7 @@
 -- What a reading takes is what the table takes, and its fault is the table's: the steps of such proofs.
-use Rattle.c_read.proofs.Common.{◌≡◌, ◌<◌, true, false, List, [], ◌∷◌, ◌++◌, length, Ok, Err, sym, refl, ap, ◌∙◌, subst, append_assoc, append-nil, arith, AllByRecursion, Becomes, Faulty, Stops, Symbol, Takes, first, here, move, opened, others, taken, Lexeme, are_digits, Number, Token, CReadFault, is_last, Outcome, Parser, and_then}
+use Rattle.c_read.proofs.Common.{◌≡◌, ◌<◌, true, false, List, [], ◌∷◌, ◌++◌, length, Ok, Err, sym, refl, ap, ◌∙◌, subst, append_assoc}
+use Rattle.c_read.proofs.Common.{append-nil, arith, AllByRecursion, Becomes, Faulty, Stops, Symbol, Takes, first, here, move, opened}
+use Rattle.c_read.proofs.Common.{others, taken, Lexeme, are_digits, Number, Token, CReadFault, is_last, Outcome, Parser, and_then}
 
 -- From these symbols at ls the table comes to what is expected behind them, at ls'.
 pub record Goes (ss : List Symbol) (ls ls' : List Lexeme) : Type 0 where

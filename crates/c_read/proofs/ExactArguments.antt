@@ -1,12 +1,16 @@
 -- Arguments, calls and right sides.
-use Rattle.c_read.proofs.Common.{◌≡◌, ℕ, zero, suc, false, List, [], ◌∷◌, ◌++◌, refl, ap, ◌∙◌, append_assoc, Becomes, Of, One, Symbol, as_agroup, becoming, first, move, Lexeme, Fixed, Named, Token, kind_of, arg_tokens, callee_tokens, separated, type_tokens, Kind, Part, and_then, is_comma}
+use Rattle.c_read.proofs.Common.{◌≡◌, ℕ, zero, suc, false, List, [], ◌∷◌, ◌++◌, refl, ap, ◌∙◌, append_assoc, Becomes, Of, One, Symbol}
+use Rattle.c_read.proofs.Common.{as_agroup, becoming, first, move, Lexeme, Fixed, Named, Token, kind_of, arg_tokens, callee_tokens}
+use Rattle.c_read.proofs.Common.{separated, type_tokens, Kind, Part, and_then, is_comma}
 use Rattle.c_tree.specs.declared.token.Tok.TheVariants as tok
 use Rattle.c_tree.specs.declared.token.Part.TheVariants as part
 use Rattle.c_tree.specs.declared.token.Kind.TheVariants as kind
 use Rattle.c_tree.specs.Tree as tree
 use Rattle.c_lex.specs.Reading.{next_kind, unexpected}
 use Rattle.c_read.specs.Expressions.{expr}
-use Rattle.c_read.specs.Arguments.{agroup, agroup_by, argument_by, argument_in, argument, next_argument, more_arguments, arguments, arguments_by, Called, pointer_type, through, Right, Gives, Calls, rname, rname_by, rstar, rstar_by, rgroup, rgroup_by, right_in, right_by}
+use Rattle.c_read.specs.Arguments.{agroup, agroup_by, argument_by, argument_in, argument, next_argument, more_arguments, arguments}
+use Rattle.c_read.specs.Arguments.{arguments_by, Called, pointer_type, through, Right, Gives, Calls, rname, rname_by, rstar, rstar_by}
+use Rattle.c_read.specs.Arguments.{rgroup, rgroup_by, right_in, right_by}
 use Rattle.c_read.proofs.Exact.{Exact, Proper, done, next, then_all, mapped, open_part, no_part}
 use Rattle.c_read.proofs.ExactTokens.{text, named, number_exact}
 use Rattle.c_read.proofs.ExactLists.{Tail, tail}

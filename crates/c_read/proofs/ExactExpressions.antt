@@ -1,5 +1,7 @@
 -- Operators, types and expressions.
-use Rattle.c_read.proofs.Common.{◌≡◌, ℕ, zero, suc, false, List, [], ◌∷◌, refl, ap, ◌∙◌, append_assoc, Becomes, Of, becoming, first, move, Lexeme, Fixed, Named, kind_of, expr_tokens, op_token, separated, type_tokens, Kind, Part, Tok, CType, Parser, is_comma}
+use Rattle.c_read.proofs.Common.{◌≡◌, ℕ, zero, suc, false, List, [], ◌∷◌, refl, ap, ◌∙◌, append_assoc, Becomes, Of, becoming, first, move}
+use Rattle.c_read.proofs.Common.{Lexeme, Fixed, Named, kind_of, expr_tokens, op_token, separated, type_tokens, Kind, Part, Tok, CType}
+use Rattle.c_read.proofs.Common.{Parser, is_comma}
 use Rattle.c_tree.specs.declared.token.Tok.TheVariants as tok
 use Rattle.c_tree.specs.declared.token.Part.TheVariants as part
 use Rattle.c_tree.specs.declared.token.Kind.TheVariants as kind
@@ -7,7 +9,8 @@ use Rattle.c_tree.specs.declared.tree.CType.TheVariants as type
 use Rattle.c_tree.specs.Tree as tree
 use Rattle.c_tree.specs.Grammar as table
 use Rattle.c_lex.specs.Reading.{next_kind, unexpected}
-use Rattle.c_read.specs.Expressions.{op_of, taken_op, operator, operator_by, index, index_by, operation, group, group_by, expr_by, expr_of_parts, expr}
+use Rattle.c_read.specs.Expressions.{op_of, taken_op, operator, operator_by, index, index_by, operation, group, group_by, expr_by}
+use Rattle.c_read.specs.Expressions.{expr_of_parts, expr}
 use Rattle.c_read.specs.Types.{star, star_by, ctype, ctype_by, next_type, more_types, types}
 use Rattle.c_read.proofs.Exact.{Exact, Proper, done, next, open_part, no_part}
 use Rattle.c_read.proofs.ExactTokens.{text, named, number_exact}

@@ -1,12 +1,17 @@
 -- Functions, items and units.
-use Rattle.c_read.proofs.Common.{◌≡◌, ℕ, Bool, true, false, cond, List, [], ◌∷◌, ◌++◌, Some, Ok, Err, refl, subst, append_assoc, Becomes, Of, One, OneByte, begins_type, expansion, first, move, Lexeme, Fixed, Named, Token, kind_of, close_tokens, each, item_tokens, local_tokens, maybe_name, param_tokens, separated, static_tokens, stmt_tokens, type_tokens, unit_tokens, Kind, CType, Outcome, and_then, expect, close_by, inner_by, item_by, not_end, rest_by, is_comma}
+use Rattle.c_read.proofs.Common.{◌≡◌, ℕ, Bool, true, false, cond, List, [], ◌∷◌, ◌++◌, Some, Ok, Err, refl, subst, append_assoc, Becomes}
+use Rattle.c_read.proofs.Common.{Of, One, OneByte, begins_type, expansion, first, move, Lexeme, Fixed, Named, Token, kind_of, close_tokens}
+use Rattle.c_read.proofs.Common.{each, item_tokens, local_tokens, maybe_name, param_tokens, separated, static_tokens, stmt_tokens}
+use Rattle.c_read.proofs.Common.{type_tokens, unit_tokens, Kind, CType, Outcome, and_then, expect, close_by, inner_by, item_by, not_end}
+use Rattle.c_read.proofs.Common.{rest_by, is_comma}
 use Rattle.c_tree.specs.declared.token.Tok.TheVariants as tok
 use Rattle.c_tree.specs.declared.token.Part.TheVariants as part
 use Rattle.c_tree.specs.declared.token.Kind.TheVariants as kind
 use Rattle.c_tree.specs.declared.tree.CType.TheVariants as type
 use Rattle.c_tree.specs.Tree as tree
 use Rattle.c_lex.specs.Reading.{next_kind, unexpected}
-use Rattle.c_read.specs.Items.{byte, next_byte, more_bytes, array_bytes, array, pname, pname_by, param, next_param, more_params, params, declaration, declarations, body, close, function, rest, static_rest, inner, external, item, items, unit}
+use Rattle.c_read.specs.Items.{byte, next_byte, more_bytes, array_bytes, array, pname, pname_by, param, next_param, more_params, params}
+use Rattle.c_read.specs.Items.{declaration, declarations, body, close, function, rest, static_rest, inner, external, item, items, unit}
 use Rattle.c_read.proofs.Exact.{Exact, ExactAt, Proper, proper_behind, done, next, then_all, last, open_part, no_part}
 use Rattle.c_read.proofs.ExactTokens.{text, expect_exact, named, number_exact, plain_tokens, byte_exact, count_exact}
 use Rattle.c_read.proofs.ExactLists.{Lists, Tail, tail, pieces, pieces_alone, EndsAt, pieces_end}
@@ -79,15 +84,7 @@ declaration_exact d ls proper =
 -- a type has a first token, also with tokens behind it
 some_type : (t : CType) (more : List Token) → (u : Token) × (ts : List Token) × (type_tokens t ++ more ≡ u ∷ ts)
 some_type type.Void more = (_, _, refl)
-some_type type.U32 more = (_, _, refl)
-some_type type.U64 more = (_, _, refl)
-some_type type.PtrU32 more = (_, _, refl)
-some_type type.PtrU64 more = (_, _, refl)
-some_type type.Mem more = (_, _, refl)
-some_type type.PtrMem more = (_, _, refl)
-some_type type.Tab more = (_, _, refl)
-some_type type.PtrTab more = (_, _, refl)
-some_type type.FnPtr more = (_, _, refl)
+some_type _ more = (_, _, refl)
 
 declarations_list : Lists (Of part.InBody 100) begins_type declaration local_tokens
 declarations_list = record {
@@ -231,8 +228,6 @@ item_exact ls proper = by (begins_type (kind_of (first ls).token)) refl
 
 -- an item has a first token
 some_item : (x : tree.Item) → (t : Token) × (ts : List Token) × (item_tokens x ≡ t ∷ ts)
-some_item (tree.Array n count bytes) = (_, _, refl)
-some_item (tree.Var t n v) = (_, _, refl)
 some_item (tree.Function f) = by f.is_static
   where
     by : (b : Bool) → (t : Token) × (ts : List Token)
@@ -241,6 +236,7 @@ some_item (tree.Function f) = by f.is_static
         ≡ t ∷ ts)
     by true = (_, _, refl)
     by false = some_type f.result _
+some_item _ = (_, _, refl)
 
 items_list : Lists (Of part.InItems 100) not_end item item_tokens
 items_list = record {

@@ -1,5 +1,7 @@
 -- Lists: pieces one after another, and pieces with commas between.
-use Rattle.c_read.proofs.Common.{◌≡◌, ℕ, zero, suc, ◌<◌, Bool, true, false, cond, List, [], ◌∷◌, ◌++◌, length, Ok, Err, sym, refl, ◌∙◌, subst, append_assoc, append-nil, arith, Becomes, One, Symbol, first, move, Lexeme, Fixed, Token, kind_of, each, separated, Kind, Outcome, Parser, and_then, all, and_more, behind_comma, is_comma}
+use Rattle.c_read.proofs.Common.{◌≡◌, ℕ, zero, suc, ◌<◌, Bool, true, false, cond, List, [], ◌∷◌, ◌++◌, length, Ok, Err, sym, refl, ◌∙◌}
+use Rattle.c_read.proofs.Common.{subst, append_assoc, append-nil, arith, Becomes, One, Symbol, first, move, Lexeme, Fixed, Token, kind_of}
+use Rattle.c_read.proofs.Common.{each, separated, Kind, Outcome, Parser, and_then, all, and_more, behind_comma, is_comma}
 use Rattle.c_tree.specs.declared.token.Tok.TheVariants as tok
 use Rattle.c_tree.specs.declared.token.Kind.TheVariants as kind
 use Rattle.c_lex.specs.Reading.{next_kind}

@@ -1,12 +1,16 @@
 -- Statements.
-use Rattle.c_read.proofs.Common.{◌≡◌, ℕ, true, false, List, [], ◌∷◌, ◌++◌, Some, None, Ok, Option, refl, append_assoc, Becomes, Of, One, Symbol, first, move, Lexeme, Fixed, Named, Token, kind_of, arg_tokens, case_tokens, each, goto_tokens, stmt_tokens, Kind, and_then, expect, after_by, assigned, is_case, not_brace, return_of, returned_by, statement_by}
+use Rattle.c_read.proofs.Common.{◌≡◌, ℕ, true, false, List, [], ◌∷◌, ◌++◌, Some, None, Ok, Option, refl, append_assoc, Becomes, Of, One}
+use Rattle.c_read.proofs.Common.{Symbol, first, move, Lexeme, Fixed, Named, Token, kind_of, arg_tokens, case_tokens, each, goto_tokens}
+use Rattle.c_read.proofs.Common.{stmt_tokens, Kind, and_then, expect, after_by, assigned, is_case, not_brace, return_of, returned_by}
+use Rattle.c_read.proofs.Common.{statement_by}
 use Rattle.c_tree.specs.declared.token.Tok.TheVariants as tok
 use Rattle.c_tree.specs.declared.token.Part.TheVariants as part
 use Rattle.c_tree.specs.declared.token.Kind.TheVariants as kind
 use Rattle.c_tree.specs.Tree as tree
 use Rattle.c_lex.specs.Reading.{next_kind, unexpected}
 use Rattle.c_read.specs.Arguments.{depth, Right, Gives, Calls, through}
-use Rattle.c_read.specs.Statements.{jump, after, returned, one_case, cases, default, default_by, switch, condition, set_star, call_through, statement, statements}
+use Rattle.c_read.specs.Statements.{jump, after, returned, one_case, cases, default, default_by, switch, condition, set_star, call_through}
+use Rattle.c_read.specs.Statements.{statement, statements}
 use Rattle.c_read.proofs.Exact.{Exact, Proper, done, next, behind, then_all, last, mapped, open_part, no_part}
 use Rattle.c_read.proofs.ExactTokens.{text, named, number_exact}
 use Rattle.c_read.proofs.ExactLists.{Lists, pieces, pieces_alone}
@@ -155,18 +159,10 @@ statement_exact ls proper = by (kind_of (first ls).token) refl
     by _ e = no_part (rw e refl)
 
 some_token : (s : tree.Stmt) → (t : Token) × (ts : List Token) × (stmt_tokens s ≡ t ∷ ts)
-some_token (tree.Label n) = (_, _, refl)
-some_token tree.Null = (_, _, refl)
-some_token (tree.Set n a) = (_, _, refl)
-some_token (tree.SetStar n e) = (_, _, refl)
 some_token (tree.Call None (tree.Called f) xs) = (_, _, refl)
 some_token (tree.Call None (tree.Through t f) xs) = (_, _, refl)
 some_token (tree.Call (Some n) f xs) = (_, _, refl)
-some_token (tree.Goto n) = (_, _, refl)
-some_token (tree.If o a b n) = (_, _, refl)
-some_token (tree.Switch e cs n) = (_, _, refl)
-some_token tree.ReturnNone = (_, _, refl)
-some_token (tree.Return a) = (_, _, refl)
+some_token _ = (_, _, refl)
 
 statements_list : Lists (Of part.InStatements 100) not_brace statement stmt_tokens
 statements_list = record {

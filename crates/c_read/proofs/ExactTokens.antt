@@ -1,9 +1,14 @@
 -- Single tokens: fixed texts, names and numbers.
-use Rattle.c_read.proofs.Common.{◌≡◌, ℕ, ◌^◌, ◌<◌, ◌≤◌, Bool, true, false, cond, not, ◌&&◌, List, [], ◌∷◌, ◌++◌, nat_lt, ◌==◌, Ok, Err, decimal, sym, refl, ap, subst, arith, rules, ltb-true, list_all, Becomes, Faulty, Of, One, OneByte, OneNumber, Symbol, Takes, first, fits, limit, move, others, value_of, Lexeme, are_digits, is_digit, Fixed, Named, Number, Token, Wrong, kind_of, num_token, NumberTooLarge, Unexpected, Kind, Suffix, Of32, Of64, OfPlain, Tok, is_last, Outcome, Parser, and_then, num_of, number_at, plain_at}
+use Rattle.c_read.proofs.Common.{◌≡◌, ℕ, ◌^◌, ◌<◌, ◌≤◌, Bool, true, false, cond, not, ◌&&◌, List, [], ◌∷◌, ◌++◌, nat_lt, ◌==◌, Ok, Err}
+use Rattle.c_read.proofs.Common.{decimal, sym, refl, ap, subst, arith, rules, ltb-true, list_all, Becomes, Faulty, Of, One, OneByte}
+use Rattle.c_read.proofs.Common.{OneNumber, Symbol, Takes, first, fits, limit, move, others, value_of, Lexeme, are_digits, is_digit, Fixed}
+use Rattle.c_read.proofs.Common.{Named, Number, Token, Wrong, kind_of, num_token, NumberTooLarge, Unexpected, Kind, Suffix, Of32, Of64}
+use Rattle.c_read.proofs.Common.{OfPlain, Tok, is_last, Outcome, Parser, and_then, num_of, number_at, plain_at}
 use Rattle.std.proofs.lemmas.Bool.Decides.{nat_tests}
 use Rattle.std.proofs.lemmas.Fmt.{decimal-digits_value}
 use Rattle.std.proofs.lemmas.Str.Parse.{IsNumeralModel, numerals_by_fold}
 use denote.Enum.Bare.{same_true}
+use Rattle.w2c_base.proofs.Conjunctions.{both_hold}
 use Rattle.c_tree.specs.contracts.token.Tok.{the_type}
 use Rattle.c_tree.specs.declared.token.Tok.TheVariants as tok
 use Rattle.c_tree.specs.declared.token.Part.TheVariants as part
@@ -11,7 +16,6 @@ use Rattle.c_tree.specs.declared.token.Kind.TheVariants as kind
 use Rattle.c_tree.specs.declared.token.Wanted.TheVariants as wanted
 use Rattle.c_tree.specs.declared.tree.Num.{Num}
 use Rattle.c_tree.specs.declared.tree.Num.TheVariants.{Plain}
-use Rattle.c_tree.proofs.Proper.{both_true}
 use Rattle.c_lex.specs.Reading.{next_kind, unexpected, is_fixed, expect, name, name_at, number, plain}
 use Rattle.c_read.proofs.Exact.{Has, HasDigits, Proper, Exact, next, open_part, no_part, takes_one}
 
@@ -28,15 +32,11 @@ fits_text : (t : Tok) (k : Kind) → is_text t ≡ true → fits t k ≡ is_fixe
 fits_text tok.Name k e = absurd cc
 fits_text tok.Plain k e = absurd cc
 fits_text _ (kind.Fixed u) e = refl
-fits_text _ kind.Name e = refl
-fits_text _ (kind.Number s) e = refl
-fits_text _ kind.Wrong e = refl
+fits_text _ _ e = refl
 
 is_token : (t : Tok) (x : Token) → is_fixed t (kind_of x) ≡ true → x ≡ Fixed t
 is_token t (Fixed u) e = ap Fixed (sym (same_true the_type tt t u e))
-is_token t (Named n) e = absurd cc
-is_token t (Number s ds) e = absurd cc
-is_token t Wrong e = absurd cc
+is_token t _ e = absurd cc
 
 not_end : (t : Tok) → is_text t ≡ true → t ≡ tok.End → ⊥
 not_end t e is = let f : is_text tok.End ≡ true = subst (λ x. is_text x ≡ true) is e in cc f
@@ -80,9 +80,7 @@ name_exact (l ∷ ls) = by l.token refl
   where
     by : (x : Token) → l.token ≡ x → Exact [] (λ n. Named n ∷ []) (One tok.Name ∷ []) (l ∷ ls) (name_at x (l ∷ ls))
     by (Named n) is = record { is = (takes_one (One tok.Name) (l ∷ ls) (rw is refl), Named n ∷ [], (is, refl, refl), refl) }
-    by (Fixed u) is = no_part (rw is refl)
-    by (Number s ds) is = no_part (rw is refl)
-    by Wrong is = no_part (rw is refl)
+    by _ is = no_part (rw is refl)
 
 -- a name, and what stands behind it
 pub named : {B : Type 0} {before : List Token} {tb : B → List Token} {more : List Symbol} {ls : List Lexeme} {k : List ℕ → Parser B}
@@ -107,8 +105,8 @@ digits_again : (ds : List ℕ) → are_digits ds ≡ true → value_of 0 ds < 2 
 digits_again [] e lt = absurd cc
 digits_again (d ∷ []) e lt = decimal-digits_value own (d ∷ []) (rw e refl) (omega arith) (λ _. refl) lt
 digits_again (d ∷ x ∷ ds) e lt =
-    let h = both_true (is_digit d && not (d == 48)) (list_all is_digit (x ∷ ds)) e in
-    let g = both_true (is_digit d) (not (d == 48)) h.0 in
+    let h = both_hold (is_digit d && not (d == 48)) (list_all is_digit (x ∷ ds)) e in
+    let g = both_hold (is_digit d) (not (d == 48)) h.0 in
     decimal-digits_value own (d ∷ x ∷ ds) (rw g.0 h.1) (omega arith) (λ z. absurd (not_zero d g.1 z)) lt
 
 num_again : (s : Suffix) (ds : List ℕ) → are_digits ds ≡ true → value_of 0 ds < limit s → num_token (num_of s (value_of 0 ds)) ≡ Number s ds
@@ -147,9 +145,7 @@ number_exact d (l ∷ ls) proper = by l.token refl
 
     by : (x : Token) → l.token ≡ x → NumberExact d (l ∷ ls) (number_at x (l ∷ ls))
     by (Number s ds) is = in_range s ds is (nat_lt (value_of 0 ds) (limit s)) refl
-    by (Fixed u) is = no_part (rw is refl)
-    by (Named n) is = no_part (rw is refl)
-    by Wrong is = no_part (rw is refl)
+    by _ is = no_part (rw is refl)
 
 -- ---- numbers without a suffix
 
@@ -210,9 +206,7 @@ byte_row =
     by l (Number OfPlain ds) is differs = absurd (differs ds refl)
     by l (Number Of32 ds) is differs = rw is refl
     by l (Number Of64 ds) is differs = rw is refl
-    by l (Fixed u) is differs = rw is refl
-    by l (Named n) is differs = rw is refl
-    by l Wrong is differs = rw is refl
+    by l _ is differs = rw is refl
 
 count_row : TakesPlain (One tok.Plain) (2 ^ 32)
 count_row =
@@ -228,9 +222,7 @@ count_row =
     by l (Number OfPlain ds) is differs = absurd (differs ds refl)
     by l (Number Of32 ds) is differs = rw is refl
     by l (Number Of64 ds) is differs = rw is refl
-    by l (Fixed u) is differs = rw is refl
-    by l (Named n) is differs = rw is refl
-    by l Wrong is differs = rw is refl
+    by l _ is differs = rw is refl
 
 pub byte_exact : (ls : List Lexeme) → Proper ls → Exact [] plain_tokens (OneByte ∷ []) ls (plain 256 ls)
 byte_exact ls proper = plain_exact OneByte 256 ls byte_row proper

@@ -1,5 +1,10 @@
 -- What is read has its numbers within range, lists that are not empty, and no expression too deep.
-use Rattle.c_read.proofs.Common.{◌≡◌, ℕ, zero, suc, ◌^◌, ◌<◌, Bool, true, false, cond, List, [], ◌∷◌, length, nat_lt, Some, None, Ok, Err, Option, refl, arith, ltb-true, AllByRecursion, begins_type, first, limit, others, value_of, FitsArg, FitsBody, FitsCallee, FitsExpr, FitsItem, FitsNum, FitsStmt, Lexeme, Fixed, Named, Number, Token, Wrong, kind_of, CReadFault, NumberTooLarge, Kind, Part, Suffix, Of32, Of64, OfPlain, Tok, CType, Outcome, Parser, and_then, expect, num_of, number_at, plain_at, close_by, inner_by, item_by, not_end, rest_by, all, and_more, behind_comma, is_comma, after_by, assigned, is_case, not_brace, return_of, returned_by, statement_by}
+use Rattle.c_read.proofs.Common.{◌≡◌, ℕ, zero, suc, ◌^◌, ◌<◌, Bool, true, false, cond, List, [], ◌∷◌, length, nat_lt, Some, None, Ok, Err}
+use Rattle.c_read.proofs.Common.{Option, refl, arith, ltb-true, AllByRecursion, begins_type, first, limit, others, value_of, FitsArg}
+use Rattle.c_read.proofs.Common.{FitsBody, FitsCallee, FitsExpr, FitsItem, FitsNum, FitsStmt, Lexeme, Fixed, Number, Token, kind_of}
+use Rattle.c_read.proofs.Common.{CReadFault, NumberTooLarge, Kind, Part, Suffix, Of32, Of64, OfPlain, Tok, CType, Outcome, Parser, and_then}
+use Rattle.c_read.proofs.Common.{expect, num_of, number_at, plain_at, close_by, inner_by, item_by, not_end, rest_by, all, and_more}
+use Rattle.c_read.proofs.Common.{behind_comma, is_comma, after_by, assigned, is_case, not_brace, return_of, returned_by, statement_by}
 use Rattle.c_tree.specs.declared.token.Tok.TheVariants as tok
 use Rattle.c_tree.specs.declared.token.Part.TheVariants as part
 use Rattle.c_tree.specs.declared.token.Kind.TheVariants as kind
@@ -8,9 +13,13 @@ use Rattle.c_lex.specs.Reading.{next_kind, name, number, plain}
 use Rattle.c_read.specs.Lists.{many}
 use Rattle.c_read.specs.Expressions.{operator, index, index_by, operation, group, group_by, expr, expr_by, expr_of_parts}
 use Rattle.c_read.specs.Types.{ctype, types, more_types, next_type}
-use Rattle.c_read.specs.Arguments.{depth, agroup, agroup_by, argument_by, argument_in, argument, next_argument, more_arguments, arguments, arguments_by, Called, pointer_type, through, Right, Gives, Calls, rname, rname_by, rstar, rstar_by, rgroup, rgroup_by, right_in, right_by}
-use Rattle.c_read.specs.Statements.{jump, after, returned, one_case, cases, default, switch, condition, set_star, call_through, statement, statements}
-use Rattle.c_read.specs.Items.{byte, next_byte, more_bytes, array_bytes, array, param, next_param, more_params, params, declaration, declarations, body, close, function, rest, static_rest, inner, external, item, items, unit}
+use Rattle.c_read.specs.Arguments.{depth, agroup, agroup_by, argument_by, argument_in, argument, next_argument, more_arguments, arguments}
+use Rattle.c_read.specs.Arguments.{arguments_by, Called, pointer_type, through, Right, Gives, Calls, rname, rname_by, rstar, rstar_by}
+use Rattle.c_read.specs.Arguments.{rgroup, rgroup_by, right_in, right_by}
+use Rattle.c_read.specs.Statements.{jump, after, returned, one_case, cases, default, switch, condition, set_star, call_through, statement}
+use Rattle.c_read.specs.Statements.{statements}
+use Rattle.c_read.specs.Items.{byte, next_byte, more_bytes, array_bytes, array, param, next_param, more_params, params, declaration}
+use Rattle.c_read.specs.Items.{declarations, body, close, function, rest, static_rest, inner, external, item, items, unit}
 
 abbrev FitAt : {A : Type 0} → (A → Type 0) → Outcome A → Type 0
 FitAt fit (Ok p) = fit p.0
@@ -81,8 +90,7 @@ more_fit one x ls each_fit h =
 
 num_fits : (s : Suffix) (n : ℕ) → n < limit s → FitsNum (num_of s n)
 num_fits OfPlain n lt = lt
-num_fits Of32 n lt = lt
-num_fits Of64 n lt = lt
+num_fits _ n lt = lt
 
 in_range : (s : Suffix) (n : ℕ) (ls : List Lexeme) (f : CReadFault) (b : Bool) → nat_lt n (limit s) ≡ b
     → Fit FitsNum (cond b (Ok (num_of s n, ls)) (Err f))
@@ -95,9 +103,7 @@ number_fit ls = by (first ls).token
   where
     by : (t : Token) → Fit FitsNum (number_at t ls)
     by (Number s ds) = in_range s (value_of 0 ds) (others ls) (NumberTooLarge (first ls).place) (nat_lt (value_of 0 ds) (limit s)) refl
-    by (Fixed u) = fails
-    by (Named n) = fails
-    by Wrong = fails
+    by _ = fails
 
 below : (above n : ℕ) (ls : List Lexeme) (f : CReadFault) (b : Bool) → nat_lt n above ≡ b
     → Fit (λ v. v < above) (cond b (Ok (n, ls)) (Err f))
@@ -112,9 +118,7 @@ plain_fit above ls = by (first ls).token
     by (Number OfPlain ds) = below above (value_of 0 ds) (others ls) (NumberTooLarge (first ls).place) (nat_lt (value_of 0 ds) above) refl
     by (Number Of32 ds) = fails
     by (Number Of64 ds) = fails
-    by (Fixed u) = fails
-    by (Named n) = fails
-    by Wrong = fails
+    by _ = fails
 
 -- ---- expressions
 

@@ -1,13 +1,15 @@
-mod Common
-pub mod Deeper
-pub mod Exact
-pub mod ExactArguments
-pub mod ExactExpressions
-pub mod ExactItems
-pub mod ExactLists
-pub mod ExactStatements
-pub mod ExactTokens
-pub mod Fit
-pub mod Loops
+-- What crates above cite.
 pub mod Once
-pub mod Whole
+-- What the crate's own proofs cite.
+mod Common
+mod Deeper
+mod Exact
+mod ExactArguments
+mod ExactExpressions
+mod ExactItems
+mod ExactLists
+mod ExactStatements
+mod ExactTokens
+mod Fit
+mod Loops
+mod Whole

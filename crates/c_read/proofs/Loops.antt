@@ -1,5 +1,7 @@
 -- Reading a list in a loop.
-use Rattle.c_read.proofs.Common.{◌≡◌, ℕ, zero, suc, ◌<◌, Bool, true, false, List, [], ◌∷◌, ◌++◌, length, Ok, Err, sym, refl, ap, ◌∙◌, append_assoc, append-nil, arith, Lexeme, CReadFault, Kind, Outcome, Parser, and_then, next_kind, all, and_more, is_comma}
+use Rattle.c_read.proofs.Common.{◌≡◌, ℕ, zero, suc, ◌<◌, Bool, true, false, List, [], ◌∷◌, ◌++◌, length, Ok, Err, sym, refl, ap, ◌∙◌}
+use Rattle.c_read.proofs.Common.{append_assoc, append-nil, arith, Lexeme, CReadFault, Kind, Outcome, Parser, and_then, next_kind, all}
+use Rattle.c_read.proofs.Common.{and_more, is_comma}
 use Rattle.c_read.specs.Lists.{many}
 
 -- what was read before, and what is still read

@@ -1,5 +1,8 @@
 -- A text has at most one first faulty token, and its fault is one of a token.
-use Rattle.c_read.proofs.Common.{◌≡◌, ℕ, zero, suc, Bool, true, false, cond, List, ◌∷◌, ◌++◌, Some, None, Option, sym, ◌∙◌, subst, Becomes, Faulty, Move, Of, One, OneByte, OneNumber, Stops, Symbol, Takes, becoming, counted, counts, expansion, first, fits, here, is_byte, is_large, is_number, is_plain, move, opened, others, taken, taking, too_deep, Lexeme, kind_of, CReadFault, Memory, UnitTooLong, Part}
+use Rattle.c_read.proofs.Common.{◌≡◌, ℕ, zero, suc, Bool, true, false, cond, List, ◌∷◌, ◌++◌, Some, None, Option, sym, ◌∙◌, subst, Becomes}
+use Rattle.c_read.proofs.Common.{Faulty, Move, Of, One, OneByte, OneNumber, Stops, Symbol, Takes, becoming, counted, counts, expansion}
+use Rattle.c_read.proofs.Common.{first, fits, here, is_byte, is_large, is_number, is_plain, move, opened, others, taken, taking, too_deep}
+use Rattle.c_read.proofs.Common.{Lexeme, kind_of, CReadFault, Memory, UnitTooLong, Part}
 
 taken_back : (s : Symbol) (ss : List Symbol) (ls : List Lexeme) (f : CReadFault) → move s (first ls) ≡ Takes → Stops (s ∷ ss) ls f
     → Stops ss (others ls) f

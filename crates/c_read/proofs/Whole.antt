@@ -1,5 +1,8 @@
 -- Whole texts: what was read of one is what it spells, and a fault is that of its first faulty token.
-use Rattle.c_read.proofs.Common.{◌≡◌, ℕ, zero, suc, ◌+◌, true, false, ◌≢◌, ◌⊎◌, List, [], ◌∷◌, ◌++◌, map, IfOk, IfErr, Ok, Err, Result, MatchResult, IsErrOf, sym, refl, ap, ◌∙◌, subst, inl, inr, One, first, opened, CSpells, CUpto, Begins, Front, Gap, Lexeme, front, lexeme, lexemes, Fixed, Named, Number, Token, Wrong, kind_of, unit_of, CReadFault, Memory, NumberTooLarge, TooDeep, Unexpected, UnitTooLong, is_last, Outcome, Reads, not_end, unit}
+use Rattle.c_read.proofs.Common.{◌≡◌, ℕ, zero, suc, ◌+◌, true, false, ◌≢◌, ◌⊎◌, List, [], ◌∷◌, ◌++◌, map, IfOk, IfErr, Ok, Err, Result}
+use Rattle.c_read.proofs.Common.{MatchResult, IsErrOf, sym, refl, ap, ◌∙◌, subst, inl, inr, One, first, opened, CSpells, CUpto, Begins}
+use Rattle.c_read.proofs.Common.{Front, Gap, Lexeme, front, lexeme, lexemes, Fixed, Named, Number, Token, Wrong, kind_of, unit_of}
+use Rattle.c_read.proofs.Common.{CReadFault, Memory, UnitTooLong, is_last, Outcome, Reads, not_end, unit}
 use Rattle.c_tree.specs.declared.token.Tok.TheVariants as tok
 use Rattle.c_tree.specs.Tree as tree
 use Rattle.c_tree.specs.Text as texts
@@ -18,8 +21,7 @@ digits_of : (t : Token) → IsGood t → HasDigits t
 digits_of (Number s ds) (inl proper) = proper
 digits_of (Number s ds) (inr wrong) = absurd cc
 digits_of (Fixed u) good = tt
-digits_of (Named n) good = tt
-digits_of Wrong good = tt
+digits_of _ good = tt
 
 -- the last one is the end or wrong, and no other one is
 abbrev Ended : List Lexeme → Type 0
@@ -62,10 +64,7 @@ has_tokens (l ∷ ls) (t ∷ ts) ls' has = ap (λ u. u ∷ map (λ (m : Lexeme).
 
 end_token : (t : Token) → not_end (kind_of t) ≡ false → t ≡ Fixed tok.End
 end_token (Fixed tok.End) off = refl
-end_token (Fixed u) off = absurd cc
-end_token (Named n) off = absurd cc
-end_token (Number s ds) off = absurd cc
-end_token Wrong off = absurd cc
+end_token _ off = absurd cc
 
 only_end : (ls : List Lexeme) → Ended ls → (first ls).token ≡ Fixed tok.End → map (λ l. l.token) ls ≡ Fixed tok.End ∷ []
 only_end [] e is = absurd e
@@ -108,10 +107,7 @@ unit_or_fault text = by (unit (lexemes 0 0 text)) refl
 -- where a text spells a unit, no fault but want of memory comes
 memory_alone : (text : List ℕ) (u : List tree.Item) (f : CReadFault) → CSpells u text → ((f ≡ Memory → ⊥) → CUpto text f) → f ≡ Memory
 memory_alone text u Memory is upto = refl
-memory_alone text u UnitTooLong is upto = absurd (no_fault u text UnitTooLong is (upto (λ e. cc)))
-memory_alone text u (Unexpected p w) is upto = absurd (no_fault u text (Unexpected p w) is (upto (λ e. cc)))
-memory_alone text u (NumberTooLarge p) is upto = absurd (no_fault u text (NumberTooLarge p) is (upto (λ e. cc)))
-memory_alone text u (TooDeep p) is upto = absurd (no_fault u text (TooDeep p) is (upto (λ e. cc)))
+memory_alone text u f is upto = absurd (no_fault u text f is (upto (λ e. cc)))
 
 -- What was read of the whole text.
 pub record IsRead (text : List ℕ) (r : Result (List Item) CReadFault) : Type 0 where

@@ -1,5 +1,10 @@
 -- Labels, parameters and locals, definitions and types under a renaming.
-use Rattle.c_renaming.proofs.Common.{◌≡◌, ℕ, ◌-◌, Bool, true, false, ◌&&◌, List, [], ◌∷◌, ◌++◌, map, if◌then◌else◌, Some, None, Option, option_map, bytes_eq, sym, refl, ap, ◌∙◌, length-map, map-append, if_found, Value, func_type_of, Num, Definition, initial_of, of_type, zero_of, CValue, FuncPointer, Name, Number, Pointer, Running, Vars, after_label, are_of_types, bind, equal_number, first_vars, label_of, locals_of, numbers, param_names, param_types, place_of, Each, Holds, KeptStmt, KeptValue, KeptVars, KeepsNames, Renaming, address, place}
+use Rattle.c_renaming.proofs.Common.{◌≡◌, ℕ, ◌-◌, Bool, true, false, ◌&&◌, List, [], ◌∷◌, ◌++◌, map, if◌then◌else◌, Some, None, Option}
+use Rattle.c_renaming.proofs.Common.{option_map, bytes_eq, sym, refl, ap, ◌∙◌, length-map, map-append, if_found, Value, func_type_of, Num}
+use Rattle.c_renaming.proofs.Common.{Definition, initial_of, of_type, zero_of, CValue, FuncPointer, Name, Number, Pointer, Running, Vars}
+use Rattle.c_renaming.proofs.Common.{after_label, are_of_types, bind, equal_number, first_vars, label_of, locals_of, numbers, param_names}
+use Rattle.c_renaming.proofs.Common.{param_types, place_of, Each, Holds, KeptStmt, KeptValue, KeptVars, KeepsNames, Renaming, address}
+use Rattle.c_renaming.proofs.Common.{place}
 use Rattle.c_tree.specs.declared.tree.CType.{CType}
 use Rattle.c_tree.specs.declared.tree.CType.TheVariants as type
 use Rattle.c_tree.specs.declared.tree.Num.TheVariants.{N32, N64, Plain}
@@ -22,28 +27,12 @@ of_type-value ρ ty (Pointer to) = of_pointers ty
   where
     of_pointers : (ty : CType) → of_type ty (Pointer (option_map ρ.object to)) ≡ of_type ty (Pointer to)
     of_pointers type.U32 = refl
-    of_pointers type.U64 = refl
-    of_pointers type.PtrU32 = refl
-    of_pointers type.PtrU64 = refl
-    of_pointers type.PtrMem = refl
-    of_pointers type.PtrTab = refl
-    of_pointers type.FnPtr = refl
-    of_pointers type.Void = refl
-    of_pointers type.Mem = refl
-    of_pointers type.Tab = refl
+    of_pointers _ = refl
 of_type-value ρ ty (FuncPointer to) = of_functions ty
   where
     of_functions : (ty : CType) → of_type ty (FuncPointer (option_map (address ρ) to)) ≡ of_type ty (FuncPointer to)
     of_functions type.U32 = refl
-    of_functions type.U64 = refl
-    of_functions type.PtrU32 = refl
-    of_functions type.PtrU64 = refl
-    of_functions type.PtrMem = refl
-    of_functions type.PtrTab = refl
-    of_functions type.FnPtr = refl
-    of_functions type.Void = refl
-    of_functions type.Mem = refl
-    of_functions type.Tab = refl
+    of_functions _ = refl
 
 are_of_types-values : (ρ : Renaming) (types : List CType) (args : List CValue)
     → are_of_types types (map (renamed.value ρ) args) ≡ are_of_types types args
@@ -135,27 +124,18 @@ module _ (ρ : Renaming) (u : ℕ) where
   IsPlain v = (renamed.value ρ v ≡ v) × KeptValue ρ v
 
   pub zero_plain : (ty : CType) → Holds IsPlain (zero_of ty)
-  zero_plain type.U32 = (refl, tt)
-  zero_plain type.U64 = (refl, tt)
-  zero_plain type.PtrU32 = (refl, tt)
-  zero_plain type.PtrU64 = (refl, tt)
-  zero_plain type.PtrMem = (refl, tt)
-  zero_plain type.PtrTab = (refl, tt)
-  zero_plain type.FnPtr = (refl, tt)
   zero_plain type.Void = tt
   zero_plain type.Mem = tt
   zero_plain type.Tab = tt
+  zero_plain _ = (refl, tt)
 
   pub initial_plain : (ty : CType) (number : Num) → Holds IsPlain (initial_of ty number)
   initial_plain type.U32 (N32 n) = (refl, tt)
   initial_plain type.U64 (N64 n) = (refl, tt)
-  initial_plain type.U32 (N64 n) = tt
   initial_plain type.U32 (Plain n) = tt
-  initial_plain type.U64 (N32 n) = tt
   initial_plain type.U64 (Plain n) = tt
   initial_plain ty (Plain n) = zero_plain ty
-  initial_plain ty (N32 n) = tt
-  initial_plain ty (N64 n) = tt
+  initial_plain _ _ = tt
 
   with_first : (x : Name) (o : Option CValue) (rest : Option Vars) → Holds IsPlain o
       → if_found o (λ v. option_map (λ l. (ρ.var u x, v) ∷ l) (option_map (renamed.vars ρ u) rest))

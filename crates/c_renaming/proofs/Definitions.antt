@@ -1,5 +1,10 @@
 -- The definitions of a part, and what is found among them.
-use Rattle.c_renaming.proofs.Common.{◌≡◌, ℕ, ◌+◌, Bool, true, false, ◌&&◌, List, [], ◌∷◌, ◌++◌, map, length, is_some, if◌then◌else◌, slice_get, Some, None, filter, Option, option_map, zip, filter_map, bytes_eq, sym, refl, ap, ◌∙◌, subst, arith, filter-append, filter_map-append, bytes_eq-Decides, range_with_len, option_or, first-append, or_map, Definition, defined, defined_for_all, definition_of, is_external, typed, Name, Each, IsApart, Numbered, Placed, item_stays, part, Renaming}
+use Rattle.c_renaming.proofs.Common.{◌≡◌, ℕ, ◌+◌, Bool, true, false, ◌&&◌, List, [], ◌∷◌, ◌++◌, map, length, is_some, if◌then◌else◌}
+use Rattle.c_renaming.proofs.Common.{slice_get, Some, None, filter, Option, option_map, zip, filter_map, bytes_eq, sym, refl, ap, ◌∙◌}
+use Rattle.c_renaming.proofs.Common.{subst, arith, filter-append, filter_map-append, bytes_eq-Decides, range_with_len, option_or}
+use Rattle.c_renaming.proofs.Common.{first-append, or_map, Definition, defined, defined_for_all, definition_of, is_external, typed, Name}
+use Rattle.c_renaming.proofs.Common.{Each, IsApart, Numbered, Placed, item_stays, part, Renaming, right_holds, or_none}
+use Rattle.std.proofs.Math.Bool.{and-false}
 use Rattle.c_tree.specs.Tree as tree
 use Rattle.c_meaning.proofs.Fronts.{zip_from}
 use Rattle.c_renaming.specs.Renamed as renamed
@@ -19,10 +24,6 @@ first items = slice_get items 0
 pub first-map : {A B : Type 0} (f : A → B) (xs : List A) → first (map f xs) ≡ option_map f (first xs)
 first-map f [] = refl
 first-map f (x ∷ xs) = refl
-
-pub or_none : {A : Type 0} (o : Option A) → option_or o None ≡ o
-or_none None = refl
-or_none (Some a) = refl
 
 -- ---- a part's definitions are those that stay, renamed
 
@@ -94,10 +95,6 @@ passes t x d = t d && bytes_eq d.func.name x
 
 -- ---- items of other units
 
-and_false : (b : Bool) → (b && false) ≡ false
-and_false true = refl
-and_false false = refl
-
 pub none_apart : (ρ : Renaming) (u : ℕ) (t : Definition → Bool) (x : Name) → ρ.defines u x ≡ true
     → (k : ℕ) (ys : List tree.Item) → Each (IsApart ρ u) ys
     → filter (passes t (ρ.func u x)) (definitions_from k ys) ≡ []
@@ -116,7 +113,7 @@ none_apart ρ u t x is k (tree.Function f ∷ ys) apart = go f.body (none_apart 
         → filter (passes t (ρ.func u x)) (definitions_from k (tree.Function (here body) ∷ ys)) ≡ []
     go None behind differ = behind
     go (Some body) behind differ =
-        ap (λ b. if b then d ∷ rest else rest) (ap (λ b. t d && b) (differ refl) ∙ and_false (t d)) ∙ behind
+        ap (λ b. if b then d ∷ rest else rest) (ap (λ b. t d && b) (differ refl) ∙ and-false (t d)) ∙ behind
       where
         d : Definition
         d = record { item = k; func = here (Some body); body = body }
@@ -159,13 +156,9 @@ passing_placed ρ u items new placed same t tells x is =
     from : 0 + length placed.front ≡ length placed.front
     from = omega arith
 
-    second : (b c : Bool) → (b && c) ≡ true → c ≡ true
-    second true c e = e
-    second false c e = cc
-
     stay : (d : Definition) → passes t x d ≡ true → placed.stays d.func.name ≡ true
     stay d e = subst (λ (n : Name). placed.stays n ≡ true)
-        (sym ((bytes_eq-Decides d.func.name x).0 (second (t d) (bytes_eq d.func.name x) e))) (placed.defined_stay x is)
+        (sym ((bytes_eq-Decides d.func.name x).0 (right_holds (t d) (bytes_eq d.func.name x) e))) (placed.defined_stay x is)
 
 -- the definition of a name, and its definition for other units
 pub defined_placed : (ρ : Renaming) (u : ℕ) (items new : List tree.Item) → Placed ρ u items new

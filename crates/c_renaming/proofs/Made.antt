@@ -1,5 +1,11 @@
 -- A program that is made of another's renamed parts is renamed.
-use Rattle.c_renaming.proofs.Common.{◌≡◌, ℕ, ◌+◌, Bool, true, false, List, [], ◌∷◌, map, is_some, if◌then◌else◌, slice_get, Some, None, filter, Option, option_map, flat_map, filter_map, bytes_eq, sym, refl, ap, ◌∙◌, subst, bytes_eq-Decides, option_or, is_some_map, or_map, if_found, numbered, Host, func_type_of, Definition, HostSymbol, Program, array_bytes, array_named, defined, definition_at, external_func, func_named, func_type, host_symbol, host_symbols, typed, FuncAddress, Name, UnitFunc, Elsewhere, Here, KeepsExternals, StandsFor, definer, Each, Holds, KeptDefinition, KeptFunc, IsMadeOf, KeptBody, KeptItem, PlacedAt, KeepsNames, Renames, Renaming, address}
+use Rattle.c_renaming.proofs.Common.{◌≡◌, ℕ, ◌+◌, Bool, true, false, List, [], ◌∷◌, map, is_some, if◌then◌else◌, slice_get, Some, None}
+use Rattle.c_renaming.proofs.Common.{filter, Option, option_map, flat_map, filter_map, bytes_eq, sym, refl, ap, ◌∙◌, subst}
+use Rattle.c_renaming.proofs.Common.{bytes_eq-Decides, option_or, is_some_map, or_map, if_found, numbered, Host, func_type_of, Definition}
+use Rattle.c_renaming.proofs.Common.{HostSymbol, Program, array_bytes, array_named, defined, definition_at, external_func, func_named}
+use Rattle.c_renaming.proofs.Common.{func_type, host_symbol, host_symbols, typed, FuncAddress, Name, UnitFunc, Elsewhere, Here}
+use Rattle.c_renaming.proofs.Common.{KeepsExternals, StandsFor, definer, Each, Holds, KeptDefinition, KeptFunc, IsMadeOf, KeptBody}
+use Rattle.c_renaming.proofs.Common.{KeptItem, PlacedAt, KeepsNames, Renames, Renaming, address}
 use Rattle.c_tree.specs.Tree as tree
 use Rattle.c_renaming.specs.Renamed as renamed
 use Rattle.c_renaming.proofs.Begins.{arrays_placed, fresh_same}

@@ -1,5 +1,10 @@
 -- What names of functions stand for in the one unit that units become.
-use Rattle.c_renaming.proofs.Common.{◌≡◌, ℕ, suc, ◌+◌, Bool, true, false, not, ◌&&◌, List, [], ◌∷◌, ◌++◌, map, length, is_some, if◌then◌else◌, slice_get, Some, None, filter, Option, option_map, zip, flat_map, bytes_eq, sym, refl, ap, ◌∙◌, subst, append_assoc, arith, bytes_eq-Decides, range_with_len, ⊤, both_hold, if_found, Definition, Program, defined, defined_for_all, definition_at, is_external, is_init, primitive, FuncAddress, Name, UnitFunc, Elsewhere, Here, KeepsExternals, StandsFor, definer, Each, KeptFunc, Foreign, KeepsSeen, MayMerge, MayUse, Own, WhereDefined, joined, merged, merging, Renames, Renaming}
+use Rattle.c_renaming.proofs.Common.{◌≡◌, ℕ, suc, ◌+◌, Bool, true, false, not, ◌&&◌, List, [], ◌∷◌, ◌++◌, map, length, is_some}
+use Rattle.c_renaming.proofs.Common.{if◌then◌else◌, slice_get, Some, None, filter, Option, option_map, zip, flat_map, bytes_eq, sym, refl}
+use Rattle.c_renaming.proofs.Common.{ap, ◌∙◌, subst, append_assoc, arith, bytes_eq-Decides, range_with_len, ⊤, both_hold, if_found}
+use Rattle.c_renaming.proofs.Common.{Definition, Program, defined, defined_for_all, definition_at, is_external, is_init, primitive}
+use Rattle.c_renaming.proofs.Common.{FuncAddress, Name, UnitFunc, Elsewhere, Here, KeepsExternals, StandsFor, definer, Each, KeptFunc}
+use Rattle.c_renaming.proofs.Common.{Foreign, KeepsSeen, MayMerge, MayUse, Own, WhereDefined, joined, merged, merging, Renames, Renaming}
 use Rattle.c_tree.specs.Tree as tree
 use Rattle.c_renaming.specs.Renamed as renamed
 use Rattle.c_renaming.proofs.Definitions.{definitions_from}
@@ -134,8 +139,6 @@ module _ (p : Program) (rename : ℕ → Name → Name) (is_seen : Name → Bool
   SeenIsExternal f = is_seen f.name ≡ true → f.is_static ≡ false
 
   item_external : (u : ℕ) (i : tree.Item) → KeepsSeen is_seen i → WhereDefined SeenIsExternal (renamed.item ρ u i)
-  item_external u (tree.Array name count bytes) seen = tt
-  item_external u (tree.Var ty name number) seen = tt
   item_external u (tree.Function f) seen = λ there is. go (is_seen f.name) refl is (seen (body_there f.body there))
     where
       body_there : (b : Option tree.Body) → is_some (option_map (renamed.body ρ u) b) ≡ true → is_some b ≡ true
@@ -150,6 +153,7 @@ module _ (p : Program) (rename : ℕ → Name → Name) (is_seen : Name → Bool
           → is_seen f.name ≡ not f.is_static → f.is_static ≡ false
       go true e is seen = not_true f.is_static (sym e ∙ seen)
       go false e is seen = absurd (clash (is_seen (rename u f.name)) is (may.not_seen u f.name))
+  item_external u _ seen = tt
 
   items_external : (u : ℕ) (items : List tree.Item) → Each (KeepsSeen is_seen) items
       → Each (WhereDefined SeenIsExternal) (map (renamed.item ρ u) items)

@@ -1,5 +1,6 @@
 -- No statement changes which objects there are, and in which order.
-use Rattle.c_renaming.proofs.Common.{◌≡◌, ℕ, List, [], ◌∷◌, map, refl, ap, Event, Init, Reply, Program, SymbolCall, fresh, objects_of, c_run, c_start, entries_of, Objects, declared_names, names_of}
+use Rattle.c_renaming.proofs.Common.{◌≡◌, ℕ, List, [], ◌∷◌, map, refl, ap, Event, Init, Reply, Program, SymbolCall, fresh, objects_of}
+use Rattle.c_renaming.proofs.Common.{c_run, c_start, entries_of, Objects, declared_names, names_of}
 use Rattle.c_tree.specs.Tree as tree
 use Rattle.c_meaning.proofs.StepsKeep.{KeptByObjects, OfMachine, ShownAlike, names_of_entries, units_kept, entry_keeps, after_keeps}
 

@@ -1,5 +1,7 @@
 -- New names tell their unit and their old name.
-use Rattle.c_renaming.proofs.Common.{◌≡◌, ℕ, zero, suc, ◌+◌, ◌-◌, ◌<◌, Bool, true, false, List, [], ◌∷◌, ◌++◌, map, if◌then◌else◌, Some, None, bytes_eq, sym, refl, ap, ◌∙◌, subst, arith, bytes_eq-Decides, named, Effect, primitive, primitives, CValue, Machine, Name, Each, TellsUnits}
+use Rattle.c_renaming.proofs.Common.{◌≡◌, ℕ, zero, suc, ◌+◌, ◌-◌, ◌<◌, Bool, true, false, List, [], ◌∷◌, ◌++◌, map, if◌then◌else◌, Some}
+use Rattle.c_renaming.proofs.Common.{None, bytes_eq, sym, refl, ap, ◌∙◌, subst, arith, bytes_eq-Decides, named, Effect, primitive}
+use Rattle.c_renaming.proofs.Common.{primitives, CValue, Machine, Name, Each, TellsUnits}
 use Rattle.std.specs.Int.Digits.{digits_of, number_from_digits, AllBelowBase}
 use Rattle.std.proofs.lemmas.Int.Digits.{all_below_base_digits_of, number_digits_of}
 use Rattle.c_renaming.specs.NewNames.{decimal_text, name_in, is_outside}
@@ -65,9 +67,6 @@ new_names = record {
   same_name = λ u v x y e. (parts u v x y e).names;
   not_depth = λ u x. refl;
 }
-
-pub new_names_inside : (u : ℕ) (x : Name) → is_outside (name_in u x) ≡ false
-new_names_inside u x = refl
 
 -- ---- names of primitives are seen outside
 

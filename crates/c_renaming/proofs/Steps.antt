@@ -1,21 +1,35 @@
 -- One statement comes to the same on both sides.
-use Rattle.c_renaming.proofs.Common.{◌≡◌, ℕ, Bool, true, false, List, [], ◌∷◌, map, is_some, if◌then◌else◌, ◌==◌, slice_get, Some, None, Option, option_map, bytes_eq, sym, refl, ap, ◌∙◌, subst, is_some_map, if_found, named, with_named, Ask, Event, Gave, Host, HostTrapped, Reply, Trail, asked, equal_types, is_result, number_of, types_of, Value, I32, I64, same_func_type, Definition, Program, definition_at, func_named, func_type, host_type, var_in, with_depth, with_trail, with_var, Effect, Gives, IsUndefined, NoEffect, Traps, primitive, Asks, Bad, CValue, Evaluated, Frame, FuncAddress, FuncPointer, HostFunc, Is, Machine, Name, NoRule, Number, Place, Pointer, Running, State, Stuck, Trapped, Undefined, UnitFunc, Vars, found, of_one_type, then_evaluate, Step, Stops, act, after_label, as_object, ask, assign, assign_depth, at_rest, begin, c_step, call, call_callee, call_named, call_through, depth_name, evaluate, evaluate_arg, evaluate_args, first_vars, give, in_unit, is_returned, jump, label_of, next, numbers, place_of, put_in, replied, returned, take_effect, value_of, with_value, with_vars, Each, Holds, KeptArg, KeptCallee, KeptDefinition, KeptFrames, KeptFunc, KeptRunning, KeptStmt, KeptValue, KeptVars, KeepsMeanings, KeepsNames, Renaming, address, place, SameMachine, SameState, SameStep}
+use Rattle.c_renaming.proofs.Common.{◌≡◌, ℕ, Bool, true, false, List, [], ◌∷◌, map, is_some, if◌then◌else◌, ◌==◌, slice_get, Some, None}
+use Rattle.c_renaming.proofs.Common.{Option, option_map, bytes_eq, sym, refl, ap, ◌∙◌, subst, is_some_map, if_found, named, with_named, Ask}
+use Rattle.c_renaming.proofs.Common.{Event, Gave, Host, HostTrapped, Reply, Trail, asked, equal_types, is_result, number_of, types_of}
+use Rattle.c_renaming.proofs.Common.{Value, I32, I64, same_func_type, Definition, Program, definition_at, func_named, func_type, host_type}
+use Rattle.c_renaming.proofs.Common.{var_in, with_depth, with_trail, with_var, Effect, Gives, IsUndefined, NoEffect, Traps, primitive, Asks}
+use Rattle.c_renaming.proofs.Common.{Bad, CValue, Evaluated, Frame, FuncAddress, FuncPointer, HostFunc, Is, Machine, Name, NoRule, Number}
+use Rattle.c_renaming.proofs.Common.{Place, Pointer, Running, State, Stuck, Trapped, Undefined, UnitFunc, Vars, found, of_one_type}
+use Rattle.c_renaming.proofs.Common.{then_evaluate, Step, Stops, act, after_label, as_object, ask, assign, assign_depth, at_rest, begin}
+use Rattle.c_renaming.proofs.Common.{c_step, call, call_callee, call_named, call_through, depth_name, evaluate, evaluate_arg, evaluate_args}
+use Rattle.c_renaming.proofs.Common.{first_vars, give, in_unit, is_returned, jump, label_of, next, numbers, place_of, put_in, replied}
+use Rattle.c_renaming.proofs.Common.{returned, take_effect, value_of, with_value, with_vars, Each, Holds, KeptArg, KeptCallee}
+use Rattle.c_renaming.proofs.Common.{KeptDefinition, KeptFrames, KeptFunc, KeptRunning, KeptStmt, KeptValue, KeptVars, KeepsMeanings}
+use Rattle.c_renaming.proofs.Common.{KeepsNames, Renaming, address, place, SameMachine, SameState, SameStep}
 use Rattle.w2c_base.specs.declared.signature.FuncType.{FuncType}
 use Rattle.c_tree.specs.Tree as tree
 use Rattle.c_renaming.specs.Renamed as renamed
-use Rattle.c_renaming.proofs.Bodies.{place-running, after_label-stmts, after_label-kept, label_of-cases, first_vars-definition, first_vars-kept, numbers-values, of_type-value}
+use Rattle.c_renaming.proofs.Bodies.{place-running, after_label-stmts, after_label-kept, label_of-cases, first_vars-definition}
+use Rattle.c_renaming.proofs.Bodies.{first_vars-kept, numbers-values, of_type-value}
 use Rattle.c_renaming.proofs.Changes.{same_var, same_depth, same_trail}
 use Rattle.c_renaming.proofs.Effects.{SameEffect, Simulates, primitives_simulate}
 use Rattle.c_renaming.proofs.Types.{func_type_same}
-use Rattle.c_renaming.proofs.Evaluation.{come_to, as_object-value, named-vars, with_named-vars, with_named-kept, is_depth, var_same, value_same, value_kept, evaluate_same, GivesKept, GiveKept, arg_same, arg_kept, args_same, args_kept}
+use Rattle.c_renaming.proofs.Evaluation.{come_to, as_object-value, named-vars, with_named-vars, with_named-kept, is_depth, var_same}
+use Rattle.c_renaming.proofs.Evaluation.{value_same, value_kept, evaluate_same, GivesKept, GiveKept, arg_same, arg_kept, args_same}
+use Rattle.c_renaming.proofs.Evaluation.{args_kept}
 
 abbrev frames : Renaming → List Frame → List Frame
 frames ρ below = map (renamed.frame ρ) below
 
 come_to_itself : {A : Type 0} (v : Evaluated A) → v ≡ come_to (λ a. a) v
 come_to_itself (Is a) = refl
-come_to_itself (Bad kind) = refl
-come_to_itself NoRule = refl
+come_to_itself _ = refl
 
 same_number_option : (ρ : Renaming) (o : Option Value) → option_map Number o ≡ option_map (renamed.value ρ) (option_map Number o)
 same_number_option ρ None = refl
@@ -74,8 +88,7 @@ module _ (ρ : Renaming) (p q : Program) (names : KeepsNames ρ) (meanings : Kee
   assign_depth_same r (Number (I32 k)) below running rest = goes_on ρ names (with_depth m k) (with_depth n k)
       (same_depth ρ names m n same k) r below running rest
   assign_depth_same r (Number (I64 k)) below running rest = (same, refl)
-  assign_depth_same r (Pointer to) below running rest = (same, refl)
-  assign_depth_same r (FuncPointer to) below running rest = (same, refl)
+  assign_depth_same r _ below running rest = (same, refl)
 
   -- a value goes where one of its type is held
   put_in_same : (o : Option CValue) (v : CValue) (x y : Step) → (is_some o ≡ true → SameStep ρ x y)
@@ -89,12 +102,8 @@ module _ (ρ : Renaming) (p q : Program) (names : KeepsNames ρ) (meanings : Kee
       one_type (Number v) (Number w) = refl
       one_type (Number v) (Pointer to) = refl
       one_type (Number v) (FuncPointer f) = refl
-      one_type (Pointer to) (Number w) = refl
-      one_type (Pointer to) (Pointer other) = refl
-      one_type (Pointer to) (FuncPointer f) = refl
-      one_type (FuncPointer f) (Number w) = refl
-      one_type (FuncPointer f) (Pointer to) = refl
-      one_type (FuncPointer f) (FuncPointer g) = refl
+      one_type _ (Number w) = refl
+      one_type _ _ = refl
 
       by_test : (b : Bool) → SameStep ρ (if b then x else Stops m Stuck) (if b then y else Stops n Stuck)
       by_test true = does refl

@@ -1,5 +1,8 @@
 -- Types of functions, and which calls fit, are the same on both sides.
-use Rattle.c_renaming.proofs.Common.{◌≡◌, Bool, false, ◌&&◌, List, [], ◌∷◌, slice_get, Some, None, Option, option_map, refl, ap, ◌∙◌, list_all, list_any, if_found, Host, is_number, types_of, same_type, same_types, U32, U64, Void, Program, SymbolCall, c_func_type_of, c_params_of, called_func, fits, func_type, FuncAddress, HostFunc, UnitFunc, Holds, KeptFunc, KeepsMeanings, Renames, Renaming, address}
+use Rattle.c_renaming.proofs.Common.{◌≡◌, Bool, false, ◌&&◌, List, [], ◌∷◌, slice_get, Some, None, Option, option_map, refl, ap, ◌∙◌}
+use Rattle.c_renaming.proofs.Common.{list_all, list_any, if_found, Host, is_number, types_of, same_type, same_types, U32, U64, Void}
+use Rattle.c_renaming.proofs.Common.{Program, SymbolCall, c_func_type_of, c_params_of, called_func, fits, func_type, FuncAddress, HostFunc}
+use Rattle.c_renaming.proofs.Common.{UnitFunc, Holds, KeptFunc, KeepsMeanings, Renames, Renaming, address}
 use Rattle.c_tree.specs.Tree as tree
 
 module _ (ρ : Renaming) (p q : Program) (meanings : KeepsMeanings ρ p q) where

@@ -1,7 +1,8 @@
 -- What a renaming makes of the text of a unit, of values, and of functions that run.
 use Rattle.std.specs.Prelude.{ℕ, map, option_map}
 use Rattle.c_tree.specs.Tree as tree
-use Rattle.c_meaning.specs.State.{CValue, Number, Pointer, FuncPointer, Vars, Name, Element, Table, Running, Frame, Stop, Trapped, Undefined, Asks, Stuck}
+use Rattle.c_meaning.specs.State.{CValue, Number, Pointer, FuncPointer, Vars, Name, Element, Table, Running, Frame, Stop, Trapped}
+use Rattle.c_meaning.specs.State.{Undefined, Asks, Stuck}
 use Rattle.c_meaning.specs.Linking.{Definition}
 use Rattle.c_meaning.specs.Run.{Outcome, Ended, Stopped, OutOfSteps}
 use Rattle.c_renaming.specs.Renaming.{Renaming, address, place}

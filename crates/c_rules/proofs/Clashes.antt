@@ -1,17 +1,17 @@
 -- Whether an item clashes with an earlier one is told by the first of its name and by what is
 -- defined, where the earlier ones do not clash.
-use Rattle.c_rules.proofs.Common.{◌≡◌, ℕ, Bool, true, false, not, ◌&&◌, ◌||◌, List, [], ◌∷◌, ◌++◌, if◌then◌else◌, ◌==◌, Some, None, Option, bytes_eq, sym, refl, ap, ◌∙◌, arith, list_all, list_any, named, are_alike, has_body, may_both_stand, same_func_type, same_type, same_types, func_type_of, name_of, CType, by_names, defined_of, none_clash, stands_behind}
+use Rattle.c_rules.proofs.Common.{◌≡◌, ℕ, Bool, true, false, not, ◌&&◌, ◌||◌, List, [], ◌∷◌, ◌++◌, if◌then◌else◌, ◌==◌, Some, None, Option}
+use Rattle.c_rules.proofs.Common.{bytes_eq, sym, refl, ap, ◌∙◌, arith, list_all, list_any, named, are_alike, has_body, may_both_stand}
+use Rattle.c_rules.proofs.Common.{same_func_type, same_type, same_types, func_type_of, name_of, CType, by_names, defined_of, none_clash}
+use Rattle.c_rules.proofs.Common.{stands_behind}
 use Rattle.std.proofs.lemmas.Bool.Decides.{nat_tests}
 use Rattle.std.proofs.lemmas.Slice.Eq.{bytes_eq-Decides}
+use Rattle.std.proofs.lemmas.Bool.{and_from}
 use Rattle.w2c_base.proofs.Conjunctions.{left_holds, right_holds}
 use Rattle.c_tree.specs.Tree as tree
 use Rattle.c_rules.proofs.Defined.{defined_front}
 
 -- ---- of truth values
-
-both : (a b : Bool) → a ≡ true → b ≡ true → (a && b) ≡ true
-both true b e f = f
-both false b e f = cc
 
 -- ---- items that are alike
 
@@ -24,7 +24,7 @@ same_through t u v e f = same_number _ _ _ e f
 types_through : (ts us vs : List CType) → same_types ts us ≡ true → same_types ts vs ≡ true → same_types us vs ≡ true
 types_through [] [] [] e f = refl
 types_through (t ∷ ts) (u ∷ us) (v ∷ vs) e f =
-    both (same_type u v) (same_types us vs) (same_through t u v (left_holds _ _ e) (left_holds _ _ f))
+    and_from (same_type u v) (same_types us vs) (same_through t u v (left_holds _ _ e) (left_holds _ _ f))
     (types_through ts us vs (right_holds _ _ e) (right_holds _ _ f))
 types_through [] [] (v ∷ vs) e f = cc
 types_through [] (u ∷ us) vs e f = cc
@@ -47,10 +47,10 @@ alike_through : (x y z : tree.Item) → are_alike x y ≡ true → are_alike x z
 alike_through (tree.Function f) (tree.Function g) (tree.Function h) e k =
     let first = right_holds (agree f.is_static g.is_static) (same_func_type (func_type_of f) (func_type_of g)) e in
     let second = right_holds (agree f.is_static h.is_static) (same_func_type (func_type_of f) (func_type_of h)) k in
-    both (agree g.is_static h.is_static) (same_func_type (func_type_of g) (func_type_of h))
+    and_from (agree g.is_static h.is_static) (same_func_type (func_type_of g) (func_type_of h))
     (same_linkage f.is_static g.is_static h.is_static (left_holds _ (same_func_type (func_type_of f) (func_type_of g)) e)
     (left_holds _ (same_func_type (func_type_of f) (func_type_of h)) k))
-    (both (same_types (func_type_of g).params (func_type_of h).params) (same_type g.result h.result)
+    (and_from (same_types (func_type_of g).params (func_type_of h).params) (same_type g.result h.result)
     (types_through (func_type_of f).params (func_type_of g).params (func_type_of h).params
     (left_holds _ (same_type f.result g.result) first) (left_holds _ (same_type f.result h.result) second))
     (same_through f.result g.result h.result (right_holds (same_types (func_type_of f).params (func_type_of g).params) _ first)
@@ -158,10 +158,10 @@ module _ (item : tree.Item) where
       → none_clash (items ++ item ∷ []) ≡ true
   none_clash_more [] kept e = refl
   none_clash_more (x ∷ items) kept e =
-      both (list_all (stands_behind x) (items ++ item ∷ [])) (none_clash (items ++ item ∷ []))
+      and_from (list_all (stands_behind x) (items ++ item ∷ [])) (none_clash (items ++ item ∷ []))
       (all_push (stands_behind x) items (left_holds _ (none_clash items) kept) (left_holds (stands x) _ e))
       (none_clash_more items (right_holds _ (none_clash items) kept) (right_holds (stands x) _ e))
     where
       all_push : (p : tree.Item → Bool) (ys : List tree.Item) → list_all p ys ≡ true → p item ≡ true → list_all p (ys ++ item ∷ []) ≡ true
-      all_push p [] h k = both (p item) true k refl
-      all_push p (y ∷ ys) h k = both (p y) _ (left_holds (p y) _ h) (all_push p ys (right_holds (p y) _ h) k)
+      all_push p [] h k = and_from (p item) true k refl
+      all_push p (y ∷ ys) h k = and_from (p y) _ (left_holds (p y) _ h) (all_push p ys (right_holds (p y) _ h) k)

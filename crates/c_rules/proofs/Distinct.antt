@@ -1,5 +1,6 @@
 -- Lists without two equal items, from the end on.
-use Rattle.c_rules.proofs.Common.{◌≡◌, ℕ, zero, suc, ◌+◌, Bool, true, false, not, ◌&&◌, ◌||◌, List, [], ◌∷◌, drop, is_some, if◌then◌else◌, slice_get, Some, None, Option, bytes_eq, sym, refl, ap, ◌∙◌, list_any, named, either_way, are_distinct}
+use Rattle.c_rules.proofs.Common.{◌≡◌, ℕ, zero, suc, ◌+◌, Bool, true, false, not, ◌&&◌, ◌||◌, List, [], ◌∷◌, drop, is_some, if◌then◌else◌}
+use Rattle.c_rules.proofs.Common.{slice_get, Some, None, Option, bytes_eq, sym, refl, ap, ◌∙◌, list_any, named, bytes_eq-sym, are_distinct}
 use Rattle.std.specs.Option.{option_or}
 use Rattle.w2c_base.proofs.Places.{drop_front}
 
@@ -30,7 +31,7 @@ module _ (names : List (List ℕ)) (i j : ℕ) (n : List ℕ) (at : slice_get na
       → (q : List ℕ) → is_some (named q after) ≡ list_any (bytes_eq q) (drop j names)
   knows_before {C} before after of grown so_far q =
       ap is_some (grown q) ∙ at_end (named q before) (bytes_eq n q) ∙ ap (λ b. bytes_eq n q || b) (so_far q)
-      ∙ ap (λ b. b || list_any (bytes_eq q) (drop i names)) (either_way n q)
+      ∙ ap (λ b. b || list_any (bytes_eq q) (drop i names)) (bytes_eq-sym n q)
       ∙ sym (ap (list_any (bytes_eq q)) front)
     where
       at_end : (o : Option C) (b : Bool) → is_some (option_or o (if b then Some of else None)) ≡ (b || is_some o)

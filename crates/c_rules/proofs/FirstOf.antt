@@ -1,5 +1,7 @@
 -- The first of what each item of a list gives.
-use Rattle.c_rules.proofs.Common.{◌≡◌, ℕ, zero, suc, ◌+◌, ◌<◌, ◌≤◌, Bool, true, false, not, List, [], ◌∷◌, ◌++◌, map, length, get_or, drop, if◌then◌else◌, slice_get, Some, None, filter, Option, option_map, zip, flat_map, sym, refl, ap, ◌∙◌, arith, range_with_len, numbered, broken_of}
+use Rattle.c_rules.proofs.Common.{◌≡◌, ℕ, zero, suc, ◌+◌, ◌<◌, ◌≤◌, Bool, true, false, not, List, [], ◌∷◌, ◌++◌, map, length, get_or, drop}
+use Rattle.c_rules.proofs.Common.{if◌then◌else◌, slice_get, Some, None, filter, Option, option_map, zip, flat_map, sym, refl, ap, ◌∙◌}
+use Rattle.c_rules.proofs.Common.{arith, range_with_len, numbered, broken_of}
 use Rattle.c_rules.specs.FirstRule.{first_rule}
 use Rattle.w2c_base.proofs.NumberedLists.{numbered_past}
 

@@ -1,10 +1,14 @@
 -- The first broken rule, from one statement or item to the next.
-use Rattle.c_rules.proofs.Common.{◌≡◌, ℕ, ◌+◌, ◌<◌, ◌≤◌, Bool, true, false, List, [], map, length, get_or, take, drop, if◌then◌else◌, slice_get, Some, None, Option, option_map, flat_map, sym, refl, ap, ◌∙◌, numbered, BrokenAt, broken_in_body, broken_in_item, broken_in_stmt, broken_of, first_broken, Place, is_declared_once, item_rules, stmt_rules, Scope}
+use Rattle.c_rules.proofs.Common.{◌≡◌, ℕ, ◌+◌, ◌<◌, ◌≤◌, Bool, true, false, List, [], map, length, get_or, take, drop, if◌then◌else◌}
+use Rattle.c_rules.proofs.Common.{slice_get, Some, None, Option, option_map, flat_map, sym, refl, ap, ◌∙◌, numbered, BrokenAt}
+use Rattle.c_rules.proofs.Common.{broken_in_body, broken_in_item, broken_in_stmt, broken_of, first_broken, Place, is_declared_once}
+use Rattle.c_rules.proofs.Common.{item_rules, stmt_rules, Scope}
 use Rattle.c_tree.specs.declared.tree.Stmt.{Stmt}
 use Rattle.c_tree.specs.declared.tree.Item.{Item}
 use Rattle.c_tree.specs.Tree as tree
 use Rattle.c_tree.specs.View.{item_of, stmt_of}
-use Rattle.c_rules.specs.FirstRule.{stmt_breaks, item_breaks, first_in_stmts, first_in_body, first_in_items, func_in}
+use Rattle.c_tree.specs.Scope.{func_in}
+use Rattle.c_rules.specs.FirstRule.{stmt_breaks, item_breaks, first_in_stmts, first_in_body, first_in_items}
 use Rattle.c_rules.proofs.FirstOf as first
 
 -- ---- statements
@@ -66,14 +70,12 @@ body_some unit i f b e =
 -- an item that is no function has no statement
 pub no_body : (unit : List tree.Item) (i : ℕ) (item : tree.Item) → func_in item ≡ None → None ≡ first_in_body unit i item
 unfolding first_in_body
-no_body unit i (tree.Array n m bs) e = refl
-no_body unit i (tree.Var t n v) e = refl
 no_body unit i (tree.Function f) e = cc
+no_body unit i _ e = refl
 
 pub is_function : (item : tree.Item) (f : tree.Func) → Some f ≡ func_in item → tree.Function f ≡ item
 is_function (tree.Function g) f e = ap tree.Function cc
-is_function (tree.Array n m bs) f e = cc
-is_function (tree.Var t n v) f e = cc
+is_function _ f e = cc
 
 -- ---- items
 

@@ -1,5 +1,6 @@
 -- Two lists of types, type by type.
-use Rattle.c_rules.proofs.Common.{◌≡◌, ℕ, suc, ◌+◌, ◌<◌, ◌≤◌, Bool, true, false, ◌&&◌, ◌≢◌, List, [], ◌∷◌, map, length, get_or, drop, sym, refl, ap, ◌∙◌, arith, same_type, same_types, CType}
+use Rattle.c_rules.proofs.Common.{◌≡◌, ℕ, suc, ◌+◌, ◌<◌, ◌≤◌, Bool, true, false, ◌&&◌, ◌≢◌, List, [], ◌∷◌, map, length, get_or, drop, sym}
+use Rattle.c_rules.proofs.Common.{refl, ap, ◌∙◌, arith, same_type, same_types, CType}
 use Rattle.std.proofs.lemmas.List.{drop_all, length-map}
 use Rattle.c_tree.proofs.Tested.{at_front}
 

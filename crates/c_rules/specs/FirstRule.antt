@@ -27,9 +27,3 @@ first_in_body unit i item = slice_get (broken_in_body unit i item) 0
 -- from an item on
 unfoldable pub first_in_items : List tree.Item → ℕ → Option BrokenAt
 first_in_items unit i = slice_get (flat_map (broken_in_item unit) (drop i (numbered unit))) 0
-
--- the function that an item declares
-abbrev pub func_in : tree.Item → Option tree.Func
-func_in (tree.Array name count bytes) = None
-func_in (tree.Var t name number) = None
-func_in (tree.Function f) = Some f

@@ -17,14 +17,13 @@ pub fn absorb_unit(salt: &mut Salted, items: &[Item]) {
 }
 
 fn absorb_item(salt: &mut Salted, item: &Item) {
-    match item {
-        Item::Array(name, _, _) | Item::Var(_, name, _) => salt.absorb(name.as_slice()),
-        Item::Func(f) => absorb_function(salt, f),
+    salt.absorb(item.name());
+    if let Some(f) = item.function() {
+        absorb_function(salt, f);
     }
 }
 
 fn absorb_function(salt: &mut Salted, f: &Func) {
-    salt.absorb(f.name.as_slice());
     absorb_params(salt, f.params.as_slice());
     match &f.body {
         Some(body) => absorb_body(salt, body),

@@ -1,3 +1,5 @@
-mod Common
-pub mod Steps
+-- What crates above cite.
 pub mod NextItem
+-- What the crate's own proofs cite.
+mod Common
+mod Steps

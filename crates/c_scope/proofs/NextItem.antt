@@ -1,18 +1,14 @@
 -- What the tables of file scope find behind one more item.
-use Rattle.c_scope.proofs.Common.{◌≡◌, ℕ, zero, suc, ◌+◌, ◌<◌, ◌||◌, List, [], ◌∷◌, ◌++◌, map, length, get_or, take, is_some, Option, option_map, filter_map, bytes_eq, sym, ap, ◌∙◌, add-one, arith, option_or, named, among-append, named-append}
+use Rattle.c_scope.proofs.Common.{◌≡◌, ℕ, ◌+◌, ◌<◌, ◌||◌, List, [], ◌∷◌, ◌++◌, map, length, get_or, take, is_some, Option, option_map}
+use Rattle.c_scope.proofs.Common.{filter_map, bytes_eq, sym, ap, ◌∙◌, option_or, named, among-append, named-append}
 use Rattle.std.specs.List.{list_any}
 use Rattle.std.proofs.lemmas.List.Elements.{filter_map-append}
-
-pub take_next : {A B : Type 0} (f : A → B) (xs : List A) (i : ℕ) (x : A) → i < length xs → x ≡ get_or xs i x
-    → take (i + 1) (map f xs) ≡ take i (map f xs) ++ f x ∷ []
-take_next f [] i x lt is = absurd (omega arith)
-take_next f (y ∷ xs) zero x lt is = ap (λ z. f z ∷ []) (sym is)
-take_next f (y ∷ xs) (suc i) x lt is = rw add-one (ap (λ zs. f y ∷ zs) (rw add-one at (take_next f xs i x (omega arith) is)))
+use Rattle.w2c_base.proofs.Places.{mapped_next}
 
 module _ {A B C : Type 0} (view : A → B) (of : B → Option C) (xs : List A) (i : ℕ) (x : A) (lt : i < length xs)
     (is : x ≡ get_or xs i x) where
   pub listed_next : filter_map of (take (i + 1) (map view xs)) ≡ filter_map of (take i (map view xs)) ++ filter_map of (view x ∷ [])
-  listed_next = ap (filter_map of) (take_next view xs i x lt is) ∙ filter_map-append of (take i (map view xs)) (view x ∷ [])
+  listed_next = ap (filter_map of) (mapped_next view xs i x lt is) ∙ filter_map-append of (take i (map view xs)) (view x ∷ [])
 
 -- a table by whose entries the names are found, as they are or by what they say
 pub finds_next : {A B C D : Type 0} (view : A → B) (of : B → Option (List ℕ × C)) (told : D → C) (xs : List A) (i : ℕ) (x : A)

@@ -1,5 +1,6 @@
 -- Loops over a list that keep 'what is made, and what the rest gives, is the whole'.
-use Rattle.c_scope.proofs.Common.{◌≡◌, ℕ, ◌+◌, ◌<◌, ◌≤◌, Bool, true, false, List, [], ◌++◌, map, length, get_or, drop, if◌then◌else◌, Some, None, Option, bytes_eq, sym, refl, ap, ◌∙◌, option_or, named, or_none}
+use Rattle.c_scope.proofs.Common.{◌≡◌, ℕ, ◌+◌, ◌<◌, ◌≤◌, Bool, true, false, List, [], ◌++◌, map, length, get_or, drop, if◌then◌else◌, Some}
+use Rattle.c_scope.proofs.Common.{None, Option, bytes_eq, sym, refl, ap, ◌∙◌, option_or, named, or_none}
 use Rattle.std.proofs.lemmas.List.{drop_all}
 use Rattle.w2c_base.proofs.Places.{read_again}
 use Rattle.w2c_base.proofs.Options.{or_assoc}
@@ -13,13 +14,6 @@ pub named_more : {A B : Type 0} (f : A → List ℕ × B) (q : List ℕ) (xs : L
 named_more f q xs i x whole lt is other so_far =
     sym (ap (λ ys. named q (map f ys)) (at_front xs i x lt is)
     ∙ ap (λ b. if b then Some (f x).1 else named q (map f (drop (i + 1) xs))) other) ∙ so_far
-
-pub named_stops : {A B : Type 0} (f : A → List ℕ × B) (q : List ℕ) (xs : List A) (i : ℕ) (x : A) (whole : Option B) → i < length xs
-    → x ≡ get_or xs i x → bytes_eq (f x).0 q ≡ true
-    → named q (map f (drop i xs)) ≡ whole → Some (f x).1 ≡ whole
-named_stops f q xs i x whole lt is same so_far =
-    sym (ap (λ ys. named q (map f ys)) (at_front xs i x lt is)
-    ∙ ap (λ b. if b then Some (f x).1 else named q (map f (drop (i + 1) xs))) same) ∙ so_far
 
 -- ---- a table that grows entry by entry
 

@@ -96,7 +96,7 @@ impl<'a> FileScope<'a> {
     }
 }
 
-#[tactic(auto, using(name_table::proofs::Lookups::or_none))]
+#[tactic(auto, using(w2c_base::proofs::Options::or_none))]
 fn enter_variable(alloc: Global, table: &mut NameTable<CType>, item: &Item) -> Result<(), Memory>
     ensures { OnOk result ((q : List ℕ) → named q table.new ≡ option_or (named q table.old) (named q (variables_of (item_of item.now ∷ [])))) }
 {

@@ -4,12 +4,10 @@
 
 mod file_scope;
 mod own;
-mod runtime;
 mod scope;
 mod signature;
 
 pub use file_scope::FileScope;
 pub use own::{Variable, own_table, own_variables};
-pub use runtime::Primitive;
 pub use scope::Scope;
 pub use signature::Signature;

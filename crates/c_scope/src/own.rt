@@ -7,7 +7,7 @@ ghost use Rattle.c_tree.specs.Rules.{body_variables};
 ghost use Rattle.c_scope.specs.Tables.{Finds};
 ghost use Rattle.c_scope.specs.Own.{variable_pair, params_of, locals_of};
 
-use c_tree::{Body, CType, Func, Name, Num};
+use c_tree::{CType, Func, Name, Num};
 use name_table::{NameTable, Salted};
 use std::alloc::Global;
 use w2c_base::Memory;

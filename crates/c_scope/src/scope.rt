@@ -9,9 +9,8 @@ ghost use Rattle.c_scope.specs.Tables.{Finds};
 ghost use Rattle.c_scope.specs.Signatures.{signature_type};
 
 use crate::file_scope::FileScope;
-use crate::runtime::primitive_named;
 use crate::signature::Signature;
-use c_tree::{Body, CType, Func};
+use c_tree::{Body, CType, Func, Primitive, is_depth};
 use name_table::NameTable;
 
 /// Where a statement stands: the names of file scope up to its function, which is declared too, and
@@ -92,7 +91,7 @@ impl<'s, 'a> Scope<'s, 'a> {
 fn runtime_function<'a>(name: &[u8]) -> Option<Signature<'a>>
     ensures { option_map signature_type result ≡ named name.now primitives }
 {
-    match primitive_named(name) {
+    match Primitive::of_name(name) {
         Some(p) => Some(Signature::Runtime(p)),
         None => None,
     }
@@ -102,7 +101,7 @@ fn runtime_function<'a>(name: &[u8]) -> Option<Signature<'a>>
 fn runtime_variable(name: &[u8]) -> Option<CType>
     ensures { result ≡ named name.now ((codes "w2c_depth", U32) ∷ []) }
 {
-    if name == b"w2c_depth".as_slice() {
+    if is_depth(name) {
         Some(CType::U32)
     } else {
         None

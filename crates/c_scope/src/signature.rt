@@ -1,6 +1,5 @@
 // The type of what a call calls.
-use crate::runtime::Primitive;
-use c_tree::{CFuncType, Func};
+use c_tree::{CFuncType, Func, Primitive};
 
 /// The type of a function: by its declaration, by the runtime, or as a call writes it.
 #[derive(Clone, Copy)]

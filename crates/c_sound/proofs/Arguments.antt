@@ -1,9 +1,17 @@
 -- An argument of a type evaluates to a value of it, or to what is undefined.
-use Rattle.c_sound.proofs.Common.{◌≡◌, Bool, true, false, ◌&&◌, ◌||◌, List, [], ◌∷◌, is_some, Some, None, Option, flat_map, sym, refl, ap, ◌∙◌, subst, and_parts, false≢true, or_left, or_right, list_all-append, list_all, by_test, if_found, named, Value, I32, I64, arg_has_type, arg_suits, arg_uses, args_suit, expr_uses, has_same_type, has_type, is_known, same_type, Compares, HasType, IllTyped, IsElement, Scope, Typing, common_type, file_functions, file_variables, is_comparison, is_number_type, is_object_type, may_be_narrowed, number_type, op_typing, pointed_by, pointer_to, type_of, typed_if, typing_of, value_type, value_typing, variables, COp, CType, N32, N64, Plain, Program, is_object, memory_in, of_type, table_in, var_in, CValue, FuncPointer, Is, Machine, Name, Number, ObjectAddress, Pointer, Running, then_evaluate, evaluate, evaluate_arg, evaluate_args, in_unit, value_of, OfType, OfTypes, ScopeOf, TypedMachine, VarsOf, own_variables, type_at}
+use Rattle.c_sound.proofs.Common.{◌≡◌, Bool, true, false, ◌&&◌, ◌||◌, List, [], ◌∷◌, is_some, Some, None, Option, flat_map, sym, refl, ap}
+use Rattle.c_sound.proofs.Common.{◌∙◌, subst, and_parts, false≢true, or_left, or_right, list_all-append, list_all, by_test, if_found, named}
+use Rattle.c_sound.proofs.Common.{Value, I32, I64, arg_has_type, arg_suits, arg_uses, args_suit, expr_uses, has_same_type, has_type}
+use Rattle.c_sound.proofs.Common.{is_known, same_type, HasType, Scope, Typing, common_type, file_functions, file_variables, is_comparison}
+use Rattle.c_sound.proofs.Common.{is_number_type, is_object_type, may_be_narrowed, number_type, op_typing, pointed_by, pointer_to, type_of}
+use Rattle.c_sound.proofs.Common.{typed_if, typing_of, value_type, value_typing, variables, COp, CType, N32, N64, Plain, Program, is_object}
+use Rattle.c_sound.proofs.Common.{memory_in, of_type, table_in, var_in, CValue, FuncPointer, Is, Machine, Name, Number, ObjectAddress}
+use Rattle.c_sound.proofs.Common.{Pointer, Running, then_evaluate, evaluate, evaluate_arg, evaluate_args, in_unit, value_of, OfType}
+use Rattle.c_sound.proofs.Common.{OfTypes, ScopeOf, TypedMachine, VarsOf, own_variables, type_at}
 use Rattle.c_tree.specs.declared.tree.CType.TheVariants as type
 use Rattle.c_tree.specs.Tree as tree
 use Rattle.c_sound.proofs.Choices.{by_option}
-use Rattle.c_sound.proofs.SameTypes.{type_same}
+use Rattle.c_tree.proofs.SameTypes.{type_same}
 use Rattle.c_sound.proofs.Evaluates.{Comes, comes_then, IsSuch, value_is, evaluates, one_type, narrowed, pointed_number}
 
 pub such_is_value : (p : Program) (t : CType) (v : Value) → IsSuch (HasType t) v → OfType p t (Number v)
@@ -43,9 +51,7 @@ has_it s e t typed suits = go (typing_of s e) typed suits
   where
     go : (n : Typing) → is_some (value_type n) ≡ true → has_same_type (value_type n) t ≡ true → n ≡ HasType t
     go (HasType u) typed suits = ap HasType (sym (type_same t u suits))
-    go Compares typed suits = absurd (false≢true typed)
-    go IsElement typed suits = absurd (false≢true typed)
-    go IllTyped typed suits = absurd (false≢true typed)
+    go _ typed suits = absurd (false≢true typed)
 
 module _ (p : Program) (m : Machine) (r : Running) (s : Scope) (machine : TypedMachine p m) (scope : ScopeOf p r.unit s)
     (vars : VarsOf p (own_variables s) r.vars) where

@@ -1,5 +1,9 @@
 -- A value goes where one of its type is taken: at an assignment, and at the end of a call.
-use Rattle.c_sound.proofs.Common.{◌≡◌, true, false, List, [], ◌∷◌, Some, None, Option, bytes_eq, sym, refl, ap, ◌∙◌, subst, both_ways, by_test, named, with_named, is_void, is_object_type, variables, CType, Program, with_var, CValue, Frame, Machine, Name, Running, Stuck, Vars, Stops, assign, assign_depth, give, in_unit, is_returned, next, returned, with_vars, Gives, OfType, Takes, TypedBelow, TypedMachine, TypedRunning, TypedStep, VarsOf, own_variables}
+use Rattle.c_sound.proofs.Common.{◌≡◌, true, false, List, [], ◌∷◌, Some, None, Option, bytes_eq, sym, refl, ap, ◌∙◌, subst, both_ways}
+use Rattle.c_sound.proofs.Common.{by_test, named, with_named, is_void, is_object_type, variables, CType, Program, with_var, CValue, Frame}
+use Rattle.c_sound.proofs.Common.{Machine, Name, Running, Stuck, Vars, Stops, assign, assign_depth, give, in_unit, is_returned, next}
+use Rattle.c_sound.proofs.Common.{returned, with_vars, Gives, OfType, Takes, TypedBelow, TypedMachine, TypedRunning, TypedStep, VarsOf}
+use Rattle.c_sound.proofs.Common.{own_variables}
 use Rattle.c_sound.proofs.Evaluates.{Stands, IsDepth, IsOwn, IsOfFile, stands, own_holds, own_not}
 use Rattle.c_sound.proofs.Changes.{one_type_of, var_keeps, depth_keeps}
 use Rattle.c_sound.proofs.Primitives.{narrow}
@@ -25,9 +29,6 @@ module _ (p : Program) (last : CType) where
       → TypedBelow p last r.result below → TypedStep p last (assign m r name v below)
   assign_typed m r name t v below machine run e plain is is_below = go (stands p r.unit run.scope run.scope_is name t e)
     where
-      other_vars : Vars → Running
-      other_vars vars = with_vars r vars
-
       go : Stands p r.unit run.scope name t → TypedStep p last (assign m r name v below)
       go (IsDepth same is_narrow) =
           subst (λ (n : Name). TypedStep p last (assign m r n v below)) (sym same)

@@ -1,5 +1,14 @@
 -- A function that takes arguments of its parameters' types begins, or its host is asked.
-use Rattle.c_sound.proofs.Common.{◌≡◌, ℕ, Bool, true, false, List, [], ◌∷◌, ◌++◌, map, is_some, if◌then◌else◌, Some, None, Option, option_map, sym, refl, ap, ◌∙◌, subst, and_parts, false≢true, list_all, named, Ask, Event, Gave, HostTrapped, Reply, asked, is_number, types_of, ValType, Value, I32, I64, number_suits, proper_types, same_func_type, Scope, file_functions, functions, local_variables, param_variables, CType, Num, N32, N64, Plain, Definition, Program, c_func_type_of, c_params_of, c_result_of, c_type_of, func_named, func_type, host_type, initial_of, with_trail, Asks, CValue, Frame, FuncAddress, FuncPointer, HostFunc, Machine, Name, Number, Place, Pointer, Stuck, Undefined, UnitFunc, Vars, Step, Stops, are_of_types, ask, begin, bind, call, call_named, call_through, first_vars, give, locals_of, next, numbers, param_names, param_types, replied, take_effect, Callable, Gives, OfType, OfTypes, ScopeOf, TypedBelow, TypedMachine, TypedProgram, TypedStep, VarsOf}
+use Rattle.c_sound.proofs.Common.{◌≡◌, ℕ, Bool, true, false, List, [], ◌∷◌, ◌++◌, map, is_some, if◌then◌else◌, Some, None, Option}
+use Rattle.c_sound.proofs.Common.{option_map, sym, refl, ap, ◌∙◌, subst, and_parts, false≢true, list_all, named, Ask, Event, Gave}
+use Rattle.c_sound.proofs.Common.{HostTrapped, Reply, asked, is_number, types_of, ValType, Value, I32, I64, number_suits, proper_types}
+use Rattle.c_sound.proofs.Common.{same_func_type, Scope, file_functions, functions, local_variables, param_variables, CType, Num, N32, N64}
+use Rattle.c_sound.proofs.Common.{Plain, Definition, Program, c_func_type_of, c_params_of, c_result_of, c_type_of, func_named, func_type}
+use Rattle.c_sound.proofs.Common.{host_type, initial_of, with_trail, Asks, CValue, Frame, FuncAddress, FuncPointer, HostFunc, Machine, Name}
+use Rattle.c_sound.proofs.Common.{Number, Place, Pointer, Stuck, Undefined, UnitFunc, Vars, Step, Stops, are_of_types, ask, begin, bind}
+use Rattle.c_sound.proofs.Common.{call, call_named, call_through, first_vars, give, locals_of, next, numbers, param_names, param_types}
+use Rattle.c_sound.proofs.Common.{replied, take_effect, Callable, Gives, OfType, OfTypes, ScopeOf, TypedBelow, TypedMachine, TypedProgram}
+use Rattle.c_sound.proofs.Common.{TypedStep, VarsOf}
 use Rattle.w2c_base.specs.declared.value.ValType.TheVariants as val
 use Rattle.w2c_base.specs.declared.signature.FuncType.{FuncType}
 use Rattle.w2c_base.specs.Values.{type_of, equal_type, equal_types, is_result}
@@ -8,7 +17,7 @@ use Rattle.c_tree.specs.Tree as tree
 use Rattle.c_tree.specs.Runtime as header
 use Rattle.c_meaning.specs.Primitives as prim
 use Rattle.c_sound.proofs.Choices.{by_option, named_behind, named_in_front, same_some}
-use Rattle.c_sound.proofs.SameTypes.{func_types_same}
+use Rattle.c_tree.proofs.SameTypes.{func_types_same}
 use Rattle.c_sound.proofs.Changes.{trail_keeps}
 use Rattle.c_sound.proofs.Primitives.{TypedEffect, primitive_typed}
 use Rattle.c_sound.proofs.Assigns.{give_typed}
@@ -89,12 +98,7 @@ numbers_typed p (t ∷ types) (v ∷ args) h = first t v h.0 (numbers_typed p ty
         → (values : List Value) × (numbers (v ∷ args) ≡ Some values) × (equal_types (t ∷ types) (types_of values) ≡ true)
     first val.I32 (Number (I32 n)) is others = (I32 n ∷ others.0, ap (option_map (λ (vs : List Value). I32 n ∷ vs)) others.1, others.2)
     first val.I64 (Number (I64 n)) is others = (I64 n ∷ others.0, ap (option_map (λ (vs : List Value). I64 n ∷ vs)) others.1, others.2)
-    first val.I32 (Number (I64 n)) is others = absurd (false≢true is.is)
-    first val.I64 (Number (I32 n)) is others = absurd (false≢true is.is)
-    first val.I32 (Pointer a) is others = absurd (false≢true is.is)
-    first val.I64 (Pointer a) is others = absurd (false≢true is.is)
-    first val.I32 (FuncPointer f) is others = absurd (false≢true is.is)
-    first val.I64 (FuncPointer f) is others = absurd (false≢true is.is)
+    first _ _ is others = absurd (false≢true is.is)
 
 host_takes : (p : Program) (types : List ValType) (args : List CValue) → OfTypes p (proper_types (c_params_of types)) args
     → (values : List Value) × (numbers args ≡ Some values) × (equal_types types (types_of values) ≡ true)
@@ -205,9 +209,8 @@ module _ (p : Program) (program : TypedProgram p) (last : CType) (m : Machine) (
   effect_typed : (t : CType) (effect : prim.Effect) (place : Place) (below : List Frame) → TypedEffect p t effect
       → TypedBelow p last t below → TypedStep p last (take_effect effect place m below)
   effect_typed t (prim.Gives after value) place below h is_below = give_typed p last after t value below h.0 h.1 is_below
-  effect_typed t (prim.Traps kind) place below h is_below = tt
-  effect_typed t (prim.IsUndefined kind) place below h is_below = tt
   effect_typed t prim.NoEffect place below h is_below = absurd h
+  effect_typed t _ place below h is_below = tt
 
   pub named_call_typed : (u : ℕ) (s : Scope) (name : Name) (ty : tree.FuncType) (place : Place) (args : List CValue) (below : List Frame)
       → ScopeOf p u s → named name (functions s) ≡ Some ty → OfTypes p (proper_types ty.params) args → TypedBelow p last ty.result below
@@ -238,8 +241,6 @@ module _ (p : Program) (program : TypedProgram p) (last : CType) (m : Machine) (
   pub through_typed : (v : CValue) (want : tree.FuncType) (place : Place) (args : List CValue) (below : List Frame)
       → OfType p type.FnPtr v → OfTypes p (proper_types want.params) args → TypedBelow p last want.result below
       → TypedStep p last (call_through p (Some v) want place m args below)
-  through_typed (Number n) want place args below is takes is_below = absurd (false≢true is.is)
-  through_typed (Pointer a) want place args below is takes is_below = absurd (false≢true is.is)
   through_typed (FuncPointer None) want place args below is takes is_below = tt
   through_typed (FuncPointer (Some f)) want place args below is takes is_below = go (func_type p f) refl is.points
     where
@@ -254,6 +255,7 @@ module _ (p : Program) (program : TypedProgram p) (last : CType) (m : Machine) (
       ])
       go None e there = absurd (false≢true there)
       go (Some ty) e there = same_or ty (same_func_type ty want) e refl
+  through_typed _ want place args below is takes is_below = absurd (false≢true is.is)
 
 -- a call of a function that nothing waits for
 pub first_call_typed : (p : Program) → TypedProgram p → (m : Machine) → TypedMachine p m → (f : FuncAddress) (ty : tree.FuncType)

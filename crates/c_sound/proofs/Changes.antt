@@ -1,5 +1,11 @@
 -- A machine stays typed where an object gets another value of its type.
-use Rattle.c_sound.proofs.Common.{◌≡◌, ℕ, zero, suc, true, ◌≢◌, ◌⊎◌, List, [], ◌∷◌, is_some, slice_get, slice_set, Some, None, Option, bytes_eq, sym, refl, ap, ◌∙◌, subst, inl, inr, cases_eq, bytes_eq-Decides, by_test, if_found, named, with_named, Trail, I32, I64, CType, named-with_another, named-with_named, Program, memory_in, of_type, table_in, var_in, with_depth, with_memory, with_objects, with_table, with_trail, with_var, CValue, FuncPointer, Machine, Memory, Name, Number, ObjectAddress, Objects, Pointer, Table, of_one_type, HoldFuncs, OfType, TypedMachine, type_at}
+use Rattle.c_sound.proofs.Common.{◌≡◌, ℕ, zero, suc, true, ◌≢◌, ◌⊎◌, List, [], ◌∷◌, is_some, slice_get, slice_set, Some, None, Option}
+use Rattle.c_sound.proofs.Common.{bytes_eq, sym, refl, ap, ◌∙◌, subst, inl, inr, cases_eq, bytes_eq-Decides, by_test, if_found, named}
+use Rattle.c_sound.proofs.Common.{with_named, Trail, I32, I64, CType, named-with_another, named-with_named, Program, memory_in, of_type}
+use Rattle.c_sound.proofs.Common.{table_in, var_in, with_depth, with_memory, with_objects, with_table, with_trail, with_var, CValue}
+use Rattle.c_sound.proofs.Common.{FuncPointer, Machine, Memory, Name, Number, ObjectAddress, Objects, Pointer, Table, of_one_type}
+use Rattle.c_sound.proofs.Common.{HoldFuncs, OfType, TypedMachine, type_at}
+use Rattle.w2c_base.proofs.Places.{set_there}
 use Rattle.c_tree.specs.declared.tree.CType.TheVariants as type
 use Rattle.c_sound.proofs.Choices.{by_option, same_some}
 
@@ -15,11 +21,6 @@ one_type_of p t v w h k = go t v w h.is k.is
     go _ _ _ e f = absurd cc
 
 -- ---- lists of which one element is set
-
-set_here : {A : Type 0} (xs : List A) (i : ℕ) (x y : A) → slice_get xs i ≡ Some x → slice_get (slice_set xs i y) i ≡ Some y
-set_here [] i x y e = absurd cc
-set_here (z ∷ xs) zero x y e = refl
-set_here (z ∷ xs) (suc i) x y e = set_here xs i x y e
 
 set_elsewhere : {A : Type 0} (xs : List A) (i j : ℕ) (y : A) → (i ≡ j → ⊥) → slice_get (slice_set xs i y) j ≡ slice_get xs j
 set_elsewhere [] i j y differ = refl
@@ -43,7 +44,7 @@ change_is m u change found e = ap (set_in m u change) e
 changed_here : (m : Machine) (u : ℕ) (change : Objects → Objects) (o : Objects) → slice_get m.units u ≡ Some o
     → slice_get (with_objects m u change).units u ≡ Some (change o)
 changed_here m u change o e =
-    ap (λ (x : Machine). slice_get x.units u) (change_is m u change (Some o) e) ∙ set_here m.units u o (change o) e
+    ap (λ (x : Machine). slice_get x.units u) (change_is m u change (Some o) e) ∙ set_there m.units u o (change o) e
 
 -- what is found, where the change leaves it alone
 unchanged : {X : Type 0} (m : Machine) (u : ℕ) (change : Objects → Objects) (look : Objects → Option X) (v : ℕ)

@@ -1,12 +1,21 @@
 -- An expression that has a type evaluates to a value of it, or to what is undefined.
-use Rattle.c_sound.proofs.Common.{◌≡◌, ℕ, ◌*◌, ◌/◌, ◌%◌, ◌^◌, Bool, true, false, ◌&&◌, List, [], ◌∷◌, ◌++◌, is_some, if◌then◌else◌, nat_lt, ◌==◌, slice_get, Some, None, Option, bytes_eq, sym, refl, ap, ◌∙◌, subst, append_assoc, and_parts, both_ways, false≢true, list_all-append, bytes_eq-Decides, list_all, ⊤, by_test, if_found, named, bits, number_of, value, ValType, Value, I32, I64, expr_uses, is_known, same_type, Compares, HasType, IllTyped, IsElement, Scope, Typing, arrays, common_type, file_variables, is_among, is_number_type, is_object_type, local_variables, may_be_narrowed, name_typing, number_type, op_typing, param_variables, pointed_by, pointer_to, typed_if, typing_of, value_typing, variables, COp, CType, N32, N64, Plain, bytes_differ, Program, array_named, c_type_of, var_in, Bad, CValue, Evaluated, FuncPointer, Is, Machine, Name, NoRule, Number, Pointer, Running, Vars, found, then_evaluate, as_number, as_object, depth_name, element, evaluate, in_unit, number_in, value_of, OfType, ScopeOf, TypedMachine, VarsOf, own_variables, type_at}
+use Rattle.c_sound.proofs.Common.{◌≡◌, ℕ, ◌*◌, ◌/◌, ◌%◌, ◌^◌, Bool, true, false, ◌&&◌, List, [], ◌∷◌, ◌++◌, is_some, if◌then◌else◌, nat_lt}
+use Rattle.c_sound.proofs.Common.{◌==◌, slice_get, Some, None, Option, bytes_eq, sym, refl, ap, ◌∙◌, subst, append_assoc, and_parts}
+use Rattle.c_sound.proofs.Common.{both_ways, false≢true, list_all-append, bytes_eq-Decides, list_all, ⊤, by_test, if_found, named, bits}
+use Rattle.c_sound.proofs.Common.{number_of, value, ValType, Value, I32, I64, expr_uses, is_known, same_type, Compares, HasType, IllTyped}
+use Rattle.c_sound.proofs.Common.{IsElement, Scope, Typing, arrays, common_type, file_variables, is_among, is_number_type, is_object_type}
+use Rattle.c_sound.proofs.Common.{local_variables, may_be_narrowed, name_typing, number_type, op_typing, param_variables, pointed_by}
+use Rattle.c_sound.proofs.Common.{pointer_to, typed_if, typing_of, value_typing, variables, COp, CType, N32, N64, Plain, bytes_differ}
+use Rattle.c_sound.proofs.Common.{Program, array_named, c_type_of, var_in, Bad, CValue, Evaluated, FuncPointer, Is, Machine, Name, NoRule}
+use Rattle.c_sound.proofs.Common.{Number, Pointer, Running, Vars, found, then_evaluate, as_number, as_object, depth_name, element, evaluate}
+use Rattle.c_sound.proofs.Common.{in_unit, number_in, value_of, OfType, ScopeOf, TypedMachine, VarsOf, own_variables, type_at}
 use Rattle.w2c_base.specs.declared.value.ValType.TheVariants as val
 use Rattle.c_tree.specs.declared.tree.CType.TheVariants as type
 use Rattle.c_tree.specs.declared.tree.COp.TheVariants as op
 use Rattle.c_tree.specs.Tree as tree
 use Rattle.c_meaning.specs.Operators.{operate, operate_at}
 use Rattle.c_sound.proofs.Choices.{by_option, named_behind, named_in_front, same_some}
-use Rattle.c_sound.proofs.SameTypes.{type_same}
+use Rattle.c_tree.proofs.SameTypes.{type_same}
 
 -- A rule applies, and what is found is good.
 abbrev pub Comes : {A : Type 0} → (A → Type 0) → Evaluated A → Type 0
@@ -124,9 +133,7 @@ pub narrowed : (n : Typing) (t : CType) → number_type n ≡ Some t → (n ≡ 
 narrowed (HasType u) t e = by_test (is_number_type u)
     (λ is. let same : u ≡ t = (let f = rw is at e in cc) in (ap HasType same, subst (λ (x : CType). is_number_type x ≡ true) same is))
     (λ is. absurd (let f = rw is at e in cc))
-narrowed Compares t e = absurd cc
-narrowed IsElement t e = absurd cc
-narrowed IllTyped t e = absurd cc
+narrowed _ t e = absurd cc
 
 -- a value of a number's type is a number of it
 number_of_type : (p : Program) (t : CType) (v : CValue) → is_number_type t ≡ true → OfType p t v
@@ -140,13 +147,7 @@ number_of_type p type.U64 (Pointer a) is h = absurd (false≢true h.is)
 number_of_type p type.U32 (FuncPointer f) is h = absurd (false≢true h.is)
 number_of_type p type.U64 (FuncPointer f) is h = absurd (false≢true h.is)
 number_of_type p type.Void v is h = absurd (false≢true is)
-number_of_type p type.PtrU32 v is h = absurd (false≢true is)
-number_of_type p type.PtrU64 v is h = absurd (false≢true is)
-number_of_type p type.Mem v is h = absurd (false≢true is)
-number_of_type p type.PtrMem v is h = absurd (false≢true is)
-number_of_type p type.Tab v is h = absurd (false≢true is)
-number_of_type p type.PtrTab v is h = absurd (false≢true is)
-number_of_type p type.FnPtr v is h = absurd (false≢true is)
+number_of_type p _ v is h = absurd (false≢true is)
 
 number_found : (p : Program) (t : CType) (o : Option CValue) → is_number_type t ≡ true → (v : CValue) → o ≡ Some v → OfType p t v
     → Comes (IsSuch (HasType t)) (number_in o)
@@ -196,14 +197,8 @@ comes_if true n x y h k = h
 comes_if false n x y h k = k
 
 operates : (t : ValType) (o : COp) (x y : ℕ) → Comes (IsSuch (op_typing o (Some (c_type_of t)))) (operate_at t o x y)
-operates t op.Add x y = such_value t _
-operates t op.Sub x y = such_value t _
-operates t op.Mul x y = such_value t _
 operates t op.Div x y = comes_if (y == 0) (HasType (c_type_of t)) (Bad 1) (Is (value t (x / y))) tt (such_value t _)
 operates t op.Rem x y = comes_if (y == 0) (HasType (c_type_of t)) (Bad 1) (Is (value t (x % y))) tt (such_value t _)
-operates t op.And x y = such_value t _
-operates t op.Or x y = such_value t _
-operates t op.Xor x y = such_value t _
 operates t op.Shl x y =
     comes_if (nat_lt y (bits t)) (HasType (c_type_of t)) (Is (value t (x * 2 ^ y % 2 ^ bits t))) (Bad 2) (such_value t _) tt
 operates t op.Shr x y = comes_if (nat_lt y (bits t)) (HasType (c_type_of t)) (Is (value t (x / 2 ^ y))) (Bad 2) (such_value t _) tt
@@ -213,6 +208,7 @@ operates t op.Lt x y = tt
 operates t op.Le x y = tt
 operates t op.Gt x y = tt
 operates t op.Ge x y = tt
+operates t _ x y = such_value t _
 
 such_narrow : (t : CType) (n : ℕ) → IsSuch (HasType t) (I32 n) → t ≡ type.U32
 such_narrow type.U32 n h = refl
@@ -295,9 +291,8 @@ module _ (p : Program) (m : Machine) (r : Running) (s : Scope) (machine : TypedM
 
   may_be : (n : Typing) → is_some (number_type n) ≡ true → may_be_narrowed n ≡ true
   may_be (HasType t) e = by_test (is_number_type t) (λ is. is) (λ is. absurd (let f = rw is at e in false≢true f))
-  may_be Compares e = refl
-  may_be IsElement e = refl
   may_be IllTyped e = e
+  may_be _ e = refl
 
   test_of : (b : Bool) (n : Typing) → may_be_narrowed (typed_if b n) ≡ true → b ≡ true
   test_of true n e = refl

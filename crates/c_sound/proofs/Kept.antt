@@ -1,9 +1,16 @@
 -- What the rules that a unit keeps say of each item and of each statement.
-use Rattle.c_sound.proofs.Common.{◌≡◌, ℕ, suc, ◌+◌, Bool, true, not, ◌&&◌, ◌||◌, List, [], ◌∷◌, map, length, take, if◌then◌else◌, ◌==◌, slice_get, Some, None, filter, Option, flat_map, sym, refl, ap, ◌∙◌, subst, arith, and_parts, AllByRecursion, list_all, append_none, map_none, numbered_at, by_test, numbered, BrokenAt, KeepsRules, broken_in_body, broken_in_item, broken_in_stmt, broken_of, broken_rules, cases_suit, ends_body, if_any, is_own_name, labels_of, local_names, Scope, is_among, Sound, SoundStmt, switch_suits}
+use Rattle.c_sound.proofs.Common.{◌≡◌, ℕ, suc, ◌+◌, Bool, true, not, ◌&&◌, ◌||◌, List, [], ◌∷◌, map, length, take, if◌then◌else◌, ◌==◌}
+use Rattle.c_sound.proofs.Common.{slice_get, Some, None, filter, Option, flat_map, sym, refl, ap, ◌∙◌, subst, arith, and_parts}
+use Rattle.c_sound.proofs.Common.{AllByRecursion, list_all, append_none, map_none, numbered_at, by_test, numbered, BrokenAt, KeepsRules}
+use Rattle.c_sound.proofs.Common.{broken_in_body, broken_in_item, broken_in_stmt, broken_of, broken_rules, cases_suit, ends_body, if_any}
+use Rattle.c_sound.proofs.Common.{is_own_name, labels_of, local_names, Scope, is_among, Sound, SoundStmt, switch_suits, none_first}
 use Rattle.c_tree.specs.Tree as tree
-use Rattle.c_tree.specs.Rules.{Place, StmtPlace, item_rules, stmt_rules, is_declared_once, names_are_free, types_are_proper, first_values_suit, is_defined_if_static, own_names_are_distinct, body_is_not_empty, labels_are_there, names_are_known, expressions_are_typed, types_agree, cases_are_distinct, last_ends_body, label_of, labels_named, earlier_stmts, stmt_is_typed, stmt_suits, case_value, are_distinct_numbers, file_name_is_free}
+use Rattle.c_tree.specs.Rules.{Place, StmtPlace, item_rules, stmt_rules, is_declared_once, names_are_free, types_are_proper}
+use Rattle.c_tree.specs.Rules.{first_values_suit, is_defined_if_static, own_names_are_distinct, body_is_not_empty, labels_are_there}
+use Rattle.c_tree.specs.Rules.{names_are_known, expressions_are_typed, types_agree, cases_are_distinct, last_ends_body, label_of}
+use Rattle.c_tree.specs.Rules.{labels_named, earlier_stmts, stmt_is_typed, stmt_suits, case_value, are_distinct_numbers, file_name_is_free}
 use Rattle.c_tree.specs.Scope as place
-use Rattle.c_sound.proofs.Lists.{cons_not_none, flat_none, none_first}
+use Rattle.c_sound.proofs.Lists.{cons_not_none, flat_none}
 
 -- where no rule is broken each holds
 each_kept : {P : Type 0} (rules : List (ℕ × (P → Bool))) (p : P) → broken_of rules p ≡ []

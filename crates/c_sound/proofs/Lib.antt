@@ -1,20 +1,21 @@
-mod Common
+-- What crates above cite.
 pub mod Choices
-pub mod SameTypes
 pub mod Lists
-pub mod Evaluates
-pub mod Arguments
 pub mod Changes
-pub mod Primitives
-pub mod Assigns
-pub mod Calls
-pub mod Statements
 pub mod Runs
 pub mod Kept
 pub mod Defined
-pub mod Scopes
-pub mod Starts
 pub mod Units
-pub mod Sound
 pub mod Trails
 pub mod Tells
+-- What the crate's own proofs cite.
+mod Common
+mod Evaluates
+mod Arguments
+mod Primitives
+mod Assigns
+mod Calls
+mod Statements
+mod Scopes
+mod Starts
+mod Sound

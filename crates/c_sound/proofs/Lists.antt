@@ -1,5 +1,7 @@
 -- What stands in lists, by its place: in those that are numbered, filtered and joined.
-use Rattle.c_sound.proofs.Common.{◌≡◌, ℕ, zero, suc, ◌+◌, ◌<◌, Bool, true, false, List, [], ◌∷◌, length, take, slice_get, Some, None, filter, Option, zip, flat_map, filter_map, bytes_eq, sym, refl, ap, ◌∙◌, subst, arith, false≢true, bytes_eq-Decides, cons_option, range_with_len, append_none, by_test, named, numbered, Name}
+use Rattle.c_sound.proofs.Common.{◌≡◌, ℕ, zero, suc, ◌+◌, ◌<◌, Bool, true, false, List, [], ◌∷◌, length, take, slice_get, Some, filter}
+use Rattle.c_sound.proofs.Common.{Option, zip, flat_map, filter_map, bytes_eq, sym, refl, ap, ◌∙◌, subst, arith, false≢true}
+use Rattle.c_sound.proofs.Common.{bytes_eq-Decides, cons_option, range_with_len, append_none, by_test, named, numbered, Name}
 use Rattle.c_sound.proofs.Choices.{by_option}
 
 abbrev is_nothing : {A : Type 0} → List A → Bool
@@ -13,10 +15,6 @@ pub flat_none : {A B : Type 0} (f : A → List B) (xs : List A) → flat_map f x
 flat_none f [] e i x at = absurd cc
 flat_none f (y ∷ xs) e zero x at = ap f (sym (let same : y ≡ x = cc in same)) ∙ (append_none (f y) (flat_map f xs) e).0
 flat_none f (y ∷ xs) e (suc i) x at = flat_none f xs (append_none (f y) (flat_map f xs) e).1 i x at
-
-pub none_first : {A : Type 0} (xs : List A) → slice_get xs 0 ≡ None → xs ≡ []
-none_first [] e = refl
-none_first (x ∷ xs) e = absurd cc
 
 -- ---- with numbers
 

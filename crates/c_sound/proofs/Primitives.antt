@@ -1,5 +1,10 @@
 -- A primitive that takes arguments of its parameters' types has an effect, and gives a value of its type.
-use Rattle.c_sound.proofs.Common.{◌≡◌, ℕ, zero, suc, ◌+◌, ◌*◌, ◌/◌, min, Bool, true, false, ◌||◌, List, [], ◌∷◌, ◌++◌, length, replicate, is_some, if◌then◌else◌, nat_lt, nat_le, ◌==◌, slice_get, slice_set, Some, None, Option, option_map, find, bytes_eq, sym, refl, ap, ◌∙◌, subst, false≢true, ⊤, by_test, named, code_of, value, TrapKind, ValType, I32, I64, proper_types, pointer_to, CType, Program, c_type_of, func_type, memory_in, table_in, with_memory, with_table, CValue, Element, FuncAddress, FuncPointer, Machine, Memory, Name, Number, ObjectAddress, Pointer, Table, Gives, HoldFuncs, HoldsFunc, OfType, OfTypes, TypedMachine}
+use Rattle.c_sound.proofs.Common.{◌≡◌, ℕ, zero, suc, ◌+◌, ◌*◌, ◌/◌, min, Bool, true, false, ◌||◌, List, [], ◌∷◌, ◌++◌, length, replicate}
+use Rattle.c_sound.proofs.Common.{is_some, if◌then◌else◌, nat_lt, nat_le, ◌==◌, slice_get, slice_set, Some, None, Option, option_map, find}
+use Rattle.c_sound.proofs.Common.{bytes_eq, sym, refl, ap, ◌∙◌, subst, false≢true, ⊤, by_test, named, code_of, value, TrapKind, ValType}
+use Rattle.c_sound.proofs.Common.{I32, I64, proper_types, pointer_to, CType, Program, c_type_of, func_type, memory_in, table_in}
+use Rattle.c_sound.proofs.Common.{with_memory, with_table, CValue, Element, FuncAddress, FuncPointer, Machine, Memory, Name, Number}
+use Rattle.c_sound.proofs.Common.{ObjectAddress, Pointer, Table, Gives, HoldFuncs, HoldsFunc, OfType, OfTypes, TypedMachine}
 use Rattle.w2c_base.specs.declared.value.ValType.TheVariants as val
 use Rattle.w2c_base.specs.LittleEndian.{little_endian, low_bytes, bytes_at, with_bytes}
 use Rattle.c_tree.specs.declared.tree.CType.TheVariants as type
@@ -119,8 +124,7 @@ module _ (p : Program) where
         let held = machine.memories a (target.1 ∙ ap Some (memory_target target.0 target.2)) in
         subst (λ (o : Option Memory). TypedEffect p t (elim o [ None ↦ prim.NoEffect | Some memory ↦ go a memory ])) (sym held.1)
         (h a held.0 held.1)
-    on_memory_typed t (Number v) go is h = absurd (false≢true is.is)
-    on_memory_typed t (FuncPointer f) go is h = absurd (false≢true is.is)
+    on_memory_typed t _ go is h = absurd (false≢true is.is)
 
     on_table_typed : (t : CType) (v : CValue) (go : ObjectAddress → Table → prim.Effect) → OfType p type.PtrTab v
         → ((a : ObjectAddress) (table : Table) → table_in m a ≡ Some table → HoldFuncs p table.elements → TypedEffect p t (go a table))
@@ -131,8 +135,7 @@ module _ (p : Program) where
         let held = machine.tables a (target.1 ∙ ap Some (table_target target.0 target.2)) in
         subst (λ (o : Option Table). TypedEffect p t (elim o [ None ↦ prim.NoEffect | Some table ↦ go a table ])) (sym held.1)
         (h a held.0 held.1 held.2)
-    on_table_typed t (Number v) go is h = absurd (false≢true is.is)
-    on_table_typed t (FuncPointer f) go is h = absurd (false≢true is.is)
+    on_table_typed t _ go is h = absurd (false≢true is.is)
 
     gives_typed : (t : ValType) (n : ℕ) → TypedEffect p (c_type_of t) (prim.gives m (value t n))
     gives_typed t n = (machine, number_is t n)

@@ -1,10 +1,19 @@
 -- A run of a typed program is never stuck.
-use Rattle.c_sound.proofs.Common.{◌≡◌, ℕ, zero, suc, Bool, true, false, ◌&&◌, ◌≢◌, List, [], ◌∷◌, map, length, is_some, Some, None, Option, option_map, zip, sym, refl, ap, ◌∙◌, subst, and_parts, false≢true, AllByRecursion, list_all, list_any, position_from, range_with_len, all_append, if_found, numbered, Call, Init, Phase, Reply, call_ended, is_number, types_of, Value, I32, I64, is_void, proper_types, same_type, same_types, CType, Definition, Program, SymbolCall, c_params_of, c_type_of, called_func, defined_for_all, definition_at, fits, func_type, init_functions, fresh, of_type, CRun, Ended, Entry, Going, OutOfSteps, Outcome, Over, Pending, Progress, Stopped, after, begin_entry, begun, c_start, came_back, entries_of, go_on, over, run_of, told_end, Asks, CValue, FuncAddress, FuncPointer, Machine, Number, ObjectAddress, Pointer, State, Stop, Stuck, Trapped, Undefined, UnitFunc, Vars, Back, Next, Step, Stops, begin, c_step, call, first_vars, next, AllFit, NeverStuck, Begins, Gives, IsVoid, OfType, OfTypes, TypedMachine, TypedPhase, TypedProgram, TypedRun, TypedStep, may_end}
+use Rattle.c_sound.proofs.Common.{◌≡◌, ℕ, zero, suc, Bool, true, false, ◌&&◌, ◌≢◌, List, [], ◌∷◌, map, length, is_some, Some, None, Option}
+use Rattle.c_sound.proofs.Common.{option_map, zip, sym, refl, ap, ◌∙◌, subst, and_parts, false≢true, AllByRecursion, list_all, list_any}
+use Rattle.c_sound.proofs.Common.{position_from, range_with_len, all_append, if_found, numbered, Call, Init, Phase, Reply, call_ended}
+use Rattle.c_sound.proofs.Common.{is_number, types_of, Value, I32, I64, is_void, proper_types, same_type, same_types, CType, Definition}
+use Rattle.c_sound.proofs.Common.{Program, SymbolCall, c_params_of, c_type_of, called_func, defined_for_all, definition_at, fits, func_type}
+use Rattle.c_sound.proofs.Common.{init_functions, fresh, of_type, CRun, Ended, Entry, Going, OutOfSteps, Outcome, Over, Pending, Progress}
+use Rattle.c_sound.proofs.Common.{Stopped, after, begin_entry, begun, c_start, came_back, entries_of, go_on, over, run_of, told_end, CValue}
+use Rattle.c_sound.proofs.Common.{FuncAddress, FuncPointer, Machine, Number, ObjectAddress, Pointer, State, Stop, Stuck, UnitFunc, Vars}
+use Rattle.c_sound.proofs.Common.{Back, Next, Step, Stops, begin, c_step, call, first_vars, next, AllFit, NeverStuck, Begins, Gives, IsVoid}
+use Rattle.c_sound.proofs.Common.{OfType, OfTypes, TypedMachine, TypedPhase, TypedProgram, TypedRun, TypedStep, may_end}
 use Rattle.w2c_base.specs.Values.{type_of}
 use Rattle.c_tree.specs.declared.tree.CType.TheVariants as type
 use Rattle.c_tree.specs.Tree as tree
 use Rattle.c_sound.proofs.Choices.{by_option}
-use Rattle.c_sound.proofs.SameTypes.{type_same, types_same}
+use Rattle.c_tree.proofs.SameTypes.{type_same, types_same}
 use Rattle.c_sound.proofs.Changes.{trail_keeps, units_keep}
 use Rattle.c_sound.proofs.Calls.{call_typed}
 use Rattle.c_sound.proofs.Statements.{step_typed}
@@ -30,10 +39,8 @@ out_of_steps : OutOfSteps ≢ Stopped Stuck
 out_of_steps e = false≢true (ap is_stuck e)
 
 stops_well : (p : Program) (last : CType) (m : Machine) (why : Stop) → TypedStep p last (Stops m why) → Stopped why ≢ Stopped Stuck
-stops_well p last m (Trapped kind) h e = false≢true (ap is_stuck e)
-stops_well p last m (Undefined kind place) h e = false≢true (ap is_stuck e)
-stops_well p last m Asks h e = false≢true (ap is_stuck e)
 stops_well p last m Stuck h e = h
+stops_well p last m _ h e = false≢true (ap is_stuck e)
 
 -- ---- what a run gives back
 
@@ -45,8 +52,7 @@ void_gives_none p t v void h =
     no : (v : CValue) → of_type type.Void v ≡ true → ⊥
     no (Number (I32 n)) e = false≢true e
     no (Number (I64 n)) e = false≢true e
-    no (Pointer a) e = false≢true e
-    no (FuncPointer f) e = false≢true e
+    no _ e = false≢true e
 
 no_pointer : (t : CType) (a : Option ObjectAddress) → list_any (same_type t) (type.Void ∷ type.U32 ∷ type.U64 ∷ []) ≡ true
     → of_type t (Pointer a) ≡ true → ⊥

@@ -1,11 +1,19 @@
 -- Names of a unit that keeps the rules, in a program that links, stand for what the unit declares.
-use Rattle.c_sound.proofs.Common.{◌≡◌, ℕ, zero, suc, ◌+◌, Bool, true, false, not, List, [], ◌∷◌, ◌++◌, map, take, is_some, if◌then◌else◌, slice_get, Some, None, Option, option_map, flat_map, filter_map, bytes_eq, sym, refl, ap, ◌∙◌, subst, inl, inr, and_parts, both_ways, false≢true, not-true, or_cases, bytes_eq-Decides, AllByRecursion, cons_option, list_all, option_or, append_none, numbered_at, by_test, if_found, named, numbered, KeepsRules, body_variables, is_own_name, is_runtime_name, is_symbol, same_func_type, array_of, func_type_of, function_of, is_among, local_variables, param_variables, variable_of, CType, Definition, LinkRefusal, NotDefined, Program, TypeDiffers, array_bytes, defined, external_func, external_functions, func_named, func_type, link_refusal, typed, CValue, FuncAddress, Machine, Name, UnitFunc, depth_name, ScopeOf}
+use Rattle.c_sound.proofs.Common.{◌≡◌, ℕ, zero, suc, ◌+◌, Bool, true, false, not, List, [], ◌∷◌, ◌++◌, map, take, is_some, if◌then◌else◌}
+use Rattle.c_sound.proofs.Common.{slice_get, Some, None, Option, option_map, flat_map, filter_map, bytes_eq, sym, refl, ap, ◌∙◌, subst, inl}
+use Rattle.c_sound.proofs.Common.{inr, and_parts, both_ways, false≢true, not-true, or_cases, bytes_eq-Decides, AllByRecursion, cons_option}
+use Rattle.c_sound.proofs.Common.{list_all, option_or, append_none, numbered_at, by_test, if_found, named, numbered, KeepsRules}
+use Rattle.c_sound.proofs.Common.{body_variables, is_own_name, is_runtime_name, is_symbol, same_func_type, array_of, func_type_of}
+use Rattle.c_sound.proofs.Common.{function_of, is_among, local_variables, param_variables, variable_of, CType, Definition, LinkRefusal}
+use Rattle.c_sound.proofs.Common.{NotDefined, Program, TypeDiffers, array_bytes, defined, external_func, external_functions, func_named}
+use Rattle.c_sound.proofs.Common.{func_type, link_refusal, typed, CValue, FuncAddress, Machine, Name, UnitFunc, depth_name, ScopeOf}
+use Rattle.c_sound.proofs.Common.{none_first}
 use Rattle.c_tree.specs.Tree as tree
 use Rattle.c_meaning.proofs.Links.{all_twice, all_unresolved, program_unresolved, refusal_stands}
 use Rattle.c_meaning.specs.Primitives as prim
 use Rattle.c_sound.proofs.Choices.{by_option, not_both}
-use Rattle.c_sound.proofs.SameTypes.{func_types_same}
-use Rattle.c_sound.proofs.Lists.{cons_not_none, flat_none, none_first, kept_at, named_from, named_front, take_keeps}
+use Rattle.c_tree.proofs.SameTypes.{func_types_same}
+use Rattle.c_sound.proofs.Lists.{cons_not_none, flat_none, kept_at, named_from, named_front, take_keeps}
 use Rattle.c_sound.proofs.Kept.{free_names}
 use Rattle.c_sound.proofs.Defined.{defined_names, names_type, is_listed, names_typed, typed_names, static_defined}
 
@@ -213,21 +221,19 @@ module _ (p : Program) (links : link_refusal p ≡ None) where
 
     func_of_item : (name : Name) (ty : tree.FuncType) (item : tree.Item) → function_of item ≡ Some (name, ty)
         → (g : tree.Func) × (item ≡ tree.Function g) × (g.name ≡ name) × (func_type_of g ≡ ty)
-    func_of_item name ty (tree.Array n count bytes) e = absurd cc
-    func_of_item name ty (tree.Var t n number) e = absurd cc
     func_of_item name ty (tree.Function g) e =
         let same : (g.name, func_type_of g) ≡ (name, ty) = cc in
         (g, refl, ap (λ (x : Name × tree.FuncType). x.0) same, ap (λ (x : Name × tree.FuncType). x.1) same)
+    func_of_item name ty _ e = absurd cc
 
     var_of_item : (name : Name) (ty : CType) (k : ℕ) (item : tree.Item) → slice_get items k ≡ Some item
         → variable_of item ≡ Some (name, ty)
         → is_own_name name ≡ true
-    var_of_item name ty k (tree.Array n count bytes) at e = absurd cc
-    var_of_item name ty k (tree.Function g) at e = absurd cc
     var_of_item name ty k (tree.Var t n number) at e =
         let same : (n, t) ≡ (name, ty) = cc in
         subst (λ (x : Name). is_own_name x ≡ true) (ap (λ (x : Name × CType). x.0) same)
         (free_names items keeps k (tree.Var t n number) at).0
+    var_of_item name ty k _ at e = absurd cc
 
     -- the scope of a function of the unit
     pub scope_is : (k : ℕ) (f : tree.Func) (b : tree.Body) → slice_get items k ≡ Some (tree.Function f) → f.body ≡ Some b

@@ -1,5 +1,10 @@
 -- The objects of units that keep the rules begin with values of their types.
-use Rattle.c_sound.proofs.Common.{◌≡◌, ℕ, Bool, true, false, List, [], ◌∷◌, map, if◌then◌else◌, slice_get, Some, None, Option, option_map, filter_map, bytes_eq, sym, refl, ap, ◌∙◌, subst, false≢true, AllByRecursion, cons_option, ⊤, by_test, if_found, named, Reply, I32, I64, if_any, is_void, number_suits, is_object_type, variable_of, CType, Num, Program, file_memory, file_table, file_var, fresh, initial_of, no_memory, no_table, objects_of, zero_of, CValue, FuncPointer, Memory, Name, Number, ObjectAddress, Objects, Pointer, Table, OfType, TypedMachine, type_at}
+use Rattle.c_sound.proofs.Common.{◌≡◌, ℕ, Bool, true, false, List, [], ◌∷◌, map, if◌then◌else◌, slice_get, Some, None, Option, option_map}
+use Rattle.c_sound.proofs.Common.{filter_map, bytes_eq, sym, refl, ap, ◌∙◌, subst, false≢true, AllByRecursion, cons_option, ⊤, by_test}
+use Rattle.c_sound.proofs.Common.{if_found, named, Reply, I32, I64, if_any, is_void, number_suits, is_object_type, variable_of, CType, Num}
+use Rattle.c_sound.proofs.Common.{Program, file_memory, file_table, file_var, fresh, initial_of, no_memory, no_table, objects_of, zero_of}
+use Rattle.c_sound.proofs.Common.{CValue, FuncPointer, Memory, Name, Number, ObjectAddress, Objects, Pointer, Table, OfType, TypedMachine}
+use Rattle.c_sound.proofs.Common.{type_at}
 use Rattle.std.proofs.lemmas.Option.{slice_get-map}
 use Rattle.c_tree.specs.declared.tree.CType.TheVariants as type
 use Rattle.c_tree.specs.Tree as tree
@@ -15,14 +20,11 @@ StartsWell (tree.Function f) = ⊤
 zero_is : (p : Program) (t : CType) → is_void t ≡ false → is_object_type t ≡ false → (v : CValue) × (zero_of t ≡ Some v) × OfType p t v
 zero_is p type.U32 void plain = (Number (I32 0), refl, record { is = refl; points = tt })
 zero_is p type.U64 void plain = (Number (I64 0), refl, record { is = refl; points = tt })
-zero_is p type.PtrU32 void plain = (Pointer None, refl, record { is = refl; points = tt })
-zero_is p type.PtrU64 void plain = (Pointer None, refl, record { is = refl; points = tt })
-zero_is p type.PtrMem void plain = (Pointer None, refl, record { is = refl; points = tt })
-zero_is p type.PtrTab void plain = (Pointer None, refl, record { is = refl; points = tt })
 zero_is p type.FnPtr void plain = (FuncPointer None, refl, record { is = refl; points = tt })
 zero_is p type.Void void plain = absurd (false≢true (sym void))
 zero_is p type.Mem void plain = absurd (false≢true (sym plain))
 zero_is p type.Tab void plain = absurd (false≢true (sym plain))
+zero_is p _ void plain = (Pointer None, refl, record { is = refl; points = tt })
 
 var_is : (p : Program) (t : CType) (name : Name) (number : Option Num) → StartsWell (tree.Var t name number) → is_object_type t ≡ false
     → (v : CValue) × (file_var (tree.Var t name number) ≡ Some (name, v)) × OfType p t v

@@ -1,12 +1,25 @@
 -- A statement of a typed state is never stuck, and the next state is typed.
-use Rattle.c_sound.proofs.Common.{◌≡◌, Bool, true, false, not, ◌&&◌, ◌≢◌, List, [], ◌∷◌, ◌++◌, map, is_some, if◌then◌else◌, ◌==◌, Some, None, codes, Option, find, flat_map, bytes_eq, sym, refl, ap, ◌∙◌, subst, inl, inr, and_parts, both_ways, false≢true, not-true, or_cases, list_all-append, bytes_eq-Decides, list_all, by_test, named, code_of, number_of, TrapKind, Value, I32, arg_has_type, arg_suits, arg_uses, args_suit, call_suits, callee_type, callee_uses, cases_suit, ends_body, expr_uses, has_same_type, has_type, if_any, is_known, is_void, labels_of, may_be_assigned, may_be_called, number_suits, points_to_number, proper_types, target_suits, target_uses, same_type, Compares, HasType, IllTyped, IsElement, Scope, Typing, common_type, file_functions, functions, is_among, is_comparison, is_number_type, is_object_type, may_be_narrowed, pointed_by, type_of, typing_of, value_type, variables, COp, CType, Program, var_in, with_var, Bad, CValue, Evaluated, Frame, Is, Machine, Name, NoRule, Number, Place, Running, State, Stuck, found, then_evaluate, Step, Stops, act, after_label, as_object, assign, at_rest, c_step, call_callee, call_through, equal_number, evaluate, evaluate_arg, evaluate_args, jump, label_of, next, place_of, put_in, returned, take_effect, value_of, with_value, OfType, OfTypes, Sound, SoundStmt, Takes, TypedBelow, TypedMachine, TypedProgram, TypedRunning, TypedState, TypedStep, type_at}
+use Rattle.c_sound.proofs.Common.{◌≡◌, Bool, true, false, not, ◌&&◌, ◌≢◌, List, [], ◌∷◌, ◌++◌, map, is_some, if◌then◌else◌, ◌==◌, Some}
+use Rattle.c_sound.proofs.Common.{None, codes, Option, find, flat_map, bytes_eq, sym, refl, ap, ◌∙◌, subst, inl, inr, and_parts, both_ways}
+use Rattle.c_sound.proofs.Common.{false≢true, not-true, or_cases, list_all-append, bytes_eq-Decides, list_all, by_test, named, code_of}
+use Rattle.c_sound.proofs.Common.{number_of, TrapKind, Value, I32, arg_has_type, arg_suits, arg_uses, args_suit, call_suits, callee_type}
+use Rattle.c_sound.proofs.Common.{callee_uses, cases_suit, ends_body, expr_uses, has_same_type, has_type, if_any, is_known, is_void}
+use Rattle.c_sound.proofs.Common.{labels_of, may_be_assigned, may_be_called, number_suits, points_to_number, proper_types, target_suits}
+use Rattle.c_sound.proofs.Common.{target_uses, same_type, HasType, Scope, Typing, common_type, file_functions, functions, is_among}
+use Rattle.c_sound.proofs.Common.{is_comparison, is_number_type, is_object_type, may_be_narrowed, pointed_by, type_of, typing_of}
+use Rattle.c_sound.proofs.Common.{value_type, variables, COp, CType, Program, var_in, with_var, Bad, CValue, Evaluated, Frame, Is, Machine}
+use Rattle.c_sound.proofs.Common.{Name, NoRule, Number, Place, Running, State, Stuck, found, then_evaluate, Step, Stops, act, after_label}
+use Rattle.c_sound.proofs.Common.{as_object, assign, at_rest, c_step, call_callee, call_through, equal_number, evaluate, evaluate_arg}
+use Rattle.c_sound.proofs.Common.{evaluate_args, jump, label_of, next, place_of, put_in, returned, take_effect, value_of, with_value}
+use Rattle.c_sound.proofs.Common.{OfType, OfTypes, Sound, SoundStmt, Takes, TypedBelow, TypedMachine, TypedProgram, TypedRunning}
+use Rattle.c_sound.proofs.Common.{TypedState, TypedStep, type_at}
 use Rattle.c_tree.specs.declared.tree.CType.TheVariants as type
 use Rattle.c_tree.specs.Tree as tree
 use Rattle.c_tree.specs.Runtime as header
 use Rattle.c_meaning.specs.Primitives as prim
 use Rattle.c_sound.proofs.Choices.{by_option, named_behind, same_some}
 use Rattle.c_sound.proofs.Lists.{cons_not_none}
-use Rattle.c_sound.proofs.SameTypes.{type_same}
+use Rattle.c_tree.proofs.SameTypes.{type_same}
 use Rattle.c_sound.proofs.Evaluates.{Comes, IsSuch, value_is, evaluates, pointed_number, plain_number, object_of}
 use Rattle.c_sound.proofs.Arguments.{such_is_value, has_it, arg_evaluates, args_evaluate}
 use Rattle.c_sound.proofs.Changes.{one_type_of, var_keeps}
@@ -289,9 +302,7 @@ module _ (p : Program) (program : TypedProgram p) (last : CType) (m : Machine) (
 
   typing_is : (n : Typing) (t : CType) → value_type n ≡ Some t → n ≡ HasType t
   typing_is (HasType u) t e = ap HasType (let f : u ≡ t = cc in f)
-  typing_is Compares t e = absurd cc
-  typing_is IsElement t e = absurd cc
-  typing_is IllTyped t e = absurd cc
+  typing_is _ t e = absurd cc
 
   switch_typed : (e : tree.Expr) (cases : List tree.Case) (default : Name) (rest : List tree.Stmt)
       → SoundStmt s (tree.Switch e cases default) → TypedStep p last (act p m r (tree.Switch e cases default ∷ rest) below)

@@ -1,6 +1,7 @@
 -- The events of a run that goes on begin with those so far: a step tells nothing, or one ask of a host, and the end of a
 -- listed call tells one event more.
-use Rattle.c_sound.proofs.Common.{◌≡◌, ℕ, List, [], ◌∷◌, ◌++◌, sym, refl, ap, ◌∙◌, subst, append_assoc, append-nil, Asked, CallEnded, Event, Program, Going, Over, Progress, after, run_of, Objects}
+use Rattle.c_sound.proofs.Common.{◌≡◌, ℕ, List, [], ◌∷◌, ◌++◌, sym, refl, ap, ◌∙◌, subst, append_assoc, append-nil, Asked, CallEnded, Event}
+use Rattle.c_sound.proofs.Common.{Program, Going, Over, Progress, after, run_of, Objects}
 use Rattle.c_meaning.proofs.StepsKeep.{trail_kept, after_keeps}
 use Rattle.c_sound.specs.Events.{events_of}
 

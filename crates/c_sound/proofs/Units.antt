@@ -1,9 +1,16 @@
 -- Linked units that keep the rules are a typed program.
-use Rattle.c_sound.proofs.Common.{◌≡◌, ℕ, suc, ◌+◌, true, not, ◌&&◌, ◌||◌, ◌≢◌, List, [], ◌∷◌, map, length, take, is_some, nat_le, slice_get, Some, None, filter, Option, option_map, flat_map, sym, refl, ap, ◌∙◌, subst, and_parts, false≢true, not-true, AllByRecursion, list_all, all_append, all_at, all_from, by_test, if_found, numbered, KeepsRules, are_distinct, hides_none, if_any, is_result_type, is_value_type, is_void, local_names, locals_have_values, locals_suit, params_are_named, proper_params, proper_types, same_func_type, func_type_of, CType, Definition, Program, defined, definition_at, definitions, func_type, init_functions, is_external, is_init, is_init_symbol, link_refusal, typed, Name, UnitFunc, param_types, KeepRules, Callable, IsVoid, TypedProgram}
+use Rattle.c_sound.proofs.Common.{◌≡◌, ℕ, suc, ◌+◌, true, not, ◌&&◌, ◌||◌, ◌≢◌, List, [], ◌∷◌, map, length, take, is_some, nat_le}
+use Rattle.c_sound.proofs.Common.{slice_get, Some, None, filter, Option, option_map, flat_map, sym, refl, ap, ◌∙◌, subst, and_parts}
+use Rattle.c_sound.proofs.Common.{false≢true, not-true, AllByRecursion, list_all, all_append, all_at, all_from, by_test, if_found, numbered}
+use Rattle.c_sound.proofs.Common.{KeepsRules, are_distinct, hides_none, if_any, is_result_type, is_value_type, is_void, local_names}
+use Rattle.c_sound.proofs.Common.{locals_have_values, locals_suit, params_are_named, proper_params, proper_types, same_func_type}
+use Rattle.c_sound.proofs.Common.{func_type_of, CType, Definition, Program, defined, definition_at, definitions, func_type, init_functions}
+use Rattle.c_sound.proofs.Common.{is_external, is_init, is_init_symbol, link_refusal, typed, Name, UnitFunc, param_types, KeepRules}
+use Rattle.c_sound.proofs.Common.{Callable, IsVoid, TypedProgram}
 use Rattle.c_tree.specs.declared.tree.CType.TheVariants as type
 use Rattle.c_tree.specs.Tree as tree
 use Rattle.c_sound.proofs.Choices.{by_option}
-use Rattle.c_sound.proofs.SameTypes.{func_types_same}
+use Rattle.c_tree.proofs.SameTypes.{func_types_same}
 use Rattle.c_sound.proofs.Lists.{at_numbered}
 use Rattle.c_sound.proofs.Kept.{item_kept, stmt_kept, sound_body}
 use Rattle.c_sound.proofs.Defined.{IsDefinition, defined_names, names_defined, names_type, is_listed, listed_is, names_typed, typed_names}
@@ -26,15 +33,9 @@ types_of_params ((type.Void, None) ∷ []) values are_named = refl
 types_of_params ((type.Void, Some name) ∷ []) values are_named = absurd (false≢true values)
 types_of_params ((type.Void, None) ∷ q ∷ params) values are_named = absurd (false≢true values)
 types_of_params ((type.Void, Some name) ∷ q ∷ params) values are_named = absurd (false≢true values)
-types_of_params ((type.U32, o) ∷ params) values are_named = all_named ((type.U32, o) ∷ params) are_named
-types_of_params ((type.U64, o) ∷ params) values are_named = all_named ((type.U64, o) ∷ params) are_named
-types_of_params ((type.PtrU32, o) ∷ params) values are_named = all_named ((type.PtrU32, o) ∷ params) are_named
-types_of_params ((type.PtrU64, o) ∷ params) values are_named = all_named ((type.PtrU64, o) ∷ params) are_named
 types_of_params ((type.Mem, o) ∷ params) values are_named = absurd (false≢true values)
-types_of_params ((type.PtrMem, o) ∷ params) values are_named = all_named ((type.PtrMem, o) ∷ params) are_named
 types_of_params ((type.Tab, o) ∷ params) values are_named = absurd (false≢true values)
-types_of_params ((type.PtrTab, o) ∷ params) values are_named = all_named ((type.PtrTab, o) ∷ params) are_named
-types_of_params ((type.FnPtr, o) ∷ params) values are_named = all_named ((type.FnPtr, o) ∷ params) are_named
+types_of_params ((t, o) ∷ params) values are_named = all_named ((t, o) ∷ params) are_named
 
 not_empty : (stmts : List tree.Stmt) → nat_le 1 (length stmts) ≡ true → stmts ≢ []
 not_empty stmts e empty = false≢true (sym (ap (λ (xs : List tree.Stmt). nat_le 1 (length xs)) empty) ∙ e)
@@ -150,11 +151,10 @@ module _ (p : Program) (keep : KeepRules p) (links : link_refusal p ≡ None) wh
   -- ---- objects
 
   starts_well : (items : List tree.Item) → KeepsRules items → (k : ℕ) (item : tree.Item) → slice_get items k ≡ Some item → StartsWell item
-  starts_well items keeps k (tree.Array name count bytes) at = tt
-  starts_well items keeps k (tree.Function f) at = tt
   starts_well items keeps k (tree.Var t name number) at =
       let kept = item_kept items keeps k (tree.Var t name number) at in
       (not-true (is_void t) kept.proper, kept.first)
+  starts_well items keeps k _ at = tt
 
   pub typed_program : TypedProgram p
   typed_program = record {

@@ -1,6 +1,7 @@
 -- States of linked units in which each value has its declared type (C11, 6.2.5 types, 6.5.2.2, 6.5.16.1 and 6.8.6.4
 -- where values go), and functions of which each statement keeps the rules for statements.
-use Rattle.std.specs.Prelude.{◌≡◌, ◌≢◌, ℕ, Bool, true, false, List, [], ◌∷◌, ◌++◌, map, filter_map, slice_get, is_some, Option, Some, None, ⊤}
+use Rattle.std.specs.Prelude.{◌≡◌, ◌≢◌, ℕ, Bool, true, false, List, [], ◌∷◌, ◌++◌, map, filter_map, slice_get, is_some, Option, Some, None}
+use Rattle.std.specs.Prelude.{⊤}
 use Rattle.std.specs.List.{AllByRecursion, list_all, list_any}
 use Rattle.w2c_base.specs.Lookup.{if_found, named}
 use Rattle.w2c_base.specs.Run.{Reply, Phase, Init, Call}
@@ -8,9 +9,12 @@ use Rattle.c_tree.specs.declared.tree.CType.{CType}
 use Rattle.c_tree.specs.declared.tree.CType.TheVariants as type
 use Rattle.c_tree.specs.Tree as tree
 use Rattle.c_tree.specs.Runtime.{same_type}
-use Rattle.c_tree.specs.Scope.{Scope, is_among, variable_of, param_variables, local_variables, file_variables, variables, arrays, file_functions, is_object_type, pointer_to, type_of}
-use Rattle.c_tree.specs.Rules.{if_any, is_void, proper_types, labels_of, labels_named, is_known, stmt_uses, stmt_is_typed, stmt_suits, cases_suit, ends_body, locals_suit}
-use Rattle.c_meaning.specs.State.{Name, FuncAddress, UnitFunc, ObjectAddress, CValue, Number, Pointer, FuncPointer, Vars, Memory, Element, Table, Machine, Running, Frame, State, Stuck}
+use Rattle.c_tree.specs.Scope.{Scope, is_among, variable_of, param_variables, local_variables, file_variables, variables, arrays}
+use Rattle.c_tree.specs.Scope.{file_functions, is_object_type, pointer_to, type_of}
+use Rattle.c_tree.specs.Rules.{if_any, is_void, proper_types, labels_of, labels_named, is_known, stmt_uses, stmt_is_typed, stmt_suits}
+use Rattle.c_tree.specs.Rules.{cases_suit, ends_body, locals_suit}
+use Rattle.c_meaning.specs.State.{Name, FuncAddress, UnitFunc, ObjectAddress, CValue, Number, Pointer, FuncPointer, Vars, Memory, Element}
+use Rattle.c_meaning.specs.State.{Table, Machine, Running, Frame, State, Stuck}
 use Rattle.c_meaning.specs.Linking.{Program, Definition, func_named, array_named, definition_at, func_type, init_functions}
 use Rattle.c_meaning.specs.Machine.{of_type, var_in, memory_in, table_in, fresh}
 use Rattle.c_meaning.specs.Primitives as prim

@@ -1,7 +1,9 @@
 -- Lists of what stands in a module, each of one kind, that are made in one pass.
-use Rattle.c_symbols.proofs.Common.{◌≡◌, ℕ, ◌+◌, ◌<◌, ◌≤◌, Bool, true, false, List, [], ◌∷◌, ◌++◌, map, length, get_or, drop, if◌then◌else◌, filter, sym, refl, ap, ◌∙◌, append_assoc, append-nil, arith, drop_all, ValType, func_of_import, global_of_import, is_global_import, Import, at_front}
+use Rattle.c_symbols.proofs.Common.{◌≡◌, ℕ, ◌+◌, ◌<◌, ◌≤◌, Bool, true, false, List, [], ◌∷◌, ◌++◌, map, length, get_or, drop, if◌then◌else◌}
+use Rattle.c_symbols.proofs.Common.{filter, sym, refl, ap, ◌∙◌, append_assoc, append-nil, arith, drop_all, ValType, func_of_import}
+use Rattle.c_symbols.proofs.Common.{global_of_import, is_global_import, Import, at_front}
 use Rattle.wasm_tree.specs.declared.entries.ImportKind.{ImportKind}
-use Rattle.wasm_tree.specs.declared.entries.ImportKind.TheVariants.{Func as ImportFunc, Table as ImportTable, Memory as ImportMemory, Global as ImportGlobal}
+use Rattle.wasm_tree.specs.declared.entries.ImportKind.TheVariants.{Func as ImportFunc, Global as ImportGlobal}
 
 pub kind_next : {A B : Type 0} (p : A → Bool) (f : A → B) (before after whole : List B) (name : B) (xs items : List A) (i : ℕ) (x : A)
     → items ≡ xs → i < length items → x ≡ get_or items i x → name ≡ f x → after ≡ before ++ map (λ j. name) (filter p (x ∷ []))
@@ -43,9 +45,7 @@ no_func_brought i before after other same = same ∙ sym (append-nil before) ∙
   where
     at : (k : ImportKind) → i.kind ≡ k → [] ≡ func_of_import i
     at (ImportFunc t) e = absurd (other t e)
-    at (ImportTable l) e = rw e refl
-    at (ImportMemory l) e = rw e refl
-    at (ImportGlobal t mutable) e = rw e refl
+    at _ e = rw e refl
 
 pub global_brought : (i : Import) (t : ValType) (mutable : Bool) (before after : List (ValType × Bool)) → i.kind ≡ ImportGlobal t mutable
     → after ≡ before ++ (t, mutable) ∷ [] → after ≡ before ++ global_of_import i
@@ -57,10 +57,8 @@ pub no_global_brought : (i : Import) (before after : List (ValType × Bool))
 no_global_brought i before after other same = same ∙ sym (append-nil before) ∙ ap (λ ys. before ++ ys) (at i.kind refl)
   where
     at : (k : ImportKind) → i.kind ≡ k → [] ≡ global_of_import i
-    at (ImportFunc t) e = rw e refl
-    at (ImportTable l) e = rw e refl
-    at (ImportMemory l) e = rw e refl
     at (ImportGlobal t mutable) e = absurd (other t mutable e)
+    at _ e = rw e refl
 
 -- what is made of the imported globals alone
 pub global_drawn : {A : Type 0} (i : Import) (t : ValType) (mutable : Bool) (made : A) (before after : List A)
@@ -74,7 +72,5 @@ pub no_global_drawn : {A : Type 0} (i : Import) (made : A) (before after : List 
 no_global_drawn i made before after other same = same ∙ sym (append-nil before) ∙ ap (λ ys. before ++ ys) (at i.kind refl)
   where
     at : (k : ImportKind) → i.kind ≡ k → [] ≡ map (λ (j : Import). made) (filter is_global_import (i ∷ []))
-    at (ImportFunc t) e = rw e refl
-    at (ImportTable l) e = rw e refl
-    at (ImportMemory l) e = rw e refl
     at (ImportGlobal t mutable) e = absurd (other t mutable e)
+    at _ e = rw e refl

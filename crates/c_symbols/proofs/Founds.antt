@@ -1,12 +1,13 @@
 -- Tables of symbols that grow.
-use Rattle.c_symbols.proofs.Common.{◌≡◌, ℕ, ◌+◌, ◌<◌, ◌≤◌, Bool, true, false, List, [], ◌∷◌, ◌++◌, map, length, get_or, drop, if◌then◌else◌, Some, None, Option, option_map, bytes_eq, sym, refl, ap, ◌∙◌, arith, drop_all, at_front, Name, Typed}
+use Rattle.c_symbols.proofs.Common.{◌≡◌, ℕ, ◌+◌, ◌<◌, ◌≤◌, Bool, true, false, List, [], ◌∷◌, ◌++◌, map, length, get_or, drop, if◌then◌else◌}
+use Rattle.c_symbols.proofs.Common.{Some, None, Option, option_map, bytes_eq, sym, refl, ap, ◌∙◌, arith, drop_all, at_front, Name, Typed}
 use Rattle.std.specs.Option.{option_or}
 use Rattle.w2c_base.specs.Lookup.{named}
-use Rattle.name_table.proofs.Lookups.{or_none, named-append}
+use Rattle.name_table.proofs.Lookups.{named-append}
 use Rattle.c_symbols.specs.declared.types.SymbolType.{SymbolType}
 use Rattle.c_symbols.specs.Typed.{type_of}
 use Rattle.c_symbols.specs.Found.{FindsTypes, FindsMore}
-use Rattle.w2c_base.proofs.Options.{or_assoc}
+use Rattle.w2c_base.proofs.Options.{or_assoc, or_none}
 
 pub entered : (after before : List (Name × SymbolType)) (name : Name) (ty : SymbolType)
     → ((q : Name) → named q after ≡ option_or (named q before) (if bytes_eq name q then Some ty else None))

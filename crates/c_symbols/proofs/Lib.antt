@@ -1,6 +1,8 @@
-mod Common
+-- What crates above cite.
 pub mod Grown
 pub mod ByKind
-pub mod SameTypes
+-- What the crate's own proofs cite.
+mod Common
+mod SameTypes
 mod Founds
 mod Reaches

@@ -1,8 +1,7 @@
 -- Types of functions that are compared.
-use Rattle.c_symbols.proofs.Common.{◌≡◌, ◌<◌, Bool, true, false, ◌&&◌, List, [], ◌∷◌, map, length, refl, ap, ◌∙◌, arith, ValType, same_type, same_types, c_params_of, c_type_of}
+use Rattle.c_symbols.proofs.Common.{◌≡◌, Bool, true, false, ◌&&◌, List, [], ◌∷◌, map, length, refl, ap, ◌∙◌, arith, ValType, same_type}
+use Rattle.c_symbols.proofs.Common.{same_types, c_params_of, c_type_of}
 use Rattle.w2c_base.specs.declared.value.ValType.TheVariants.{I32, I64}
-use Rattle.c_tree.specs.declared.tree.CType.TheVariants as c_type
-use Rattle.c_tree.specs.Rules.{proper_types}
 
 and_false : (b : Bool) → false ≡ (b && false)
 and_false true = refl
@@ -24,18 +23,3 @@ params_of_other_lengths [] (I64 ∷ ys) other = refl
 params_of_other_lengths (I32 ∷ xs) [] other = refl
 params_of_other_lengths (I64 ∷ xs) [] other = refl
 params_of_other_lengths (x ∷ xs) (y ∷ ys) other = other_lengths (x ∷ xs) (y ∷ ys) other
-
-pub proper_params : (types : List ValType) → proper_types (c_params_of types) ≡ map c_type_of types
-proper_params [] = refl
-proper_params (I32 ∷ []) = refl
-proper_params (I64 ∷ []) = refl
-proper_params (I32 ∷ t ∷ types) = refl
-proper_params (I64 ∷ t ∷ types) = refl
-
-pub params_none : (types : List ValType) → length types ≡ 0 → c_params_of types ≡ c_type.Void ∷ []
-params_none [] e = refl
-params_none (t ∷ types) e = absurd (omega (arith, e))
-
-pub params_there : (types : List ValType) → 0 < length types → c_params_of types ≡ map c_type_of types
-params_there [] e = absurd (omega (arith, e))
-params_there (t ∷ types) e = refl

@@ -12,16 +12,19 @@ use Rattle.w2c_mangle.specs.Symbols.{export_symbol_of}
 use Rattle.wasm_tree.specs.declared.tree.Module.{Module}
 use Rattle.wasm_tree.specs.declared.entries.Import.{Import}
 use Rattle.wasm_tree.specs.declared.entries.Export.{Export}
-use Rattle.wasm_tree.specs.declared.entries.ImportKind.TheVariants.{Func as ImportFunc, Table as ImportTable, Memory as ImportMemory, Global as ImportGlobal}
-use Rattle.wasm_tree.specs.declared.entries.ExportKind.TheVariants.{Func as ExportFunc, Table as ExportTable, Memory as ExportMemory, Global as ExportGlobal}
-use Rattle.wasm_tree.specs.IndexSpaces.{type_in, func_type_in, global_type_in, is_func_import, is_table_import, is_memory_import, is_global_import}
+use Rattle.wasm_tree.specs.declared.entries.ImportKind.TheVariants.{Func as ImportFunc, Table as ImportTable, Memory as ImportMemory}
+use Rattle.wasm_tree.specs.declared.entries.ImportKind.TheVariants.{Global as ImportGlobal}
+use Rattle.wasm_tree.specs.declared.entries.ExportKind.TheVariants.{Func as ExportFunc, Table as ExportTable, Memory as ExportMemory}
+use Rattle.wasm_tree.specs.declared.entries.ExportKind.TheVariants.{Global as ExportGlobal}
+use Rattle.wasm_tree.specs.IndexSpaces.{type_in, func_type_in, global_type_in, is_func_import, is_table_import, is_memory_import}
+use Rattle.wasm_tree.specs.IndexSpaces.{is_global_import}
 use Rattle.wasm_meaning.specs.LinkedSet.{NamedModule}
 use Rattle.c_tree.specs.declared.tree.CType.{CType}
 use Rattle.c_tree.specs.declared.tree.CType.TheVariants as type
 use Rattle.c_tree.specs.Tree as tree
 use Rattle.c_tree.specs.Runtime.{same_func_type}
 use Rattle.c_tree.specs.Scope.{Name, is_among}
-pub use Rattle.c_meaning.specs.Linking.{c_func_type_of as c_func_type}
+pub use Rattle.c_tree.specs.TypesInC.{c_func_type_of as c_func_type}
 
 -- ---- types
 

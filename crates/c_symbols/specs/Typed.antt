@@ -1,6 +1,6 @@
 -- The types of symbols as the program keeps them, by the value types of their parameters.
 use Rattle.c_tree.specs.Tree as tree
-use Rattle.c_meaning.specs.Linking.{c_params_of}
+use Rattle.c_tree.specs.TypesInC.{c_params_of}
 use Rattle.c_symbols.specs.declared.types.SymbolType.{SymbolType}
 
 abbrev pub type_of : SymbolType → tree.FuncType

@@ -2,12 +2,11 @@
 ghost use Rattle.std.specs.Prelude.{◌≡◌};
 ghost use Rattle.std.specs.Option.{option_copied};
 ghost use Rattle.c_tree.specs.Runtime.{same_types, same_func_type};
-ghost use Rattle.c_meaning.specs.Linking.{c_params_of};
+ghost use Rattle.c_tree.specs.TypesInC.{c_params_of};
 ghost use Rattle.c_symbols.specs.Symbols.{c_func_type_if, accessor_type, pointer_type as pointer_type_of, global_kind as global_kind_of};
 ghost use Rattle.c_symbols.specs.Typed.{type_of};
 
-use crate::types_in_c::c_result;
-use c_tree::CType;
+use c_tree::{CType, c_result};
 use w2c_base::{FuncType, ValType};
 use w2c_mangle::SymbolKind;
 

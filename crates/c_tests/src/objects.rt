@@ -2,7 +2,8 @@
 use c_objects::Done::{Gives, NoEffect, Trapped, Undefined};
 use c_objects::Held::{FuncPointer, Number, Pointer};
 use c_objects::{
-    Done, FuncId, Held, MemoryCell, Object, ObjectId, Primitive, Store, TableCell, UnitObjects,
+    Done, FuncId, Held, MemoryCell, Object, ObjectId, Store, TableCell, UnitObjects,
+    primitive_named,
 };
 use std::alloc::Global;
 use std::test::Fail;
@@ -166,7 +167,7 @@ const TRAPS: &[Call] = &[
 
 fn run(store: &mut Store, alloc: Global, call: &Call) -> Result<bool, Memory> {
     let (name, args, wanted) = *call;
-    let came = match Primitive::of_name(name) {
+    let came = match primitive_named(name) {
         None => NoEffect,
         Some(primitive) => store.apply(alloc, primitive, args)?,
     };

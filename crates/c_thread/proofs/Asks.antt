@@ -1,5 +1,8 @@
 -- Arguments of hosts are numbers.
-use Rattle.c_thread.proofs.Common.{◌≡◌, ℕ, ◌+◌, ◌≤◌, List, [], ◌∷◌, ◌++◌, map, length, drop, if◌then◌else◌, slice_get, Some, None, Option, option_map, sym, refl, ap, ◌∙◌, append_assoc, append-nil, drop_all, drop_front, equal_types, types_of, Value, Program, host_type, CValue, Machine, Stuck, Waiting, Step, Stops, ask, numbers, replied, Naming, value_of, Held}
+use Rattle.c_thread.proofs.Common.{◌≡◌, ℕ, ◌+◌, ◌≤◌, List, [], ◌∷◌, ◌++◌, map, length, drop, if◌then◌else◌, slice_get, Some, None, Option}
+use Rattle.c_thread.proofs.Common.{option_map, sym, refl, ap, ◌∙◌, append_assoc, append-nil, drop_all, drop_front, equal_types, types_of}
+use Rattle.c_thread.proofs.Common.{Value, Program, host_type, CValue, Machine, Stuck, Waiting, Step, Stops, ask, numbers, replied, Naming}
+use Rattle.c_thread.proofs.Common.{value_of, Held}
 use Rattle.w2c_base.specs.declared.signature.FuncType.{FuncType}
 use Rattle.c_objects.specs.declared.held.Held.TheVariants as held
 
@@ -7,13 +10,6 @@ use Rattle.c_objects.specs.declared.held.Held.TheVariants as held
 abbrev pub Counts : Naming → List Held → ℕ → List Value → Type 0
 Counts names values i so_far =
     numbers (map (value_of names) values) ≡ option_map (λ rest. so_far ++ rest) (numbers (map (value_of names) (drop i values)))
-
-pub counts_first : (names : Naming) (values : List Held) → Counts names values 0 []
-counts_first names values = go (numbers (map (value_of names) values))
-  where
-    go : (o : Option (List Value)) → o ≡ option_map (λ rest. [] ++ rest) o
-    go None = refl
-    go (Some vs) = refl
 
 pub counts_next : (names : Naming) (values : List Held) (i : ℕ) (so_far : List Value) (v : Value)
     → slice_get values i ≡ Some (held.Number v)

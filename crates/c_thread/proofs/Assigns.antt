@@ -1,5 +1,11 @@
 -- Assignments in linked units.
-use Rattle.c_thread.proofs.Common.{◌≡◌, ℕ, suc, ◌+◌, ◌-◌, ◌<◌, Bool, true, false, List, [], ◌∷◌, map, get_or, is_some, if◌then◌else◌, slice_get, slice_set, Some, None, Option, option_map, zip, bytes_eq, sym, refl, ap, ◌∙◌, arith, option_or, if_found, named, with_named, Trail, with_var, Machine, Name, Running, Stuck, Waiting, of_one_type, Stops, assign, depth_name, in_unit, next, with_vars, get_mapped, set_mapped, var_found, AreStored, machine_of, var_at, Naming, UnitNames, address_of, object_name, value_of, Held, ObjectId, UnitObjects, entry_from, named-zip, with_named-zip, Finds, entry_in, number_in, assigned_in_unit, held_vars, put_at}
+use Rattle.c_thread.proofs.Common.{◌≡◌, ℕ, suc, ◌+◌, ◌-◌, ◌<◌, Bool, true, false, List, [], ◌∷◌, map, get_or, is_some, if◌then◌else◌}
+use Rattle.c_thread.proofs.Common.{slice_get, slice_set, Some, None, Option, option_map, zip, bytes_eq, sym, refl, ap, ◌∙◌, arith}
+use Rattle.c_thread.proofs.Common.{option_or, if_found, named, with_named, Trail, with_var, Machine, Name, Running, Stuck, Waiting}
+use Rattle.c_thread.proofs.Common.{of_one_type, Stops, assign, depth_name, in_unit, next, with_vars, get_mapped, set_mapped, var_found}
+use Rattle.c_thread.proofs.Common.{AreStored, machine_of, var_at, Naming, UnitNames, address_of, object_name, value_of, Held, ObjectId}
+use Rattle.c_thread.proofs.Common.{UnitObjects, entry_from, named-zip, with_named-zip, Finds, entry_in, number_in, assigned_in_unit}
+use Rattle.c_thread.proofs.Common.{held_vars, put_at}
 use Rattle.std.proofs.lemmas.Slice.Eq.{bytes_eq-Decides}
 use Rattle.c_objects.specs.declared.held.Object.TheVariants as object
 use Rattle.c_thread.proofs.Seen.{var_seen}

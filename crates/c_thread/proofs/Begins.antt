@@ -1,5 +1,9 @@
 -- A function of linked units that begins.
-use Rattle.c_thread.proofs.Common.{◌≡◌, ℕ, Bool, true, false, List, ◌++◌, map, drop, if◌then◌else◌, Some, None, Option, option_map, sym, ap, ◌∙◌, if_found, CType, Definition, Program, Machine, Name, Running, Stuck, Vars, Waiting, Step, Stops, are_of_types, begin, bind, locals_of, next, param_names, param_types, Naming, value_of, Held, defines, fitting, bind_all, local_name, local_names, WithLocals, definition_in, names_at, result_at, stmts_at, held_vars, items_at}
+use Rattle.c_thread.proofs.Common.{◌≡◌, ℕ, Bool, true, false, List, ◌++◌, map, drop, if◌then◌else◌, Some, None, Option, option_map, sym, ap}
+use Rattle.c_thread.proofs.Common.{◌∙◌, if_found, CType, Definition, Program, Machine, Name, Running, Stuck, Vars, Waiting, Step, Stops}
+use Rattle.c_thread.proofs.Common.{are_of_types, begin, bind, locals_of, next, param_names, param_types, Naming, value_of, Held, defines}
+use Rattle.c_thread.proofs.Common.{fitting, bind_all, local_name, local_names, WithLocals, definition_in, names_at, result_at, stmts_at}
+use Rattle.c_thread.proofs.Common.{held_vars, items_at}
 use Rattle.c_tree.specs.Tree as tree
 
 module _ (names : Naming) (p : Program) (items : List tree.Item) (u i : ℕ) (own : items_at p u ≡ items) (values : List Held)
@@ -26,9 +30,6 @@ module _ (names : Naming) (p : Program) (items : List tree.Item) (u i : ℕ) (ow
   -- the variables of a function whose arguments fit
   abbrev guarded : Definition → Bool → Option Vars
   guarded d b = if b then with_params d (bind (param_names d.func.params) (map (value_of names) values)) else None
-
-  pub begins_nothing : definition_in items i ≡ None → begun (definition_in (items_at p u) i) ≡ Stops m Stuck
-  begins_nothing none = ap (λ its. begun (definition_in its i)) own ∙ ap begun none
 
   module _ (d : Definition) (is : definition_in items i ≡ Some d) where
     begins_with : (fit : Bool) → are_of_types (param_types d.func.params) (map (value_of names) values) ≡ fit

@@ -1,13 +1,14 @@
+-- What the crate's own proofs cite.
 mod Common
-pub mod Acts
-pub mod Asks
-pub mod Assigns
-pub mod Begins
-pub mod Params
-pub mod Returns
-pub mod SameTypes
-pub mod Seen
-pub mod Sights
-pub mod Stars
-pub mod Units
-pub mod Ways
+mod Acts
+mod Asks
+mod Assigns
+mod Begins
+mod Params
+mod Returns
+mod SameTypes
+mod Seen
+mod Sights
+mod Stars
+mod Units
+mod Ways

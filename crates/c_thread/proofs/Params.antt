@@ -1,5 +1,6 @@
 -- Arguments of the types of parameters, one parameter after the other.
-use Rattle.c_thread.proofs.Common.{◌≡◌, ℕ, ◌+◌, ◌≤◌, Bool, true, false, ◌&&◌, List, [], ◌∷◌, map, length, drop, is_some, ◌==◌, slice_get, Some, None, refl, ap, ◌∙◌, arith, drop_all, drop_front, of_type, CValue, are_of_types, param_types}
+use Rattle.c_thread.proofs.Common.{◌≡◌, ℕ, ◌+◌, ◌≤◌, Bool, true, false, ◌&&◌, List, [], ◌∷◌, map, length, drop, is_some, ◌==◌, slice_get}
+use Rattle.c_thread.proofs.Common.{Some, None, refl, ap, ◌∙◌, arith, drop_all, drop_front, of_type, CValue, are_of_types, param_types}
 use Rattle.c_tree.specs.Tree as tree
 
 module _ {V : Type 0} (view : V → CValue) where
@@ -48,7 +49,3 @@ module _ {V : Type 0} (view : V → CValue) where
   pub none_left : (vs : List V) → fit [] vs ≡ (length vs == 0)
   none_left [] = refl
   none_left (v ∷ vs) = grind arith
-
-pub no_length : {A : Type 0} (vs : List A) → length vs ≡ 0 → vs ≡ []
-no_length [] e = refl
-no_length (v ∷ vs) e = absurd (omega (arith, e))

@@ -1,5 +1,8 @@
 -- Returns in linked units.
-use Rattle.c_thread.proofs.Common.{◌≡◌, ◌-◌, Bool, List, [], ◌∷◌, ◌++◌, map, if◌then◌else◌, slice_get, Some, None, Option, ap, ◌∙◌, reverse-append, CType, Program, CValue, Machine, Name, Running, Stuck, Waiting, Step, Stops, assign, give, is_returned, next, returned, Naming, stmts_at, target_of, below_in, items_at, running_in, waiting_in, LinkedFrame}
+use Rattle.c_thread.proofs.Common.{◌≡◌, ◌-◌, Bool, List, [], ◌∷◌, ◌++◌, map, if◌then◌else◌, slice_get, Some, None, Option, ap, ◌∙◌}
+use Rattle.c_thread.proofs.Common.{reverse-append, CType, Program, CValue, Machine, Name, Running, Stuck, Waiting, Step, Stops, assign}
+use Rattle.c_thread.proofs.Common.{give, is_returned, next, returned, Naming, stmts_at, target_of, below_in, items_at, running_in}
+use Rattle.c_thread.proofs.Common.{waiting_in, LinkedFrame}
 
 module _ (names : Naming) (p : Program) where
   pub below-push : (frames : List LinkedFrame) (f : LinkedFrame)

@@ -1,5 +1,6 @@
 -- Two lists of types, type by type.
-use Rattle.c_thread.proofs.Common.{◌≡◌, ℕ, zero, suc, ◌+◌, ◌<◌, ◌≤◌, Bool, true, false, ◌&&◌, List, [], ◌∷◌, length, drop, slice_get, sym, refl, ap, ◌∙◌, arith, drop_all, same_types, CType, agree_at}
+use Rattle.c_thread.proofs.Common.{◌≡◌, ℕ, zero, suc, ◌+◌, ◌<◌, ◌≤◌, Bool, true, false, ◌&&◌, List, [], ◌∷◌, length, drop, slice_get, sym}
+use Rattle.c_thread.proofs.Common.{refl, ap, ◌∙◌, arith, drop_all, same_types, CType, agree_at}
 
 front : (types others : List CType) (i : ℕ) → i < length types → i < length others
     → same_types (drop i types) (drop i others)

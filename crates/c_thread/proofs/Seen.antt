@@ -1,5 +1,8 @@
 -- What the tables of a unit find is what the meaning of C finds by name.
-use Rattle.c_thread.proofs.Common.{◌≡◌, ℕ, zero, suc, ◌+◌, Bool, true, false, List, [], ◌∷◌, map, length, is_some, if◌then◌else◌, slice_get, Some, None, Option, option_map, zip, bytes_eq, sym, refl, ap, ◌∙◌, subst, arith, option_or, if_found, named, Trail, var_in, Name, get_mapped, units_at, units_past, AreStored, IsStored, machine_of, var_at, Naming, UnitNames, value_of, Held, UnitObjects, named-zip, Finds, entry_in, number_in}
+use Rattle.c_thread.proofs.Common.{◌≡◌, ℕ, zero, suc, ◌+◌, Bool, true, false, List, [], ◌∷◌, map, length, is_some, if◌then◌else◌, slice_get}
+use Rattle.c_thread.proofs.Common.{Some, None, Option, option_map, zip, bytes_eq, sym, refl, ap, ◌∙◌, subst, arith, option_or, if_found}
+use Rattle.c_thread.proofs.Common.{named, Trail, var_in, Name, get_mapped, units_at, units_past, AreStored, IsStored, machine_of, var_at}
+use Rattle.c_thread.proofs.Common.{Naming, UnitNames, value_of, Held, UnitObjects, named-zip, Finds, entry_in, number_in, same_Some}
 use Rattle.c_objects.specs.declared.held.Object.TheVariants as object
 
 abbrev no_value : Option Held
@@ -55,8 +58,5 @@ pub stored_for : (ns : List UnitNames) (os : List UnitObjects) (u : ℕ) (n : Un
     → (o : UnitObjects) × (slice_get os u ≡ Some o) × IsStored n o
 stored_for [] os u n are e = absurd cc
 stored_for (k ∷ ns) [] u n are e = absurd are
-stored_for (k ∷ ns) (o ∷ os) zero n are e = (o, refl, subst (λ x. IsStored x o) (some_is k n e) are.0)
-  where
-    some_is : (x y : UnitNames) → Some x ≡ Some y → x ≡ y
-    some_is x y e = cc
+stored_for (k ∷ ns) (o ∷ os) zero n are e = (o, refl, subst (λ x. IsStored x o) (same_Some k n e) are.0)
 stored_for (k ∷ ns) (o ∷ os) (suc u) n are e = stored_for ns os u n are.1 e

@@ -1,16 +1,19 @@
 -- The scope of a function that runs sees what the meaning of C says.
-use Rattle.c_thread.proofs.Common.{◌≡◌, ℕ, ◌-◌, Bool, true, false, ◌||◌, List, [], map, get_or, is_some, if◌then◌else◌, slice_get, Some, None, Option, option_map, bytes_eq, sym, refl, ap, ◌∙◌, arith, length-map, option_or, if_found, named, Trail, unit_of, Program, array_named, func_named, is_object, var_in, Machine, Name, ObjectAddress, Running, depth_name, in_unit, value_in, var_found, units_at, AreStored, machine_of, objects_of, var_at, Naming, UnitNames, address_of, func_of, object_name, value_of, Held, ObjectId, Finds, number_in, AreObjectTables, held_vars, items_at, Sees, bytes_in, func_in, held_in, item_bytes, object_in, sight_of, UnitScope}
+use Rattle.c_thread.proofs.Common.{◌≡◌, ℕ, ◌-◌, Bool, true, false, ◌||◌, List, [], map, get_or, is_some, if◌then◌else◌, slice_get, Some}
+use Rattle.c_thread.proofs.Common.{None, Option, option_map, bytes_eq, sym, refl, ap, ◌∙◌, arith, length-map, option_or, if_found, named}
+use Rattle.c_thread.proofs.Common.{Trail, unit_of, Program, array_named, func_named, is_object, var_in, Machine, Name, ObjectAddress}
+use Rattle.c_thread.proofs.Common.{Running, depth_name, in_unit, value_in, var_found, units_at, AreStored, machine_of, objects_of, var_at}
+use Rattle.c_thread.proofs.Common.{Naming, UnitNames, address_of, func_of, object_name, value_of, Held, ObjectId, Finds, number_in}
+use Rattle.c_thread.proofs.Common.{AreObjectTables, held_vars, items_at, Sees, bytes_in, func_in, held_in, item_bytes, object_in, sight_of}
+use Rattle.c_thread.proofs.Common.{UnitScope}
 use Rattle.w2c_base.specs.declared.value.Value.TheVariants.{I32}
+use Rattle.w2c_base.proofs.Options.{or_map}
 use Rattle.c_objects.specs.declared.held.Held.TheVariants as held
 use Rattle.c_objects.specs.declared.held.Object.{Object}
 use Rattle.c_objects.specs.declared.held.Object.TheVariants as object
 use Rattle.c_objects.specs.Objects.{memory_of, table_of}
 use Rattle.c_thread.proofs.Assigns.{held_named, name_from}
 use Rattle.c_thread.proofs.Seen.{present, stored_for, var_seen}
-
-either : {A B : Type 0} (f : A → B) (a b : Option A) → option_or (option_map f a) (option_map f b) ≡ option_map f (option_or a b)
-either f None b = refl
-either f (Some x) b = refl
 
 through : (names : Naming) (vs : List Held) (o : Option ℕ)
     → if_found o (λ i. option_map (value_of names) (slice_get vs i))
@@ -81,7 +84,7 @@ module _ (names : Naming) (p : Program) (trail : Trail) (s : UnitScope) (r : Run
           ∙ ap (λ o. option_map (value_of names) (if_found o (λ i. slice_get s.values.now i))) (sym (finds q)) in
           let by_unit = ap (λ u. var_in machine (record { unit = u; name = q })) unit
           ∙ var_seen names s.depth trail s.store.now.units.items s.unit are.unit s.objects.now.vars q stored are.unit_is are.vars in
-          rw e (ap (λ a. option_or a (var_in machine (in_unit r q))) by_local ∙ ap (option_or _) by_unit ∙ either (value_of names) _ _)
+          rw e (ap (λ a. option_or a (var_in machine (in_unit r q))) by_local ∙ ap (option_or _) by_unit ∙ or_map (value_of names) _ _)
 
   -- the whole
   pub sees : r.unit ≡ s.unit → r.vars ≡ held_vars names locals s.values.now → unit_of s.items.now ≡ items_at p s.unit

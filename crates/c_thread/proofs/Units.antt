@@ -1,5 +1,6 @@
 -- The items and the tables of the units of a list.
-use Rattle.c_thread.proofs.Common.{◌≡◌, ℕ, zero, suc, List, [], ◌∷◌, ◌++◌, map, slice_get, Some, None, Option, sym, refl, ap, ◌∙◌, subst, unit_of, Program, Naming, IsTables, HaveUnitTables, IsLinked, items_at}
+use Rattle.c_thread.proofs.Common.{◌≡◌, ℕ, zero, suc, List, [], ◌∷◌, ◌++◌, map, slice_get, Some, None, Option, sym, refl, ap, ◌∙◌, subst}
+use Rattle.c_thread.proofs.Common.{unit_of, Program, Naming, IsTables, HaveUnitTables, IsLinked, items_at}
 use Rattle.c_tree.specs.Tree as tree
 use Rattle.c_thread.specs.declared.control.LinkedUnit.{LinkedUnit}
 
@@ -32,10 +33,6 @@ no_items names p units u are here =
     go [] u e = refl
     go (k ∷ units) zero e = absurd cc
     go (k ∷ units) (suc u) e = go units u e
-
--- a unit more that has its tables
-pub have_none : HaveUnitTables []
-have_none u l e = absurd cc
 
 pub have_more : (units : List LinkedUnit) (l : LinkedUnit) → HaveUnitTables units → IsTables l.functions (unit_of l.items.value)
     → HaveUnitTables (units ++ l ∷ [])

@@ -1,6 +1,7 @@
 -- One statement more on the way of a run.
-use Rattle.c_thread.proofs.Common.{◌≡◌, ℕ, ◌+◌, ◌-◌, ◌<◌, ◌≤◌, subst, arith, Program, Reaches, Going, Pending, Progress, go_on, State, Step, c_step}
-use Rattle.c_meaning.proofs.Ways.{join, step, stays}
+use Rattle.c_thread.proofs.Common.{◌≡◌, ℕ, ◌+◌, ◌-◌, ◌<◌, ◌≤◌, subst, arith, Program, Reaches, Going, Pending, Progress, go_on, State, Step}
+use Rattle.c_thread.proofs.Common.{c_step}
+use Rattle.c_meaning.proofs.Ways.{join, step}
 
 pub on_its_way : (p : Program) (pending : Pending) (start : Progress) (s : State) (o : Step) (first left : ℕ) → 0 < left
     → left ≤ first → c_step p s ≡ o
@@ -10,8 +11,3 @@ on_its_way p pending start s o first left some within is so_far =
     let count : (first - left) + 1 ≡ first - (left - 1) = omega (arith, some, within) in
     subst (λ n. Reaches p n start (go_on p pending o)) count
     (join p (first - left) 1 start (Going pending s) (go_on p pending o) so_far one)
-
-pub at_its_start : (p : Program) (pending : Pending) (s : State) (first : ℕ) → Reaches p (first - first) (Going pending s) (Going pending s)
-at_its_start p pending s first =
-    let none : 0 ≡ first - first = omega arith in
-    subst (λ n. Reaches p n (Going pending s) (Going pending s)) none (stays p (Going pending s))

@@ -1,17 +1,20 @@
 -- Functions of linked units that run, as states of the meaning of C: units, items and objects stand
 -- by number, a position is the number of a statement, and variables are values in the order in which
 -- parameters and locals are declared.
-use Rattle.std.specs.Prelude.{◌≡◌, ℕ, ◌-◌, List, [], ◌∷◌, ◌++◌, map, zip, drop, reverse, slice_get, if◌then◌else◌, Option, Some, None, option_map}
+use Rattle.std.specs.Prelude.{◌≡◌, ℕ, ◌-◌, List, [], ◌∷◌, ◌++◌, map, zip, drop, reverse, slice_get, if◌then◌else◌, Option, Some, None}
+use Rattle.std.specs.Prelude.{option_map}
 use Rattle.w2c_base.specs.declared.value.Value.{Value}
 use Rattle.w2c_base.specs.Lookup.{if_found, named}
 use Rattle.w2c_base.specs.Values.{equal_types, types_of}
 use Rattle.w2c_base.specs.Run.{Trail}
 use Rattle.c_tree.specs.Tree as tree
 use Rattle.c_tree.specs.View.{unit_of}
-use Rattle.c_meaning.specs.State.{Name, FuncAddress, ObjectAddress, CValue, Number, then_evaluate, found, Vars, Machine, Running, Frame as Waiting, State, Place, Trapped, Undefined, Stuck}
+use Rattle.c_meaning.specs.State.{Name, FuncAddress, ObjectAddress, CValue, Number, then_evaluate, found, Vars, Machine, Running}
+use Rattle.c_meaning.specs.State.{Frame as Waiting, State, Place, Trapped, Undefined, Stuck}
 use Rattle.c_meaning.specs.Linking.{Program, array_named, definition_at, func_named, host_type}
 use Rattle.c_meaning.specs.Machine.{var_in, with_var}
-use Rattle.c_meaning.specs.Step.{Step, Next, Back, Stops, as_object, call, call_named, call_through, in_unit, next, put_in, replied, with_value}
+use Rattle.c_meaning.specs.Step.{Step, Next, Back, Stops, as_object, call, call_named, call_through, in_unit, next, put_in, replied}
+use Rattle.c_meaning.specs.Step.{with_value}
 use Rattle.c_objects.specs.declared.held.Held.{Held}
 use Rattle.c_objects.specs.Stores.{machine_of}
 use Rattle.c_objects.specs.Views.{Naming, UnitNames, func_of, item_name, value_of}

@@ -59,7 +59,7 @@ fn with_first_values(
 {
     let mut values = values;
     for local in locals {
-        match first_value(local.0, local.2) {
+        match initial_value(local.0, local.2) {
             Some(value) => values.push(value)?,
             None => return Ok(None),
         }
@@ -67,8 +67,9 @@ fn with_first_values(
     Ok(Some(values))
 }
 
-// Pointers are null at first (6.7.9).
-fn first_value(ty: CType, number: Num) -> Option<Held>
+/// What a variable of this type holds at first whose declaration gives this number (C11, 6.7.9): a pointer is null. None where
+/// the type takes no such number.
+pub fn initial_value(ty: CType, number: Num) -> Option<Held>
     ensures { (names : Naming) → option_map (value_of names) result ≡ initial_of ty number }
 {
     match ty {

@@ -14,7 +14,7 @@ ghost use Rattle.w2c_base.specs.declared.signature.FuncType.{FuncType};
 use crate::control::LinkedUnit;
 use crate::linked::{HostCall, LinkedFrame, LinkedStep, LinkedThread};
 use crate::scope::ObjectTables;
-use c_objects::{FuncId, Held, Primitive};
+use c_objects::{FuncId, Held, primitive_named};
 use std::alloc::Global;
 use std::mem::replace;
 use w2c_base::{Memory, Value};
@@ -37,7 +37,7 @@ impl LinkedThread {
             ≡ step_in names p trail o self.new) }
         ensures stored { IfOk result (λ o. (names : Naming) → AreStored names self.old.store.units.items → AreStored names self.new.store.units.items) }
     {
-        match Primitive::of_name(name) {
+        match primitive_named(name) {
             Some(primitive) => {
                 Ok(self.call_primitive(alloc, units, primitive, values.as_slice())?)
             }

@@ -13,6 +13,7 @@ mod stepping;
 mod types;
 mod values;
 
+pub use begin::initial_value;
 pub use control::LinkedUnit;
 pub use linked::{HostCall, LinkedFrame, LinkedStep, LinkedThread};
 pub use scope::{ObjectTables, Symbols, UnitScope};

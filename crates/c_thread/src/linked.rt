@@ -13,8 +13,9 @@ ghost use Rattle.c_machine.specs.Threads.{names_at};
 
 use crate::scope::ObjectTables;
 use crate::types::are_of_one_type;
-use c_machine::{NumberedNames, is_depth};
+use c_machine::NumberedNames;
 use c_objects::{Held, Object, ObjectId, Store};
+use c_tree::is_depth;
 use w2c_base::{TrapKind, Value};
 
 // The kind of what is undefined.

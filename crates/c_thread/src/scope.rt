@@ -3,9 +3,9 @@ ghost use Rattle.std.specs.Prelude.{◌≡◌, option_copied};
 ghost use Rattle.c_objects.specs.Stores.{var_at};
 ghost use Rattle.c_thread.specs.Sights.{bytes_in, func_at, func_in, held_in, object_in, symbol_in};
 
-use c_machine::{NumberedNames, Numbers, is_depth};
+use c_machine::{NumberedNames, Numbers};
 use c_objects::{FuncId, Held, Object, ObjectId, Store};
-use c_tree::{Item, Unit};
+use c_tree::{Item, Unit, is_depth};
 use std::rc::Rc;
 use w2c_base::Value;
 

@@ -1,6 +1,9 @@
 -- The broken rules of a unit stand in order: by the item, in it by the statement, and there by the
 -- rule's number. So the first in the list comes before every other one.
-use Rattle.c_tree.proofs.Common.{◌≡◌, ℕ, ◌+◌, ◌≤◌, Bool, true, false, not, List, [], ◌∷◌, ◌++◌, map, length, take, if◌then◌else◌, slice_get, Some, None, Contains, filter, Option, zip, flat_map, sym, refl, ap, ◌∙◌, subst, inl, inr, arith, AllByRecursion, range_with_len, all_append, of_contained, of_each, BrokenAt, BrokenRule, IsFirstBroken, IsNotBehind, broken_in_body, broken_in_item, broken_in_stmt, broken_of, broken_rules, first_broken}
+use Rattle.c_tree.proofs.Common.{◌≡◌, ℕ, ◌+◌, ◌≤◌, Bool, true, false, not, List, [], ◌∷◌, ◌++◌, map, length, take, if◌then◌else◌, slice_get}
+use Rattle.c_tree.proofs.Common.{Some, None, Contains, filter, Option, zip, flat_map, sym, refl, ap, ◌∙◌, subst, inl, inr, arith}
+use Rattle.c_tree.proofs.Common.{AllByRecursion, range_with_len, all_append, of_contained, of_each, BrokenAt, BrokenRule, IsFirstBroken}
+use Rattle.c_tree.proofs.Common.{IsNotBehind, broken_in_body, broken_in_item, broken_in_stmt, broken_of, broken_rules, first_broken}
 use Rattle.w2c_base.specs.Lookup.{numbered}
 use Rattle.c_tree.specs.Tree as tree
 use Rattle.c_tree.specs.Scope.{Scope}
@@ -114,8 +117,7 @@ body_in_order unit item (tree.Function f) = by f.body
     by : (body : Option tree.Body) → AllByRecursion (InBody item 1) (of_body unit item f body) × Ordered (of_body unit item f body)
     by None = (tt, tt)
     by (Some b) = stmts_in_order (record { declared = take (item + 1) unit; func = f; body = b }) item 0 b.stmts
-body_in_order unit item (tree.Array n count bytes) = (tt, tt)
-body_in_order unit item (tree.Var t n v) = (tt, tt)
+body_in_order unit item _ = (tt, tt)
 
 -- ---- the items of a unit
 

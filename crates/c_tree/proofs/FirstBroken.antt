@@ -1,5 +1,6 @@
 -- The first broken rule is one, and it is broken.
-use Rattle.c_tree.proofs.Common.{◌≡◌, ℕ, ◌<◌, ◌≤◌, ◌⊎◌, List, [], ◌∷◌, slice_get, Some, None, Contains, refl, arith, BrokenAt, BrokenRule, IsFirstBroken, IsNotBehind, KeepsRules, broken_rules, first_broken}
+use Rattle.c_tree.proofs.Common.{◌≡◌, ℕ, ◌<◌, ◌≤◌, ◌⊎◌, List, [], ◌∷◌, slice_get, Some, None, Contains, refl, arith, BrokenAt, BrokenRule}
+use Rattle.c_tree.proofs.Common.{IsFirstBroken, IsNotBehind, KeepsRules, broken_rules, first_broken}
 use Rattle.c_tree.specs.Tree as tree
 
 same_item : (i s k j t m : ℕ) → (i < j) ⊎ ((i ≡ j) × (s < t)) ⊎ ((i ≡ j) × (s ≡ t) × (k ≤ m))

@@ -1,5 +1,6 @@
 -- The tokens of a text that is laid out with gaps that keep its tokens apart.
-use Rattle.c_tree.proofs.Common.{◌≡◌, ℕ, ◌+◌, List, [], ◌∷◌, ◌++◌, map, refl, ap, ◌∙◌, append_assoc, AllByRecursion, laid, lexeme, lexemes, Token, token_text}
+use Rattle.c_tree.proofs.Common.{◌≡◌, ℕ, ◌+◌, List, [], ◌∷◌, ◌++◌, map, refl, ap, ◌∙◌, append_assoc, AllByRecursion, laid, lexeme, lexemes}
+use Rattle.c_tree.proofs.Common.{Token, token_text}
 use Rattle.c_tree.proofs.Proper.{IsProper, EndsToken, reads}
 
 abbrev pub tokens_from : ℕ → ℕ → List ℕ → List Token

@@ -1,4 +1,4 @@
-mod Common
+-- What crates above cite.
 pub mod BrokenInOrder
 pub mod FirstBroken
 pub mod Laid
@@ -6,17 +6,22 @@ pub mod Names
 pub mod NoFault
 pub mod OneUnit
 pub mod OnlyVoid
-pub mod Passes
-pub mod PassesExpressions
-pub mod PassesStatements
+pub mod Primitives
 pub mod Proper
-pub mod Rows
-pub mod SameExpressions
-pub mod SameLists
-pub mod SameStatements
-pub mod SameWords
+pub mod SameTypes
 pub mod Tested
 pub mod TestsTell
 pub mod TextIsProper
 pub mod TreeIsProper
+pub mod TypesInC
 pub mod WellFormedUnits
+-- What the crate's own proofs cite.
+mod Common
+mod Passes
+mod PassesExpressions
+mod PassesStatements
+mod Rows
+mod SameExpressions
+mod SameLists
+mod SameStatements
+mod SameWords

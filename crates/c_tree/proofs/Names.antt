@@ -1,6 +1,10 @@
 -- Words of two forms are names: a letter and a number, and what begins as an external function does.
-use Rattle.c_tree.proofs.Common.{◌≡◌, ℕ, ◌^◌, ◌<◌, Bool, true, false, not, ◌&&◌, ◌≢◌, List, [], ◌∷◌, ◌++◌, map, ◌==◌, codes, decimal, bytes_eq, refl, ap, arith, not-true, nat_tests, list_all, list_any, are_digits, is_digit, is_letter, is_word_byte, key_words, other_words, fixed_text, IsName, is_key_word}
-use Rattle.c_tree.proofs.Proper.{both_true, digits_words, all_digits}
+use Rattle.c_tree.proofs.Common.{◌≡◌, ℕ, ◌^◌, ◌<◌, Bool, true, false, not, ◌&&◌, ◌≢◌, List, [], ◌∷◌, ◌++◌, map, ◌==◌, codes, decimal}
+use Rattle.c_tree.proofs.Common.{bytes_eq, refl, ap, arith, not-true, nat_tests, list_all, list_any, are_digits, is_digit, is_letter}
+use Rattle.c_tree.proofs.Common.{is_word_byte, key_words, other_words, fixed_text, IsName, is_key_word}
+use Rattle.std.proofs.Math.Bool.{and-false}
+use Rattle.w2c_base.proofs.Conjunctions.{both_hold}
+use Rattle.c_tree.proofs.Proper.{digits_words, all_digits}
 use Rattle.c_tree.proofs.TreeIsProper.{decimal_digits}
 
 -- the word does not begin with this letter and a digit
@@ -14,11 +18,7 @@ digit_differs d y digit other = grind (arith, nat_tests)
 
 differs : (b d : ℕ) (ds word : List ℕ) → is_digit d ≡ true → begins_otherwise b word ≡ true → bytes_eq (b ∷ d ∷ ds) word ≡ false
 differs b d ds [] digit begins = refl
-differs b d ds (x ∷ []) digit begins = by (b == x)
-  where
-    by : (t : Bool) → (t && false) ≡ false
-    by true = refl
-    by false = refl
+differs b d ds (x ∷ []) digit begins = and-false (b == x)
 differs b d ds (x ∷ y ∷ ys) digit begins = by (b == x) (is_digit y) (bytes_eq ds ys) refl (not-true (is_digit y && b == x) begins)
   where
     by : (same second rest : Bool) → is_digit y ≡ second → second && same ≡ false → (same && ((d == y) && rest)) ≡ false
@@ -30,7 +30,7 @@ none_equal : (b d : ℕ) (ds : List ℕ) (words : List (List ℕ)) → is_digit 
     → list_any (bytes_eq (b ∷ d ∷ ds)) words ≡ false
 none_equal b d ds [] digit all = refl
 none_equal b d ds (w ∷ words) digit all =
-    let h = both_true (begins_otherwise b w) (list_all (begins_otherwise b) words) all in
+    let h = both_hold (begins_otherwise b w) (list_all (begins_otherwise b) words) all in
     rw (differs b d ds w digit h.0, none_equal b d ds words digit h.1) refl
 
 other_byte : (b c : ℕ) → b ≢ c → b == c ≡ false
@@ -45,7 +45,7 @@ letter_and_digits b [] letter u w digits = absurd cc
 letter_and_digits b (d ∷ ds) letter u w digits =
     let all = all_digits (d ∷ ds) digits in
     let key : is_key_word (b ∷ d ∷ ds) ≡ false =
-    none_equal b d ds (map fixed_text key_words ++ other_words) (both_true (is_digit d) (list_all is_digit ds) all).0
+    none_equal b d ds (map fixed_text key_words ++ other_words) (both_hold (is_digit d) (list_all is_digit ds) all).0
     (no_key_word_begins b u w) in
     rw (letter, digits_words (d ∷ ds) all) (ap not key)
 

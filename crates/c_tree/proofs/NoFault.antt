@@ -1,5 +1,10 @@
 -- A text that spells a unit has no first fault.
-use Rattle.c_tree.proofs.Common.{◌≡◌, ℕ, suc, ◌^◌, ◌<◌, Bool, true, false, List, [], ◌∷◌, ◌++◌, length, nat_lt, Some, None, Option, refl, append_assoc, arith, nat_tests, AllByRecursion, always, Becomes, Of, One, OneByte, Symbol, Takes, move, CSpells, CUpto, FitsBody, FitsItem, FitsNum, FitsStmt, FitsValue, lexeme, lexemes, Fixed, Named, Token, close_tokens, each, item_tokens, local_tokens, maybe_name, num_token, param_tokens, separated, static_tokens, stmt_tokens, type_tokens, unit_tokens, value_tokens, CReadFault, CType, Num, Plain}
+use Rattle.c_tree.proofs.Common.{◌≡◌, ℕ, suc, ◌^◌, ◌<◌, Bool, true, false, List, [], ◌∷◌, ◌++◌, length, Some, None, Option, refl}
+use Rattle.c_tree.proofs.Common.{append_assoc, arith, AllByRecursion, always, Becomes, Of, One, OneByte, Symbol, Takes, move, CSpells}
+use Rattle.c_tree.proofs.Common.{CUpto, FitsBody, FitsItem, FitsNum, FitsStmt, FitsValue, lexeme, lexemes, Fixed, Named, Token}
+use Rattle.c_tree.proofs.Common.{close_tokens, each, item_tokens, local_tokens, maybe_name, num_token, param_tokens, separated}
+use Rattle.c_tree.proofs.Common.{static_tokens, stmt_tokens, type_tokens, unit_tokens, value_tokens, CReadFault, CType, Num, Plain}
+use Rattle.w2c_base.proofs.Numbers.{below_is_found}
 use Rattle.c_tree.specs.declared.token.Tok.TheVariants as tok
 use Rattle.c_tree.specs.declared.token.Part.TheVariants as part
 use Rattle.c_tree.specs.declared.tree.CType.TheVariants as type
@@ -14,15 +19,7 @@ use Rattle.c_tree.proofs.PassesStatements.{body_passes}
 in_body : (d : ℕ) (t : CType) (ss : List Symbol) (ts : List Token)
     → Passes (Of part.InDeclaration d ∷ Of part.InBody d ∷ ss) (type_tokens t ++ ts) → Passes (Of part.InBody d ∷ ss) (type_tokens t ++ ts)
 in_body d type.Void ss ts next = become (λ p. refl) next
-in_body d type.U32 ss ts next = become (λ p. refl) next
-in_body d type.U64 ss ts next = become (λ p. refl) next
-in_body d type.PtrU32 ss ts next = become (λ p. refl) next
-in_body d type.PtrU64 ss ts next = become (λ p. refl) next
-in_body d type.Mem ss ts next = become (λ p. refl) next
-in_body d type.PtrMem ss ts next = become (λ p. refl) next
-in_body d type.Tab ss ts next = become (λ p. refl) next
-in_body d type.PtrTab ss ts next = become (λ p. refl) next
-in_body d type.FnPtr ss ts next = become (λ p. refl) next
+in_body d _ ss ts next = become (λ p. refl) next
 
 locals_pass : (d : ℕ) (ls : List tree.Local) (xs : List tree.Stmt) (ss : List Symbol) (ts : List Token)
     → AllByRecursion (λ (l : tree.Local). FitsNum l.2) ls → AllByRecursion (FitsStmt (suc (suc d))) xs
@@ -79,14 +76,11 @@ function_passes d f ss ts some fits next =
 
 -- ---- items
 
-less : (n m : ℕ) → n < m → nat_lt n m ≡ true
-less n m is = grind (arith, nat_tests)
-
 count_taken : (n : ℕ) → n < 2 ^ 32 → (p : ℕ) → move (One tok.Plain) (lexeme p (num_token (Plain n))) ≡ Takes
-count_taken n small p = rw (value_decimal n (omega arith), less n (2 ^ 32) small) refl
+count_taken n small p = rw (value_decimal n (omega arith), below_is_found n (2 ^ 32) small) refl
 
 byte_taken : (n : ℕ) → n < 256 → (p : ℕ) → move OneByte (lexeme p (num_token (Plain n))) ≡ Takes
-byte_taken n small p = rw (value_decimal n (omega arith), less n 256 small) refl
+byte_taken n small p = rw (value_decimal n (omega arith), below_is_found n 256 small) refl
 
 bytes_pass : (d : ℕ) (xs : List ℕ) (ss : List Symbol) (ts : List Token) → 0 < length xs → AllByRecursion (λ b. b < 256) xs
     → Passes ss (Fixed tok.RightBrace ∷ ts)
@@ -101,42 +95,18 @@ in_inner : (d : ℕ) (t : CType) (ss : List Symbol) (ts : List Token)
     → Passes (Of part.InType d ∷ One tok.Name ∷ Of part.InRest d ∷ ss) (type_tokens t ++ ts)
     → Passes (Of part.InInner d ∷ ss) (type_tokens t ++ ts)
 in_inner d type.Void ss ts next = become (λ p. refl) next
-in_inner d type.U32 ss ts next = become (λ p. refl) next
-in_inner d type.U64 ss ts next = become (λ p. refl) next
-in_inner d type.PtrU32 ss ts next = become (λ p. refl) next
-in_inner d type.PtrU64 ss ts next = become (λ p. refl) next
-in_inner d type.Mem ss ts next = become (λ p. refl) next
-in_inner d type.PtrMem ss ts next = become (λ p. refl) next
-in_inner d type.Tab ss ts next = become (λ p. refl) next
-in_inner d type.PtrTab ss ts next = become (λ p. refl) next
-in_inner d type.FnPtr ss ts next = become (λ p. refl) next
+in_inner d _ ss ts next = become (λ p. refl) next
 
 in_item : (d : ℕ) (t : CType) (ss : List Symbol) (ts : List Token)
     → Passes (Of part.InType d ∷ One tok.Name ∷ One tok.LeftParen ∷ Of part.InFunction d ∷ ss) (type_tokens t ++ ts)
     → Passes (Of part.InItem d ∷ ss) (type_tokens t ++ ts)
 in_item d type.Void ss ts next = become (λ p. refl) next
-in_item d type.U32 ss ts next = become (λ p. refl) next
-in_item d type.U64 ss ts next = become (λ p. refl) next
-in_item d type.PtrU32 ss ts next = become (λ p. refl) next
-in_item d type.PtrU64 ss ts next = become (λ p. refl) next
-in_item d type.Mem ss ts next = become (λ p. refl) next
-in_item d type.PtrMem ss ts next = become (λ p. refl) next
-in_item d type.Tab ss ts next = become (λ p. refl) next
-in_item d type.PtrTab ss ts next = become (λ p. refl) next
-in_item d type.FnPtr ss ts next = become (λ p. refl) next
+in_item d _ ss ts next = become (λ p. refl) next
 
 in_items : (d : ℕ) (t : CType) (ss : List Symbol) (ts : List Token)
     → Passes (Of part.InItem d ∷ Of part.InItems d ∷ ss) (type_tokens t ++ ts) → Passes (Of part.InItems d ∷ ss) (type_tokens t ++ ts)
 in_items d type.Void ss ts next = become (λ p. refl) next
-in_items d type.U32 ss ts next = become (λ p. refl) next
-in_items d type.U64 ss ts next = become (λ p. refl) next
-in_items d type.PtrU32 ss ts next = become (λ p. refl) next
-in_items d type.PtrU64 ss ts next = become (λ p. refl) next
-in_items d type.Mem ss ts next = become (λ p. refl) next
-in_items d type.PtrMem ss ts next = become (λ p. refl) next
-in_items d type.Tab ss ts next = become (λ p. refl) next
-in_items d type.PtrTab ss ts next = become (λ p. refl) next
-in_items d type.FnPtr ss ts next = become (λ p. refl) next
+in_items d _ ss ts next = become (λ p. refl) next
 
 value_passes : (d : ℕ) (v : Option Num) (ss : List Symbol) (ts : List Token) → FitsValue v → Passes ss ts
     → Passes (Of part.InRest d ∷ ss) (value_tokens v ++ ts)

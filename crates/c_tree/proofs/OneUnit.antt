@@ -1,5 +1,8 @@
 -- A text spells at most one unit: units with the same tokens are the same.
-use Rattle.c_tree.proofs.Common.{◌≡◌, ℕ, ◌<◌, Bool, true, false, List, [], ◌∷◌, ◌++◌, Some, None, Option, refl, ap, ◌∙◌, append_assoc, arith, AllByRecursion, always, CSpells, FitsBody, FitsItem, FitsNum, FitsStmt, FitsValue, depth_limit, Fixed, Named, Token, close_tokens, each, func_tokens, item_tokens, local_tokens, maybe_name, num_token, param_tokens, separated, static_tokens, stmt_tokens, type_tokens, value_tokens, CType, Num, Plain}
+use Rattle.c_tree.proofs.Common.{◌≡◌, ℕ, ◌<◌, Bool, true, false, List, [], ◌∷◌, ◌++◌, Some, None, Option, refl, ap, ◌∙◌, append_assoc}
+use Rattle.c_tree.proofs.Common.{arith, AllByRecursion, always, CSpells, FitsBody, FitsItem, FitsNum, FitsStmt, FitsValue, depth_limit}
+use Rattle.c_tree.proofs.Common.{Fixed, Named, Token, close_tokens, each, func_tokens, item_tokens, local_tokens, maybe_name, num_token}
+use Rattle.c_tree.proofs.Common.{param_tokens, separated, static_tokens, stmt_tokens, type_tokens, value_tokens, CType, Num, Plain}
 use Rattle.c_tree.specs.declared.token.Tok.TheVariants as tok
 use Rattle.c_tree.specs.Tree as tree
 use Rattle.c_tree.proofs.SameLists.{NotFirst, IsOne, Anything, same_each, same_separated}
@@ -238,12 +241,11 @@ end_of_func true t r s e = cc
 end_of_func false t r s e = type_first t tok.End r s refl e
 
 not_end : (x : tree.Item) (r s : List Token) → item_tokens x ++ r ≡ Fixed tok.End ∷ s → ⊥
-not_end (tree.Array n count bytes) r s e = cc
-not_end (tree.Var t n v) r s e = cc
 not_end (tree.Function f) r s e =
     let h = func_front f r in
     end_of_func f.is_static f.result (Named f.name ∷ Fixed tok.LeftParen
     ∷ (separated param_tokens f.params ++ (Fixed tok.RightParen ∷ (close_tokens f.body ++ r)))) s cc
+not_end _ r s e = cc
 
 -- ---- units
 

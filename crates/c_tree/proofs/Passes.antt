@@ -1,5 +1,7 @@
 -- The table passes tokens without a fault: its steps, numbers and types.
-use Rattle.c_tree.proofs.Common.{◌≡◌, ℕ, List, [], ◌∷◌, ◌++◌, map, refl, subst, append_assoc, AllByRecursion, Becomes, Move, Of, Stops, Symbol, Takes, first, here, move, opened, taken, Lexeme, lexeme, Fixed, Token, Wrong, each, separated, type_tokens, CReadFault, Tok, CType}
+use Rattle.c_tree.proofs.Common.{◌≡◌, ℕ, List, [], ◌∷◌, ◌++◌, map, refl, subst, append_assoc, AllByRecursion, Becomes, Move, Of, Stops}
+use Rattle.c_tree.proofs.Common.{Symbol, Takes, first, here, move, opened, taken, Lexeme, lexeme, Fixed, Token, Wrong, each, separated}
+use Rattle.c_tree.proofs.Common.{type_tokens, CReadFault, Tok, CType}
 use Rattle.c_tree.specs.declared.token.Tok.TheVariants as tok
 use Rattle.c_tree.specs.declared.token.Part.TheVariants as part
 use Rattle.c_tree.specs.declared.tree.CType.TheVariants as type
@@ -72,14 +74,11 @@ pub type_passes : (d : ℕ) (x : CType) (ss : List Symbol) (t : Token) (ts : Lis
     → Passes (Of part.InType d ∷ ss) (type_tokens x ++ (t ∷ ts))
 type_passes d type.Void ss t ts is next = become (λ p. refl) (take (λ p. refl) next)
 type_passes d type.FnPtr ss t ts is next = become (λ p. refl) (take (λ p. refl) next)
-type_passes d type.U32 ss t ts is next = become (λ p. refl) (take (λ p. refl) (no_star_comes d ss t ts is next))
-type_passes d type.U64 ss t ts is next = become (λ p. refl) (take (λ p. refl) (no_star_comes d ss t ts is next))
-type_passes d type.Mem ss t ts is next = become (λ p. refl) (take (λ p. refl) (no_star_comes d ss t ts is next))
-type_passes d type.Tab ss t ts is next = become (λ p. refl) (take (λ p. refl) (no_star_comes d ss t ts is next))
 type_passes d type.PtrU32 ss t ts is next = become (λ p. refl) (take (λ p. refl) (become (λ p. refl) (take (λ p. refl) next)))
 type_passes d type.PtrU64 ss t ts is next = become (λ p. refl) (take (λ p. refl) (become (λ p. refl) (take (λ p. refl) next)))
 type_passes d type.PtrMem ss t ts is next = become (λ p. refl) (take (λ p. refl) (become (λ p. refl) (take (λ p. refl) next)))
 type_passes d type.PtrTab ss t ts is next = become (λ p. refl) (take (λ p. refl) (become (λ p. refl) (take (λ p. refl) next)))
+type_passes d _ ss t ts is next = become (λ p. refl) (take (λ p. refl) (no_star_comes d ss t ts is next))
 
 no_stop_any : (s : Symbol) (ss new : List Symbol) (ls : List Lexeme) (f : CReadFault) → move s (first ls) ≡ Becomes new
     → (Stops (new ++ ss) ls f → ⊥) → Stops (s ∷ ss) ls f → ⊥

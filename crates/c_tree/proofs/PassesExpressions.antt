@@ -1,5 +1,9 @@
 -- The table passes the tokens of numbers, expressions and arguments without a fault.
-use Rattle.c_tree.proofs.Common.{◌≡◌, ℕ, zero, suc, ◌^◌, ◌<◌, true, List, [], ◌∷◌, ◌++◌, nat_lt, decimal, refl, ap, append_assoc, arith, nat_tests, digits_value-decimal, FoldsDigits, numerals_by_fold, tells_digits, AllDigits, Becomes, Of, One, OneNumber, Symbol, Takes, move, operation, value_of, FitsArg, FitsExpr, FitsNum, lexeme, Fixed, Token, arg_tokens, expr_tokens, num_token, op_token, COp, Num, N32, N64, Plain}
+use Rattle.c_tree.proofs.Common.{◌≡◌, ℕ, zero, suc, ◌^◌, ◌<◌, List, [], ◌∷◌, ◌++◌, decimal, refl, ap, append_assoc, arith}
+use Rattle.c_tree.proofs.Common.{digits_value-decimal, FoldsDigits, numerals_by_fold, tells_digits, AllDigits, Becomes, Of, One, OneNumber}
+use Rattle.c_tree.proofs.Common.{Symbol, Takes, move, operation, value_of, FitsArg, FitsExpr, FitsNum, lexeme, Fixed, Token, arg_tokens}
+use Rattle.c_tree.proofs.Common.{expr_tokens, num_token, op_token, COp, Num, N32, N64, Plain}
+use Rattle.w2c_base.proofs.Numbers.{below_is_found}
 use Rattle.c_tree.specs.declared.token.Tok.TheVariants as tok
 use Rattle.c_tree.specs.declared.token.Part.TheVariants as part
 use Rattle.c_tree.specs.declared.tree.COp.TheVariants as op
@@ -14,13 +18,10 @@ folds = record { empty = λ n. refl; more = λ n c cs k. ap (λ m. value_of m cs
 pub value_decimal : (n : ℕ) → n < 2 ^ 64 → value_of 0 (decimal n) ≡ n
 value_decimal n small = digits_value-decimal (numerals_by_fold (AllDigits 10) tells_digits value_of folds) n small
 
-below : (n m : ℕ) → n < m → nat_lt n m ≡ true
-below n m less = grind (arith, nat_tests)
-
 pub number_taken : (n : Num) → FitsNum n → (p : ℕ) → move OneNumber (lexeme p (num_token n)) ≡ Takes
-number_taken (N32 n) fits p = rw (value_decimal n (omega arith), below n (2 ^ 32) fits) refl
-number_taken (N64 n) fits p = rw (value_decimal n fits, below n (2 ^ 64) fits) refl
-number_taken (Plain n) fits p = rw (value_decimal n (omega arith), below n (2 ^ 32) fits) refl
+number_taken (N32 n) fits p = rw (value_decimal n (omega arith), below_is_found n (2 ^ 32) fits) refl
+number_taken (N64 n) fits p = rw (value_decimal n fits, below_is_found n (2 ^ 64) fits) refl
+number_taken (Plain n) fits p = rw (value_decimal n (omega arith), below_is_found n (2 ^ 32) fits) refl
 
 pub number_passes : (d : ℕ) (n : Num) (ss : List Symbol) (ts : List Token) → FitsNum n → Passes ss ts
     → Passes (Of part.InNumber d ∷ ss) (num_token n ∷ ts)
@@ -35,77 +36,34 @@ pub record BehindExpr (t : Token) : Type 0 where
 
 pub behind_op : (o : COp) → BehindExpr (op_token o)
 behind_op op.Add = record { no_index = λ d p. refl }
-behind_op op.Sub = record { no_index = λ d p. refl }
-behind_op op.Mul = record { no_index = λ d p. refl }
-behind_op op.Div = record { no_index = λ d p. refl }
-behind_op op.Rem = record { no_index = λ d p. refl }
-behind_op op.And = record { no_index = λ d p. refl }
-behind_op op.Or = record { no_index = λ d p. refl }
-behind_op op.Xor = record { no_index = λ d p. refl }
-behind_op op.Shl = record { no_index = λ d p. refl }
-behind_op op.Shr = record { no_index = λ d p. refl }
-behind_op op.Eq = record { no_index = λ d p. refl }
-behind_op op.Ne = record { no_index = λ d p. refl }
-behind_op op.Lt = record { no_index = λ d p. refl }
-behind_op op.Le = record { no_index = λ d p. refl }
-behind_op op.Gt = record { no_index = λ d p. refl }
-behind_op op.Ge = record { no_index = λ d p. refl }
+behind_op _ = record { no_index = λ d p. refl }
 
 pub op_passes : (d : ℕ) (o : COp) (ss : List Symbol) (ts : List Token) → Passes ss ts → Passes (Of part.InOperator d ∷ ss) (op_token o ∷ ts)
 op_passes d op.Add ss ts next = become (λ p. refl) (take (λ p. refl) next)
-op_passes d op.Sub ss ts next = become (λ p. refl) (take (λ p. refl) next)
-op_passes d op.Mul ss ts next = become (λ p. refl) (take (λ p. refl) next)
-op_passes d op.Div ss ts next = become (λ p. refl) (take (λ p. refl) next)
-op_passes d op.Rem ss ts next = become (λ p. refl) (take (λ p. refl) next)
-op_passes d op.And ss ts next = become (λ p. refl) (take (λ p. refl) next)
-op_passes d op.Or ss ts next = become (λ p. refl) (take (λ p. refl) next)
-op_passes d op.Xor ss ts next = become (λ p. refl) (take (λ p. refl) next)
-op_passes d op.Shl ss ts next = become (λ p. refl) (take (λ p. refl) next)
-op_passes d op.Shr ss ts next = become (λ p. refl) (take (λ p. refl) next)
-op_passes d op.Eq ss ts next = become (λ p. refl) (take (λ p. refl) next)
-op_passes d op.Ne ss ts next = become (λ p. refl) (take (λ p. refl) next)
-op_passes d op.Lt ss ts next = become (λ p. refl) (take (λ p. refl) next)
-op_passes d op.Le ss ts next = become (λ p. refl) (take (λ p. refl) next)
-op_passes d op.Gt ss ts next = become (λ p. refl) (take (λ p. refl) next)
-op_passes d op.Ge ss ts next = become (λ p. refl) (take (λ p. refl) next)
+op_passes d _ ss ts next = become (λ p. refl) (take (λ p. refl) next)
 
 -- ---- an operation behind its parenthesis
 
 in_group : (d : ℕ) (a : tree.Expr) (ss : List Symbol) (ts : List Token)
     → Passes (operation d ++ ss) (expr_tokens a ++ ts) → Passes (Of part.InGroup d ∷ ss) (expr_tokens a ++ ts)
-in_group d (tree.Name n) ss ts next = become (λ p. refl) next
-in_group d (tree.At n i) ss ts next = become (λ p. refl) next
 in_group d (tree.Number (N32 n)) ss ts next = become (λ p. refl) next
 in_group d (tree.Number (N64 n)) ss ts next = become (λ p. refl) next
 in_group d (tree.Number (Plain n)) ss ts next = become (λ p. refl) next
-in_group d (tree.To32 i) ss ts next = become (λ p. refl) next
-in_group d (tree.To64 i) ss ts next = become (λ p. refl) next
-in_group d (tree.Star n) ss ts next = become (λ p. refl) next
-in_group d (tree.Op o x y) ss ts next = become (λ p. refl) next
+in_group d _ ss ts next = become (λ p. refl) next
 
 in_agroup : (d : ℕ) (a : tree.Expr) (ss : List Symbol) (ts : List Token)
     → Passes (operation d ++ ss) (expr_tokens a ++ ts) → Passes (Of part.InAgroup d ∷ ss) (expr_tokens a ++ ts)
-in_agroup d (tree.Name n) ss ts next = become (λ p. refl) next
-in_agroup d (tree.At n i) ss ts next = become (λ p. refl) next
 in_agroup d (tree.Number (N32 n)) ss ts next = become (λ p. refl) next
 in_agroup d (tree.Number (N64 n)) ss ts next = become (λ p. refl) next
 in_agroup d (tree.Number (Plain n)) ss ts next = become (λ p. refl) next
-in_agroup d (tree.To32 i) ss ts next = become (λ p. refl) next
-in_agroup d (tree.To64 i) ss ts next = become (λ p. refl) next
-in_agroup d (tree.Star n) ss ts next = become (λ p. refl) next
-in_agroup d (tree.Op o x y) ss ts next = become (λ p. refl) next
+in_agroup d _ ss ts next = become (λ p. refl) next
 
 in_rgroup : (d : ℕ) (a : tree.Expr) (ss : List Symbol) (ts : List Token)
     → Passes (operation d ++ ss) (expr_tokens a ++ ts) → Passes (Of part.InRgroup d ∷ ss) (expr_tokens a ++ ts)
-in_rgroup d (tree.Name n) ss ts next = become (λ p. refl) next
-in_rgroup d (tree.At n i) ss ts next = become (λ p. refl) next
 in_rgroup d (tree.Number (N32 n)) ss ts next = become (λ p. refl) next
 in_rgroup d (tree.Number (N64 n)) ss ts next = become (λ p. refl) next
 in_rgroup d (tree.Number (Plain n)) ss ts next = become (λ p. refl) next
-in_rgroup d (tree.To32 i) ss ts next = become (λ p. refl) next
-in_rgroup d (tree.To64 i) ss ts next = become (λ p. refl) next
-in_rgroup d (tree.Star n) ss ts next = become (λ p. refl) next
-in_rgroup d (tree.Op o x y) ss ts next = become (λ p. refl) next
+in_rgroup d _ ss ts next = become (λ p. refl) next
 
 op_within : (o : COp) (a b : tree.Expr) (r : List Token)
     → (expr_tokens a ++ (op_token o ∷ (expr_tokens b ++ Fixed tok.RightParen ∷ []))) ++ r

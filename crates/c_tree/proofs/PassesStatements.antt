@@ -1,11 +1,14 @@
 -- The table passes the tokens of statements without a fault.
-use Rattle.c_tree.proofs.Common.{◌≡◌, ℕ, suc, ◌-◌, ◌<◌, List, [], ◌∷◌, ◌++◌, length, Some, None, refl, subst, append_assoc, arith, AllByRecursion, always, Of, One, Symbol, FitsArg, FitsNum, FitsStmt, Fixed, Named, Token, arg_tokens, case_tokens, each, goto_tokens, op_token, separated, stmt_tokens, type_tokens, CType, N32, N64, Plain}
+use Rattle.c_tree.proofs.Common.{◌≡◌, ℕ, suc, ◌-◌, ◌<◌, List, [], ◌∷◌, ◌++◌, length, Some, None, refl, subst, append_assoc, arith}
+use Rattle.c_tree.proofs.Common.{AllByRecursion, always, Of, One, Symbol, FitsArg, FitsNum, FitsStmt, Fixed, Named, Token, arg_tokens}
+use Rattle.c_tree.proofs.Common.{case_tokens, each, goto_tokens, op_token, separated, stmt_tokens, type_tokens, CType, N32, N64, Plain}
 use Rattle.c_tree.specs.declared.token.Tok.TheVariants as tok
 use Rattle.c_tree.specs.declared.token.Part.TheVariants as part
 use Rattle.c_tree.specs.Tree as tree
 use Rattle.c_tree.proofs.SameStatements.{through_front, call_front, if_front, switch_front}
 use Rattle.c_tree.proofs.Passes.{Passes, take, become, become_any, BehindType, type_passes, pieces_pass}
-use Rattle.c_tree.proofs.PassesExpressions.{BehindExpr, behind_op, paren, semicolon, number_passes, op_passes, expr_passes, arg_passes, right_passes}
+use Rattle.c_tree.proofs.PassesExpressions.{BehindExpr, behind_op, paren, semicolon, number_passes, op_passes, expr_passes, arg_passes}
+use Rattle.c_tree.proofs.PassesExpressions.{right_passes}
 
 -- ---- types and arguments with a comma between
 
@@ -20,8 +23,6 @@ types_pass d (x ∷ xs) ss ts some next =
 
 in_arguments : (d : ℕ) (a : tree.Arg) (ss : List Symbol) (ts : List Token)
     → Passes (Of part.InArgument d ∷ Of part.InAtail d ∷ ss) (arg_tokens a ++ ts) → Passes (Of part.InArguments d ∷ ss) (arg_tokens a ++ ts)
-in_arguments d (tree.Address n) ss ts next = become (λ p. refl) next
-in_arguments d (tree.OfFunction n) ss ts next = become (λ p. refl) next
 in_arguments d (tree.Value (tree.Name n)) ss ts next = become (λ p. refl) next
 in_arguments d (tree.Value (tree.At n i)) ss ts next = become (λ p. refl) next
 in_arguments d (tree.Value (tree.Number (N32 n))) ss ts next = become (λ p. refl) next
@@ -31,11 +32,10 @@ in_arguments d (tree.Value (tree.To32 i)) ss ts next = become (λ p. refl) next
 in_arguments d (tree.Value (tree.To64 i)) ss ts next = become (λ p. refl) next
 in_arguments d (tree.Value (tree.Star n)) ss ts next = become (λ p. refl) next
 in_arguments d (tree.Value (tree.Op o x y)) ss ts next = become (λ p. refl) next
+in_arguments d _ ss ts next = become (λ p. refl) next
 
 in_result : (d : ℕ) (a : tree.Arg) (ss : List Symbol) (ts : List Token) → Passes (Of part.InArgument d ∷ ss) (arg_tokens a ++ ts)
     → Passes (Of part.InResult d ∷ ss) (arg_tokens a ++ ts)
-in_result d (tree.Address n) ss ts next = become (λ p. refl) next
-in_result d (tree.OfFunction n) ss ts next = become (λ p. refl) next
 in_result d (tree.Value (tree.Name n)) ss ts next = become (λ p. refl) next
 in_result d (tree.Value (tree.At n i)) ss ts next = become (λ p. refl) next
 in_result d (tree.Value (tree.Number (N32 n))) ss ts next = become (λ p. refl) next
@@ -45,6 +45,7 @@ in_result d (tree.Value (tree.To32 i)) ss ts next = become (λ p. refl) next
 in_result d (tree.Value (tree.To64 i)) ss ts next = become (λ p. refl) next
 in_result d (tree.Value (tree.Star n)) ss ts next = become (λ p. refl) next
 in_result d (tree.Value (tree.Op o x y)) ss ts next = become (λ p. refl) next
+in_result d _ ss ts next = become (λ p. refl) next
 
 args_pass : (d : ℕ) (xs : List tree.Arg) (ss : List Symbol) (ts : List Token) → AllByRecursion (FitsArg (suc d)) xs
     → Passes ss (Fixed tok.RightParen ∷ ts)
@@ -91,7 +92,6 @@ cases_pass d (x ∷ xs) n ss ts all next =
 
 pub stmt_passes : (d : ℕ) (x : tree.Stmt) (ss : List Symbol) (ts : List Token) → FitsStmt (suc (suc d)) x → Passes ss ts
     → Passes (Of part.InStatement (suc (suc d)) ∷ ss) (stmt_tokens x ++ ts)
-stmt_passes d (tree.Label n) ss ts fits next = become (λ p. refl) (take (λ p. refl) (become (λ p. refl) (take (λ p. refl) (next))))
 stmt_passes d tree.Null ss ts fits next = become (λ p. refl) (take (λ p. refl) (next))
 stmt_passes d (tree.Set n a) ss ts fits next =
     become (λ p. refl)
@@ -158,43 +158,27 @@ stmt_passes d (tree.Switch i xs n) ss ts fits next =
     (take (λ p. refl)
     (take (λ p. refl) (expr_passes (suc (suc d)) i _ (Fixed tok.RightParen) _ fits.0 paren
     (take (λ p. refl) (take (λ p. refl) (cases_pass (suc (suc d)) xs n _ _ fits.1 (take (λ p. refl) (next)))))))))
-stmt_passes d tree.ReturnNone ss ts fits next = become (λ p. refl) (take (λ p. refl) (become (λ p. refl) (take (λ p. refl) (next))))
 stmt_passes d (tree.Return a) ss ts fits next =
     become (λ p. refl)
     (take (λ p. refl)
     (rw append_assoc (in_result (suc (suc d)) a (One tok.Semicolon ∷ ss) (Fixed tok.Semicolon ∷ ts)
     (arg_passes (suc d) a (One tok.Semicolon ∷ ss) (Fixed tok.Semicolon) ts fits semicolon (take (λ p. refl) next)))))
+stmt_passes d _ ss ts fits next = become (λ p. refl) (take (λ p. refl) (become (λ p. refl) (take (λ p. refl) (next))))
 
 in_statements : (d : ℕ) (x : tree.Stmt) (ss : List Symbol) (ts : List Token)
     → Passes (Of part.InStatement d ∷ Of part.InStatements d ∷ ss) (stmt_tokens x ++ ts)
     → Passes (Of part.InStatements d ∷ ss) (stmt_tokens x ++ ts)
-in_statements d (tree.Label n) ss ts next = become (λ p. refl) next
-in_statements d tree.Null ss ts next = become (λ p. refl) next
-in_statements d (tree.Set n a) ss ts next = become (λ p. refl) next
-in_statements d (tree.SetStar n i) ss ts next = become (λ p. refl) next
 in_statements d (tree.Call None (tree.Called n) xs) ss ts next = become (λ p. refl) next
 in_statements d (tree.Call None (tree.Through t n) xs) ss ts next = become (λ p. refl) next
 in_statements d (tree.Call (Some n) f xs) ss ts next = become (λ p. refl) next
-in_statements d (tree.Goto n) ss ts next = become (λ p. refl) next
-in_statements d (tree.If o a b n) ss ts next = become (λ p. refl) next
-in_statements d (tree.Switch i xs n) ss ts next = become (λ p. refl) next
-in_statements d tree.ReturnNone ss ts next = become (λ p. refl) next
-in_statements d (tree.Return a) ss ts next = become (λ p. refl) next
+in_statements d _ ss ts next = become (λ p. refl) next
 
 in_body : (d : ℕ) (x : tree.Stmt) (ss : List Symbol) (ts : List Token) → Passes (Of part.InStatements d ∷ ss) (stmt_tokens x ++ ts)
     → Passes (Of part.InBody d ∷ ss) (stmt_tokens x ++ ts)
-in_body d (tree.Label n) ss ts next = become (λ p. refl) next
-in_body d tree.Null ss ts next = become (λ p. refl) next
-in_body d (tree.Set n a) ss ts next = become (λ p. refl) next
-in_body d (tree.SetStar n i) ss ts next = become (λ p. refl) next
 in_body d (tree.Call None (tree.Called n) xs) ss ts next = become (λ p. refl) next
 in_body d (tree.Call None (tree.Through t n) xs) ss ts next = become (λ p. refl) next
 in_body d (tree.Call (Some n) f xs) ss ts next = become (λ p. refl) next
-in_body d (tree.Goto n) ss ts next = become (λ p. refl) next
-in_body d (tree.If o a b n) ss ts next = become (λ p. refl) next
-in_body d (tree.Switch i xs n) ss ts next = become (λ p. refl) next
-in_body d tree.ReturnNone ss ts next = become (λ p. refl) next
-in_body d (tree.Return a) ss ts next = become (λ p. refl) next
+in_body d _ ss ts next = become (λ p. refl) next
 
 stmts_pass : (d : ℕ) (xs : List tree.Stmt) (ss : List Symbol) (ts : List Token) → AllByRecursion (FitsStmt (suc (suc d))) xs
     → Passes ss (Fixed tok.RightBrace ∷ ts)

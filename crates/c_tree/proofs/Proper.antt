@@ -1,23 +1,20 @@
 -- A token that a text may hold is read from its own text as itself, where what follows ends it.
-use Rattle.c_tree.proofs.Common.{◌≡◌, ℕ, ◌+◌, Bool, true, false, cond, not, ◌&&◌, ◌||◌, List, [], ◌∷◌, ◌++◌, map, length, IsTrue, nat_le, ◌==◌, bytes_eq, sym, refl, ap, ◌∙◌, subst, arith, rules, not-true, nat_tests, AllByRecursion, list_all, list_any, all_append, of_each, Begins, Lexeme, and_then, are_digits, comment_end, comment_front, front, is_blank, is_digit, is_letter, is_word_byte, key_word_among, key_words, lexeme, lexemes, long_signs, longer, number_token, one_sign, other_words, past, run, run_token, short_signs, sign_front, two_sign, word_token, Fixed, Named, Number, Token, Wrong, fixed_text, same_tok, suffix_text, token_text, IsName, Tok}
+use Rattle.c_tree.proofs.Common.{◌≡◌, ℕ, ◌+◌, Bool, true, false, cond, not, ◌&&◌, ◌||◌, List, [], ◌∷◌, ◌++◌, map, length, IsTrue, nat_le}
+use Rattle.c_tree.proofs.Common.{◌==◌, bytes_eq, sym, refl, ap, ◌∙◌, subst, arith, rules, not-true, nat_tests, AllByRecursion, list_all}
+use Rattle.c_tree.proofs.Common.{list_any, all_append, of_each, Begins, Lexeme, and_then, are_digits, comment_end, comment_front, front}
+use Rattle.c_tree.proofs.Common.{is_blank, is_digit, is_letter, is_word_byte, key_word_among, key_words, lexeme, lexemes, long_signs}
+use Rattle.c_tree.proofs.Common.{longer, number_token, one_sign, other_words, past, run, run_token, short_signs, sign_front, two_sign}
+use Rattle.c_tree.proofs.Common.{word_token, Fixed, Named, Number, Token, Wrong, fixed_text, same_tok, suffix_text, token_text, IsName, Tok}
+use Rattle.c_tree.proofs.Common.{or_parts}
 use denote.Enum.Bare.{same_true}
 use Rattle.c_tree.specs.contracts.token.Tok.{the_type}
 use Rattle.c_tree.specs.declared.token.Tok.TheVariants as tok
 use Rattle.c_tree.specs.declared.token.Suffix.{Suffix}
-use Rattle.c_tree.specs.declared.token.Suffix.TheVariants.{OfPlain, Of32, Of64}
+use Rattle.c_tree.specs.declared.token.Suffix.TheVariants.{OfPlain}
 use Rattle.w2c_base.proofs.Tests.{all_join}
+use Rattle.w2c_base.proofs.Conjunctions.{both_hold}
 
 -- ---- tests
-
-pub both_true : (a b : Bool) → a && b ≡ true → (a ≡ true) × (b ≡ true)
-both_true true true e = (refl, refl)
-both_true true false e = absurd cc
-both_true false b e = absurd cc
-
-pub neither_true : (a b : Bool) → a || b ≡ false → (a ≡ false) × (b ≡ false)
-neither_true false false e = (refl, refl)
-neither_true false true e = absurd cc
-neither_true true b e = absurd cc
 
 -- ---- what a text may hold
 
@@ -51,12 +48,12 @@ abbrev pub IsReadAnywhere : Token → Type 0
 IsReadAnywhere t = (rest : List ℕ) (place : ℕ) → (q : ℕ) × (lexemes 0 place (token_text t ++ rest) ≡ lexeme place t ∷ lexemes 0 q rest)
 
 no_word : (b : ℕ) → ends_token b ≡ true → is_word_byte b ≡ false
-no_word b e = (neither_true _ _ (not-true _ e)).0
+no_word b e = (or_parts _ _ (not-true _ e)).0
 
 no_second : (b : ℕ) → ends_token b ≡ true → (b == 42 ≡ false) × (b == 60 ≡ false) × (b == 61 ≡ false) × (b == 62 ≡ false)
 no_second b e =
     let h : b == 42 || (nat_le 60 b && nat_le b 62) ≡ false =
-    (neither_true (is_word_byte b) (b == 42 || (nat_le 60 b && nat_le b 62)) (not-true _ e)).1 in
+    (or_parts (is_word_byte b) (b == 42 || (nat_le 60 b && nat_le b 62)) (not-true _ e)).1 in
     (grind (arith, nat_tests), grind (arith, nat_tests), grind (arith, nat_tests), grind (arith, nat_tests))
 
 -- ---- words
@@ -72,7 +69,7 @@ run_stops (b ∷ rest) stop = rw (no_word b stop) refl
 run_all : (xs rest : List ℕ) → list_all is_word_byte xs ≡ true → EndsToken rest → run is_word_byte (xs ++ rest) ≡ xs
 run_all [] rest all stop = run_stops rest stop
 run_all (x ∷ xs) rest all stop =
-    let h = both_true (is_word_byte x) (list_all is_word_byte xs) all in
+    let h = both_hold (is_word_byte x) (list_all is_word_byte xs) all in
     rw h.0 (ap (λ t. x ∷ t) (run_all xs rest h.1 stop))
 
 letter_blank : (b : ℕ) → is_letter b ≡ true → is_blank b ≡ false
@@ -107,54 +104,50 @@ word_read t b bs rest place letter all is starts stop =
 not_among : (ts : List Tok) (w : List ℕ) → list_any (bytes_eq w) (map fixed_text ts ++ other_words) ≡ false → key_word_among ts w ≡ Named w
 not_among [] w other = rw other refl
 not_among (t ∷ ts) w other =
-    let h = neither_true (bytes_eq w (fixed_text t)) (list_any (bytes_eq w) (map fixed_text ts ++ other_words)) other in
+    let h = or_parts (bytes_eq w (fixed_text t)) (list_any (bytes_eq w) (map fixed_text ts ++ other_words)) other in
     rw h.0 (not_among ts w h.1)
 
 name_read : (n : List ℕ) → IsName n → IsRead (Named n)
 name_read [] is rest place stop = absurd cc
 name_read (b ∷ bs) is rest place stop =
-    let h = both_true _ _ is in
-    let g = both_true _ _ h.0 in
+    let h = both_hold _ _ is in
+    let g = both_hold _ _ h.0 in
     word_read (Named (b ∷ bs)) b bs rest place g.0 g.1 (not_among key_words (b ∷ bs) (not-true _ h.1)) (λ _ _. refl) stop
 
 -- ---- numbers
 
 word_suffix : (s : Suffix) → list_all is_word_byte (suffix_text s) ≡ true
 word_suffix OfPlain = refl
-word_suffix Of32 = refl
-word_suffix Of64 = refl
+word_suffix _ = refl
 
 digit_word : (b : ℕ) → is_digit b ≡ true → is_word_byte b ≡ true
 digit_word b h = grind (arith, nat_tests)
 
 pub digits_words : (ds : List ℕ) → list_all is_digit ds ≡ true → list_all is_word_byte ds ≡ true
 digits_words [] all = refl
-digits_words (d ∷ ds) all = let h = both_true (is_digit d) (list_all is_digit ds) all in rw (digit_word d h.0, digits_words ds h.1) refl
+digits_words (d ∷ ds) all = let h = both_hold (is_digit d) (list_all is_digit ds) all in rw (digit_word d h.0, digits_words ds h.1) refl
 
 pub all_digits : (ds : List ℕ) → are_digits ds ≡ true → list_all is_digit ds ≡ true
 all_digits [] e = absurd cc
 all_digits (d ∷ []) e = rw e refl
 all_digits (d ∷ x ∷ ds) e =
-    let h = both_true (is_digit d && not (d == 48)) (list_all is_digit (x ∷ ds)) e in let g = both_true (is_digit d) (not (d == 48)) h.0 in
+    let h = both_hold (is_digit d && not (d == 48)) (list_all is_digit (x ∷ ds)) e in let g = both_hold (is_digit d) (not (d == 48)) h.0 in
     rw g.0 h.1
 
 -- no suffix begins with a digit
 run_digits : (ds : List ℕ) (s : Suffix) → list_all is_digit ds ≡ true → run is_digit (ds ++ suffix_text s) ≡ ds
 run_digits [] OfPlain all = refl
-run_digits [] Of32 all = refl
-run_digits [] Of64 all = refl
-run_digits (d ∷ ds) s all = let h = both_true (is_digit d) (list_all is_digit ds) all in rw h.0 (ap (λ t. d ∷ t) (run_digits ds s h.1))
+run_digits [] _ all = refl
+run_digits (d ∷ ds) s all = let h = both_hold (is_digit d) (list_all is_digit ds) all in rw h.0 (ap (λ t. d ∷ t) (run_digits ds s h.1))
 
 past_digits : (ds : List ℕ) (s : Suffix) → list_all is_digit ds ≡ true → past is_digit (ds ++ suffix_text s) ≡ suffix_text s
 past_digits [] OfPlain all = refl
-past_digits [] Of32 all = refl
-past_digits [] Of64 all = refl
-past_digits (d ∷ ds) s all = let h = both_true (is_digit d) (list_all is_digit ds) all in rw h.0 (past_digits ds s h.1)
+past_digits [] _ all = refl
+past_digits (d ∷ ds) s all = let h = both_hold (is_digit d) (list_all is_digit ds) all in rw h.0 (past_digits ds s h.1)
 
 suffix_again : (ds : List ℕ) (s : Suffix) → are_digits ds ≡ true → number_token ds (suffix_text s) ≡ Number s ds
 suffix_again ds OfPlain e = rw e refl
-suffix_again ds Of32 e = rw e refl
-suffix_again ds Of64 e = rw e refl
+suffix_again ds _ e = rw e refl
 
 run_is : (ds : List ℕ) (s : Suffix) → are_digits ds ≡ true → run_token (ds ++ suffix_text s) ≡ Number s ds
 run_is ds s e = let all = all_digits ds e in rw (run_digits ds s all, past_digits ds s all) (suffix_again ds s e)
@@ -162,7 +155,7 @@ run_is ds s e = let all = all_digits ds e in rw (run_digits ds s all, past_digit
 number_read : (s : Suffix) (ds : List ℕ) → are_digits ds ≡ true → IsRead (Number s ds)
 number_read s [] e rest place stop = absurd cc
 number_read s (d ∷ ds) e rest place stop =
-    let all = both_true (is_digit d) (list_all is_digit ds) (all_digits (d ∷ ds) e) in
+    let all = both_hold (is_digit d) (list_all is_digit ds) (all_digits (d ∷ ds) e) in
     let w : List ℕ = ds ++ suffix_text s in
     let words : list_all is_word_byte w ≡ true = all_join is_word_byte ds (suffix_text s) (digits_words ds all.1) (word_suffix s) in
     let whole : run is_word_byte (w ++ rest) ≡ w = run_all w rest words stop in
@@ -213,9 +206,9 @@ sign_is b t (c ∷ rest) is stop =
 
 short_read : (t : Tok) → IsShort t → IsRead (Fixed t)
 short_read t s rest place stop =
-    let h = neither_true (is_blank s.0) (is_letter s.0 || (is_digit s.0 || s.0 == 35)) (not-true _ s.2) in
-    let g = neither_true (is_letter s.0) (is_digit s.0 || s.0 == 35) h.1 in
-    let k = neither_true (is_digit s.0) (s.0 == 35) g.1 in
+    let h = or_parts (is_blank s.0) (is_letter s.0 || (is_digit s.0 || s.0 == 35)) (not-true _ s.2) in
+    let g = or_parts (is_letter s.0) (is_digit s.0 || s.0 == 35) h.1 in
+    let k = or_parts (is_digit s.0) (s.0 == 35) g.1 in
     let f : front s.0 rest ≡ Begins (Fixed t) 0 = rw (h.0, g.0, k.0, k.1) (sign_is s.0 (Fixed t) rest s.3 stop) in
     rw s.1 (front_read (Fixed t) s.0 [] rest place f s.4)
 

@@ -1,5 +1,6 @@
 -- Expressions and arguments with the same tokens are the same.
-use Rattle.c_tree.proofs.Common.{◌≡◌, ℕ, zero, suc, List, [], ◌∷◌, ◌++◌, append_assoc, FitsArg, FitsExpr, Fixed, Named, Token, arg_tokens, expr_tokens, num_token, op_token, Tok, Num, N32, N64, Plain}
+use Rattle.c_tree.proofs.Common.{◌≡◌, ℕ, zero, suc, List, [], ◌∷◌, ◌++◌, append_assoc, FitsArg, FitsExpr, Fixed, Named, Token, arg_tokens}
+use Rattle.c_tree.proofs.Common.{expr_tokens, num_token, op_token, Tok, Num, N32}
 use Rattle.c_tree.specs.declared.token.Tok.TheVariants as tok
 use Rattle.c_tree.specs.Tree as tree
 use Rattle.c_tree.proofs.SameLists.{NotFirst}
@@ -9,23 +10,18 @@ use Rattle.c_tree.proofs.SameWords.{same_num, same_op, op_no_bracket}
 
 pub num_not_fixed : (n : Num) (t : Tok) → num_token n ≡ Fixed t → ⊥
 num_not_fixed (N32 n) t e = cc
-num_not_fixed (N64 n) t e = cc
-num_not_fixed (Plain n) t e = cc
+num_not_fixed _ t e = cc
 
 pub num_not_named : (n : Num) (m : List ℕ) → num_token n ≡ Named m → ⊥
 num_not_named (N32 n) m e = cc
-num_not_named (N64 n) m e = cc
-num_not_named (Plain n) m e = cc
+num_not_named _ m e = cc
 
 -- an expression begins with a name, a number or a parenthesis
 pub expr_first : (x : tree.Expr) (t : Tok) (r s : List Token) → (t ≡ tok.LeftParen → ⊥) → expr_tokens x ++ r ≡ Fixed t ∷ s → ⊥
 expr_first (tree.Name n) t r s apart e = cc
 expr_first (tree.At n i) t r s apart e = cc
 expr_first (tree.Number n) t r s apart e = num_not_fixed n t cc
-expr_first (tree.To32 x) t r s apart e = apart cc
-expr_first (tree.To64 x) t r s apart e = apart cc
-expr_first (tree.Star n) t r s apart e = apart cc
-expr_first (tree.Op o a b) t r s apart e = apart cc
+expr_first _ t r s apart e = apart cc
 
 -- the tokens of an operation's left side, in front of the others
 within : (x y r : List Token) (t u : Token) → (x ++ (t ∷ (y ++ u ∷ []))) ++ r ≡ x ++ (t ∷ (y ++ (u ∷ r)))
@@ -50,7 +46,6 @@ same_expr (suc d) (tree.At n i) (tree.At m j) r s p q here there e =
     let h = same_expr d i j (Fixed tok.RightBracket ∷ r) (Fixed tok.RightBracket ∷ s) p q (λ m f. cc) (λ m f. cc) g in
     (cc, cc)
 same_expr (suc d) (tree.At n i) (tree.Number m) r s p q here there e = absurd (num_not_named m n cc)
-same_expr (suc d) (tree.At n i) y r s p q here there e = absurd cc
 same_expr (suc d) (tree.Number n) (tree.Name m) r s p q here there e = absurd (num_not_named n m cc)
 same_expr (suc d) (tree.Number n) (tree.At m j) r s p q here there e = absurd (num_not_named n m cc)
 same_expr (suc d) (tree.Number n) (tree.Number m) r s p q here there e = let h = same_num n m p q cc in (cc, cc)
@@ -61,21 +56,18 @@ same_expr (suc d) (tree.To32 i) (tree.Op o a b) r s p q here there e =
     absurd (expr_first a tok.WordU32 _ _ (λ f. cc) (let h = within (expr_tokens a) (expr_tokens b) s (op_token o) (Fixed tok.RightParen) in
     let g : expr_tokens a ++ (op_token o ∷ (expr_tokens b ++ (Fixed tok.RightParen ∷ s)))
     ≡ Fixed tok.WordU32 ∷ Fixed tok.RightParen ∷ (expr_tokens i ++ r) = cc in g))
-same_expr (suc d) (tree.To32 i) y r s p q here there e = absurd cc
 same_expr (suc d) (tree.To64 i) (tree.Number m) r s p q here there e = absurd (num_not_fixed m tok.LeftParen cc)
 same_expr (suc d) (tree.To64 i) (tree.To64 j) r s p q here there e = let h = same_expr d i j r s p q here there cc in (cc, h.1)
 same_expr (suc d) (tree.To64 i) (tree.Op o a b) r s p q here there e =
     absurd (expr_first a tok.WordU64 _ _ (λ f. cc) (let h = within (expr_tokens a) (expr_tokens b) s (op_token o) (Fixed tok.RightParen) in
     let g : expr_tokens a ++ (op_token o ∷ (expr_tokens b ++ (Fixed tok.RightParen ∷ s)))
     ≡ Fixed tok.WordU64 ∷ Fixed tok.RightParen ∷ (expr_tokens i ++ r) = cc in g))
-same_expr (suc d) (tree.To64 i) y r s p q here there e = absurd cc
 same_expr (suc d) (tree.Star n) (tree.Number m) r s p q here there e = absurd (num_not_fixed m tok.LeftParen cc)
 same_expr (suc d) (tree.Star n) (tree.Star m) r s p q here there e = (cc, cc)
 same_expr (suc d) (tree.Star n) (tree.Op o a b) r s p q here there e =
     absurd (expr_first a tok.Star _ _ (λ f. cc) (let h = within (expr_tokens a) (expr_tokens b) s (op_token o) (Fixed tok.RightParen) in
     let g : expr_tokens a ++ (op_token o ∷ (expr_tokens b ++ (Fixed tok.RightParen ∷ s)))
     ≡ Fixed tok.Star ∷ Named n ∷ Fixed tok.RightParen ∷ r = cc in g))
-same_expr (suc d) (tree.Star n) y r s p q here there e = absurd cc
 same_expr (suc d) (tree.Op o a b) (tree.Number m) r s p q here there e = absurd (num_not_fixed m tok.LeftParen cc)
 same_expr (suc d) (tree.Op o a b) (tree.To32 j) r s p q here there e =
     absurd (expr_first a tok.WordU32 _ _ (λ f. cc) (let h = within (expr_tokens a) (expr_tokens b) r (op_token o) (Fixed tok.RightParen) in
@@ -98,7 +90,7 @@ same_expr (suc d) (tree.Op o a b) (tree.Op v x y) r s p q here there e =
     let operator = same_op o v cc in
     let right = same_expr d b y (Fixed tok.RightParen ∷ r) (Fixed tok.RightParen ∷ s) p.1 q.1 (λ m f. cc) (λ m f. cc) cc in
     (cc, cc)
-same_expr (suc d) (tree.Op o a b) y r s p q here there e = absurd cc
+same_expr (suc d) _ y r s p q here there e = absurd cc
 
 -- ---- arguments
 

@@ -1,5 +1,7 @@
 -- Statements with the same tokens are the same.
-use Rattle.c_tree.proofs.Common.{◌≡◌, ℕ, ◌-◌, List, [], ◌∷◌, ◌++◌, Some, None, refl, ap, ◌∙◌, append_assoc, AllByRecursion, always, FitsArg, FitsExpr, FitsNum, FitsStmt, Fixed, Named, Token, arg_tokens, call_tokens, callee_tokens, case_tokens, each, expr_tokens, goto_tokens, op_token, separated, stmt_tokens, through_tokens, type_tokens, COp, CType}
+use Rattle.c_tree.proofs.Common.{◌≡◌, ℕ, ◌-◌, List, [], ◌∷◌, ◌++◌, Some, None, refl, ap, ◌∙◌, append_assoc, AllByRecursion, always, FitsArg}
+use Rattle.c_tree.proofs.Common.{FitsExpr, FitsNum, FitsStmt, Fixed, Named, Token, arg_tokens, call_tokens, callee_tokens, case_tokens}
+use Rattle.c_tree.proofs.Common.{each, expr_tokens, goto_tokens, op_token, separated, stmt_tokens, through_tokens, type_tokens, COp, CType}
 use Rattle.c_tree.specs.declared.token.Tok.TheVariants as tok
 use Rattle.c_tree.specs.Tree as tree
 use Rattle.c_tree.proofs.SameLists.{NotFirst, IsOne, Anything, same_each, same_separated}
@@ -167,17 +169,12 @@ same_switch d x y xs ys n m r s p q e =
 pub same_stmt : (d : ℕ) → IsOne stmt_tokens (FitsStmt d) Anything
 same_stmt d (tree.Label n) (tree.Label m) r s p q here there e = (cc, cc)
 same_stmt d (tree.Label n) (tree.Call None (tree.Called m) ys) r s p q here there e = absurd cc
-same_stmt d (tree.Label n) (tree.Call None (tree.Through u m) ys) r s p q here there e = absurd cc
-same_stmt d (tree.Label n) (tree.Call (Some m) g ys) r s p q here there e = absurd cc
 same_stmt d (tree.Label n) y r s p q here there e = absurd cc
 same_stmt d tree.Null tree.Null r s p q here there e = (refl, cc)
 same_stmt d tree.Null (tree.Call None (tree.Called m) ys) r s p q here there e = absurd cc
-same_stmt d tree.Null (tree.Call None (tree.Through u m) ys) r s p q here there e = absurd cc
-same_stmt d tree.Null (tree.Call (Some m) g ys) r s p q here there e = absurd cc
 same_stmt d tree.Null y r s p q here there e = absurd cc
 same_stmt d (tree.Set n a) (tree.Set m b) r s p q here there e = let h = same_last d a b r s p q cc in (cc, h.1)
 same_stmt d (tree.Set n a) (tree.Call None (tree.Called m) ys) r s p q here there e = absurd cc
-same_stmt d (tree.Set n a) (tree.Call None (tree.Through u m) ys) r s p q here there e = absurd cc
 same_stmt d (tree.Set n a) (tree.Call (Some m) g ys) r s p q here there e =
     absurd (arg_no_call a g ys r s (let h = append_assoc (arg_tokens a) (Fixed tok.Semicolon ∷ []) r in cc))
 same_stmt d (tree.Set n a) y r s p q here there e = absurd cc
@@ -187,50 +184,35 @@ same_stmt d (tree.SetStar n i) (tree.SetStar m j) r s p q here there e =
     let h = same_expr d i j (Fixed tok.Semicolon ∷ r) (Fixed tok.Semicolon ∷ s) p q (λ ts f. cc) (λ ts f. cc) cc in
     (cc, cc)
 same_stmt d (tree.SetStar n i) (tree.Call None (tree.Called m) ys) r s p q here there e = absurd cc
-same_stmt d (tree.SetStar n i) (tree.Call None (tree.Through u m) ys) r s p q here there e = absurd cc
-same_stmt d (tree.SetStar n i) (tree.Call (Some m) g ys) r s p q here there e = absurd cc
 same_stmt d (tree.SetStar n i) y r s p q here there e = absurd cc
 same_stmt d (tree.Goto n) (tree.Goto m) r s p q here there e = (cc, cc)
 same_stmt d (tree.Goto n) (tree.Call None (tree.Called m) ys) r s p q here there e = absurd cc
-same_stmt d (tree.Goto n) (tree.Call None (tree.Through u m) ys) r s p q here there e = absurd cc
-same_stmt d (tree.Goto n) (tree.Call (Some m) g ys) r s p q here there e = absurd cc
 same_stmt d (tree.Goto n) y r s p q here there e = absurd cc
 same_stmt d (tree.If o a b n) (tree.If v x y m) r s p q here there e = same_if d o v a b x y n m r s p q e
 same_stmt d (tree.If o a b n) (tree.Call None (tree.Called m) ys) r s p q here there e = absurd cc
-same_stmt d (tree.If o a b n) (tree.Call None (tree.Through u m) ys) r s p q here there e = absurd cc
-same_stmt d (tree.If o a b n) (tree.Call (Some m) g ys) r s p q here there e = absurd cc
 same_stmt d (tree.If o a b n) y r s p q here there e = absurd cc
 same_stmt d (tree.Switch i xs n) (tree.Switch j ys m) r s p q here there e = same_switch d i j xs ys n m r s p q e
 same_stmt d (tree.Switch i xs n) (tree.Call None (tree.Called m) ys) r s p q here there e = absurd cc
-same_stmt d (tree.Switch i xs n) (tree.Call None (tree.Through u m) ys) r s p q here there e = absurd cc
-same_stmt d (tree.Switch i xs n) (tree.Call (Some m) g ys) r s p q here there e = absurd cc
 same_stmt d (tree.Switch i xs n) y r s p q here there e = absurd cc
 same_stmt d tree.ReturnNone tree.ReturnNone r s p q here there e = (refl, cc)
 same_stmt d tree.ReturnNone (tree.Return b) r s p q here there e =
     absurd (arg_first b tok.Semicolon (Fixed tok.Semicolon ∷ s) r (λ f. cc) (λ f. cc)
     (let h = append_assoc (arg_tokens b) (Fixed tok.Semicolon ∷ []) s in cc))
 same_stmt d tree.ReturnNone (tree.Call None (tree.Called m) ys) r s p q here there e = absurd cc
-same_stmt d tree.ReturnNone (tree.Call None (tree.Through u m) ys) r s p q here there e = absurd cc
-same_stmt d tree.ReturnNone (tree.Call (Some m) g ys) r s p q here there e = absurd cc
 same_stmt d tree.ReturnNone y r s p q here there e = absurd cc
 same_stmt d (tree.Return a) (tree.Return b) r s p q here there e = let h = same_last d a b r s p q cc in (cc, h.1)
 same_stmt d (tree.Return a) tree.ReturnNone r s p q here there e =
     absurd (arg_first a tok.Semicolon (Fixed tok.Semicolon ∷ r) s (λ f. cc) (λ f. cc)
     (let h = append_assoc (arg_tokens a) (Fixed tok.Semicolon ∷ []) r in cc))
 same_stmt d (tree.Return a) (tree.Call None (tree.Called m) ys) r s p q here there e = absurd cc
-same_stmt d (tree.Return a) (tree.Call None (tree.Through u m) ys) r s p q here there e = absurd cc
-same_stmt d (tree.Return a) (tree.Call (Some m) g ys) r s p q here there e = absurd cc
 same_stmt d (tree.Return a) y r s p q here there e = absurd cc
 same_stmt d (tree.Call None (tree.Called n) xs) (tree.Call None g ys) r s p q here there e =
     let h = same_call d (tree.Called n) g xs ys r s p.1 q.1 e in (cc, h.2)
-same_stmt d (tree.Call None (tree.Called n) xs) (tree.Call (Some m) g ys) r s p q here there e = absurd cc
 same_stmt d (tree.Call None (tree.Called n) xs) y r s p q here there e = absurd cc
 same_stmt d (tree.Call None (tree.Through t n) xs) (tree.Call None g ys) r s p q here there e =
     let h = same_call d (tree.Through t n) g xs ys r s p.1 q.1 e in (cc, h.2)
-same_stmt d (tree.Call None (tree.Through t n) xs) (tree.Call (Some m) g ys) r s p q here there e = absurd cc
 same_stmt d (tree.Call None (tree.Through t n) xs) y r s p q here there e = absurd cc
 same_stmt d (tree.Call (Some n) f xs) (tree.Call None (tree.Called m) ys) r s p q here there e = absurd cc
-same_stmt d (tree.Call (Some n) f xs) (tree.Call None (tree.Through u m) ys) r s p q here there e = absurd cc
 same_stmt d (tree.Call (Some n) f xs) (tree.Call (Some m) g ys) r s p q here there e =
     let h = same_call (d - 1) f g xs ys r s p.1 q.1 cc in (cc, h.2)
 same_stmt d (tree.Call (Some n) f xs) (tree.Set m b) r s p q here there e =
@@ -239,18 +221,10 @@ same_stmt d (tree.Call (Some n) f xs) y r s p q here there e = absurd cc
 
 -- a statement begins with no closing brace
 pub stmt_no_brace : (x : tree.Stmt) (r s : List Token) → stmt_tokens x ++ r ≡ Fixed tok.RightBrace ∷ s → ⊥
-stmt_no_brace (tree.Label n) r s e = cc
-stmt_no_brace tree.Null r s e = cc
-stmt_no_brace (tree.Set n a) r s e = cc
-stmt_no_brace (tree.SetStar n i) r s e = cc
 stmt_no_brace (tree.Call None (tree.Called n) xs) r s e = cc
 stmt_no_brace (tree.Call None (tree.Through t n) xs) r s e = cc
 stmt_no_brace (tree.Call (Some n) f xs) r s e = cc
-stmt_no_brace (tree.Goto n) r s e = cc
-stmt_no_brace (tree.If o a b n) r s e = cc
-stmt_no_brace (tree.Switch i xs n) r s e = cc
-stmt_no_brace tree.ReturnNone r s e = cc
-stmt_no_brace (tree.Return a) r s e = cc
+stmt_no_brace _ r s e = cc
 
 -- and with no type
 pub stmt_no_type : (x : tree.Stmt) (t : CType) (r s : List Token) → type_tokens t ++ r ≡ stmt_tokens x ++ s → ⊥
@@ -264,5 +238,4 @@ stmt_no_type (tree.Call (Some n) f xs) t r s e = type_no_name t n r _ e
 stmt_no_type (tree.Goto n) t r s e = type_first t tok.WordGoto r _ refl e
 stmt_no_type (tree.If o a b n) t r s e = type_first t tok.WordIf r _ refl e
 stmt_no_type (tree.Switch i xs n) t r s e = type_first t tok.WordSwitch r _ refl e
-stmt_no_type tree.ReturnNone t r s e = type_first t tok.WordReturn r _ refl e
-stmt_no_type (tree.Return a) t r s e = type_first t tok.WordReturn r _ refl e
+stmt_no_type _ t r s e = type_first t tok.WordReturn r _ refl e

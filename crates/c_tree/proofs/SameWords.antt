@@ -1,5 +1,6 @@
 -- Types, numbers and operators with the same tokens are the same.
-use Rattle.c_tree.proofs.Common.{◌≡◌, ℕ, Bool, true, false, List, [], ◌∷◌, ◌++◌, refl, ap, arith, decimal_injective, FitsNum, Fixed, Named, Token, num_token, op_token, type_tokens, Tok, COp, CType, Num, N32, N64, Plain}
+use Rattle.c_tree.proofs.Common.{◌≡◌, ℕ, Bool, true, false, List, [], ◌∷◌, ◌++◌, refl, ap, arith, decimal_injective, FitsNum, Fixed, Named}
+use Rattle.c_tree.proofs.Common.{Token, num_token, op_token, type_tokens, Tok, COp, CType, Num, N32, N64, Plain}
 use Rattle.c_tree.specs.declared.token.Tok.TheVariants as tok
 use Rattle.c_tree.specs.declared.tree.CType.TheVariants as type
 use Rattle.c_tree.specs.declared.tree.COp.TheVariants as op
@@ -11,12 +12,7 @@ pub same_num : (x y : Num) → FitsNum x → FitsNum y → num_token x ≡ num_t
 same_num (N32 n) (N32 m) p q e = ap N32 (decimal_injective n m (omega arith) (omega arith) cc)
 same_num (N64 n) (N64 m) p q e = ap N64 (decimal_injective n m p q cc)
 same_num (Plain n) (Plain m) p q e = ap Plain (decimal_injective n m (omega arith) (omega arith) cc)
-same_num (N32 n) (N64 m) p q e = absurd cc
-same_num (N32 n) (Plain m) p q e = absurd cc
-same_num (N64 n) (N32 m) p q e = absurd cc
-same_num (N64 n) (Plain m) p q e = absurd cc
-same_num (Plain n) (N32 m) p q e = absurd cc
-same_num (Plain n) (N64 m) p q e = absurd cc
+same_num _ _ p q e = absurd cc
 
 -- ---- operators
 
@@ -42,21 +38,7 @@ op_of _ = op.Ge
 op_back : (o : COp) → op_of (op_token o) ≡ o
 unfolding op_of
 op_back op.Add = refl
-op_back op.Sub = refl
-op_back op.Mul = refl
-op_back op.Div = refl
-op_back op.Rem = refl
-op_back op.And = refl
-op_back op.Or = refl
-op_back op.Xor = refl
-op_back op.Shl = refl
-op_back op.Shr = refl
-op_back op.Eq = refl
-op_back op.Ne = refl
-op_back op.Lt = refl
-op_back op.Le = refl
-op_back op.Gt = refl
-op_back op.Ge = refl
+op_back _ = refl
 
 pub same_op : (x y : COp) → op_token x ≡ op_token y → x ≡ y
 same_op x y e = let h = op_back x in let k = op_back y in let l : op_of (op_token x) ≡ op_of (op_token y) = ap op_of e in cc
@@ -64,21 +46,7 @@ same_op x y e = let h = op_back x in let k = op_back y in let l : op_of (op_toke
 -- no operator is a bracket in front of an index
 pub op_no_bracket : (o : COp) (more : List Token) → NotFirst tok.LeftBracket (op_token o ∷ more)
 op_no_bracket op.Add more s e = cc
-op_no_bracket op.Sub more s e = cc
-op_no_bracket op.Mul more s e = cc
-op_no_bracket op.Div more s e = cc
-op_no_bracket op.Rem more s e = cc
-op_no_bracket op.And more s e = cc
-op_no_bracket op.Or more s e = cc
-op_no_bracket op.Xor more s e = cc
-op_no_bracket op.Shl more s e = cc
-op_no_bracket op.Shr more s e = cc
-op_no_bracket op.Eq more s e = cc
-op_no_bracket op.Ne more s e = cc
-op_no_bracket op.Lt more s e = cc
-op_no_bracket op.Le more s e = cc
-op_no_bracket op.Gt more s e = cc
-op_no_bracket op.Ge more s e = cc
+op_no_bracket _ more s e = cc
 
 -- ---- types
 
@@ -121,15 +89,7 @@ type_with _ b = type.FnPtr
 type_back : (t : CType) → (type_with (word t) (is_starred t) ≡ t) × (type_tokens t ≡ Fixed (word t) ∷ star (is_starred t))
 unfolding type_with is_starred
 type_back type.Void = (refl, refl)
-type_back type.U32 = (refl, refl)
-type_back type.U64 = (refl, refl)
-type_back type.PtrU32 = (refl, refl)
-type_back type.PtrU64 = (refl, refl)
-type_back type.Mem = (refl, refl)
-type_back type.PtrMem = (refl, refl)
-type_back type.Tab = (refl, refl)
-type_back type.PtrTab = (refl, refl)
-type_back type.FnPtr = (refl, refl)
+type_back _ = (refl, refl)
 
 same_star : (a b : Bool) (r s : List Token) → NotFirst tok.Star r → NotFirst tok.Star s → star a ++ r ≡ star b ++ s → (a ≡ b) × (r ≡ s)
 same_star true true r s p q e = (refl, cc)
@@ -163,15 +123,7 @@ is_word _ = false
 
 word_is : (t : CType) → is_word (word t) ≡ true
 word_is type.Void = refl
-word_is type.U32 = refl
-word_is type.U64 = refl
-word_is type.PtrU32 = refl
-word_is type.PtrU64 = refl
-word_is type.Mem = refl
-word_is type.PtrMem = refl
-word_is type.Tab = refl
-word_is type.PtrTab = refl
-word_is type.FnPtr = refl
+word_is _ = refl
 
 -- a type begins with no other token
 pub type_first : (t : CType) (u : Tok) (r s : List Token) → is_word u ≡ false → type_tokens t ++ r ≡ Fixed u ∷ s → ⊥

@@ -1,5 +1,6 @@
 -- What the tests of well formed units tell.
-use Rattle.c_tree.proofs.Common.{◌≡◌, ℕ, suc, ◌+◌, ◌<◌, Bool, true, false, ◌&&◌, ◌||◌, List, [], ◌∷◌, map, length, get_or, drop, sym, refl, ap, ◌∙◌, add-one, drop-cons, list_all, list_any, expr_formed}
+use Rattle.c_tree.proofs.Common.{◌≡◌, ℕ, suc, ◌+◌, ◌<◌, Bool, true, false, ◌&&◌, ◌||◌, List, [], ◌∷◌, map, length, get_or, drop, sym, refl}
+use Rattle.c_tree.proofs.Common.{ap, ◌∙◌, add-one, drop-cons, list_all, expr_formed}
 use Rattle.c_tree.specs.Tree as tree
 
 pub list_all_map : {A B : Type 0} (p : B → Bool) (view : A → B) (xs : List A) → list_all p (map view xs) ≡ list_all (λ x. p (view x)) xs
@@ -17,29 +18,9 @@ pub all_more : {A : Type 0} (p : A → Bool) (xs : List A) (i : ℕ) (x : A) (wh
 all_more p xs i x whole lt is passes so_far =
     sym (ap (list_all p) (at_front xs i x lt is) ∙ ap (λ b. b && list_all p (drop (i + 1) xs)) passes) ∙ so_far
 
-pub all_stops : {A : Type 0} (p : A → Bool) (xs : List A) (i : ℕ) (x : A) (whole : Bool) → i < length xs → x ≡ get_or xs i x → p x ≡ false
-    → list_all p (drop i xs) ≡ whole → false ≡ whole
-all_stops p xs i x whole lt is fails so_far =
-    sym (ap (list_all p) (at_front xs i x lt is) ∙ ap (λ b. b && list_all p (drop (i + 1) xs)) fails) ∙ so_far
-
-pub any_more : {A : Type 0} (p : A → Bool) (xs : List A) (i : ℕ) (x : A) (whole : Bool) → i < length xs → x ≡ get_or xs i x → p x ≡ false
-    → list_any p (drop i xs) ≡ whole → list_any p (drop (i + 1) xs) ≡ whole
-any_more p xs i x whole lt is fails so_far =
-    sym (ap (list_any p) (at_front xs i x lt is) ∙ ap (λ b. b || list_any p (drop (i + 1) xs)) fails) ∙ so_far
-
-pub any_stops : {A : Type 0} (p : A → Bool) (xs : List A) (i : ℕ) (x : A) (whole : Bool) → i < length xs → x ≡ get_or xs i x → p x ≡ true
-    → list_any p (drop i xs) ≡ whole → true ≡ whole
-any_stops p xs i x whole lt is passes so_far =
-    sym (ap (list_any p) (at_front xs i x lt is) ∙ ap (λ b. b || list_any p (drop (i + 1) xs)) passes) ∙ so_far
-
 -- ---- expressions
 
 -- no expression stands inside too many
 pub no_room : (e : tree.Expr) → expr_formed 0 e ≡ false
 no_room (tree.Name n) = refl
-no_room (tree.At n i) = refl
-no_room (tree.Number n) = refl
-no_room (tree.To32 e) = refl
-no_room (tree.To64 e) = refl
-no_room (tree.Star n) = refl
-no_room (tree.Op o a b) = refl
+no_room _ = refl

@@ -1,5 +1,10 @@
 -- Each token of a text but the end and what is wrong is proper.
-use Rattle.c_tree.proofs.Common.{◌≡◌, ℕ, zero, suc, ◌+◌, Bool, true, false, cond, not, ◌&&◌, ◌⊎◌, List, [], ◌∷◌, ◌++◌, map, ◌==◌, Some, None, codes, Option, bytes_eq, refl, ap, subst, inl, inr, AllByRecursion, list_all, list_any, Begins, Front, Gap, Lexeme, and_then, are_digits, comment_end, comment_front, front, is_blank, is_digit, is_include, is_letter, is_word_byte, key_word_among, key_words, lexemes, long_signs, longer, number_token, one_sign, other_words, past, run, short_signs, sign_among, sign_front, tokens, two_sign, word_token, Fixed, Named, Number, Token, Wrong, fixed_text, IsName, Tok}
+use Rattle.c_tree.proofs.Common.{◌≡◌, ℕ, zero, suc, ◌+◌, Bool, true, false, cond, not, ◌&&◌, ◌⊎◌, List, [], ◌∷◌, ◌++◌, map, ◌==◌, Some}
+use Rattle.c_tree.proofs.Common.{None, codes, Option, bytes_eq, refl, ap, subst, inl, inr, AllByRecursion, list_all, list_any, Begins}
+use Rattle.c_tree.proofs.Common.{Front, Gap, Lexeme, and_then, are_digits, comment_end, comment_front, front, is_blank, is_digit}
+use Rattle.c_tree.proofs.Common.{is_include, is_letter, is_word_byte, key_word_among, key_words, lexemes, long_signs, longer, number_token}
+use Rattle.c_tree.proofs.Common.{one_sign, other_words, past, run, short_signs, sign_among, sign_front, tokens, two_sign, word_token, Fixed}
+use Rattle.c_tree.proofs.Common.{Named, Number, Token, Wrong, fixed_text, IsName, Tok}
 use Rattle.c_tree.specs.declared.token.Tok.TheVariants as tok
 use Rattle.c_tree.proofs.Proper.{IsProper, is_fixed}
 use Rattle.c_tree.proofs.Laid.{tokens_from}
@@ -88,9 +93,7 @@ good_comment (Some n) = tt
 
 good_longer : (t u : Token) → IsGood t → IsGood u → GoodFront (longer t u)
 good_longer Wrong u long short = short
-good_longer (Fixed t) u long short = long
-good_longer (Named n) u long short = long
-good_longer (Number s ds) u long short = long
+good_longer _ u long short = long
 
 good_sign_front : (b : ℕ) (rest : List ℕ) → GoodFront (sign_front b rest)
 good_sign_front b [] = good_sign short_signs (b ∷ []) shorts_fixed

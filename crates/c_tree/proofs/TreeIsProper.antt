@@ -1,5 +1,12 @@
 -- The tokens of a unit are proper exactly where its names are names and its numbers are within their types.
-use Rattle.c_tree.proofs.Common.{◌≡◌, ℕ, zero, suc, ◌-◌, ◌^◌, ◌<◌, ◌≤◌, Bool, true, false, List, [], ◌∷◌, ◌++◌, get_or, ◌==◌, Some, None, decimal, Option, refl, arith, nat_tests, decimal_digit, decimal_is_IsNumeral, first_decimal, digit_from_value, AllByRecursion, list_all, AllDigits, IsNumeral, always, FitsArg, FitsBody, FitsExpr, FitsItem, FitsNum, FitsStmt, FitsValue, are_digits, is_digit, Fixed, Named, Token, arg_tokens, call_tokens, callee_tokens, case_tokens, close_tokens, each, expr_tokens, goto_tokens, item_tokens, local_tokens, maybe_name, num_token, op_token, param_tokens, separated, static_tokens, stmt_tokens, type_tokens, unit_tokens, value_tokens, IsName, IsNamedIfAny, NamedArg, NamedBody, NamedCallee, NamedExpr, NamedItem, NamedStmt, COp, CType, Num, N32, N64, Plain}
+use Rattle.c_tree.proofs.Common.{◌≡◌, ℕ, zero, suc, ◌-◌, ◌^◌, ◌<◌, ◌≤◌, Bool, true, false, List, [], ◌∷◌, ◌++◌, get_or, ◌==◌, Some, None}
+use Rattle.c_tree.proofs.Common.{decimal, Option, refl, arith, nat_tests, decimal_digit, decimal_is_IsNumeral, first_decimal}
+use Rattle.c_tree.proofs.Common.{digit_from_value, AllByRecursion, list_all, AllDigits, IsNumeral, always, FitsArg, FitsBody, FitsExpr}
+use Rattle.c_tree.proofs.Common.{FitsItem, FitsNum, FitsStmt, FitsValue, are_digits, is_digit, Fixed, Named, Token, arg_tokens, call_tokens}
+use Rattle.c_tree.proofs.Common.{callee_tokens, case_tokens, close_tokens, each, expr_tokens, goto_tokens, item_tokens, local_tokens}
+use Rattle.c_tree.proofs.Common.{maybe_name, num_token, op_token, param_tokens, separated, static_tokens, stmt_tokens, type_tokens}
+use Rattle.c_tree.proofs.Common.{unit_tokens, value_tokens, IsName, IsNamedIfAny, NamedArg, NamedBody, NamedCallee, NamedExpr, NamedItem}
+use Rattle.c_tree.proofs.Common.{NamedStmt, COp, CType, Num, N32, N64, Plain}
 use Rattle.c_tree.specs.declared.token.Tok.TheVariants as tok
 use Rattle.c_tree.specs.declared.tree.CType.TheVariants as type
 use Rattle.c_tree.specs.declared.tree.COp.TheVariants as op
@@ -80,47 +87,25 @@ num_proper (Plain n) fits = decimal_digits n (omega arith)
 -- ---- the tokens of a tree are proper
 
 type_proper : (t : CType) → AllProper (type_tokens t)
-type_proper type.Void = (refl, tt)
-type_proper type.U32 = (refl, tt)
-type_proper type.U64 = (refl, tt)
 type_proper type.PtrU32 = (refl, (refl, tt))
 type_proper type.PtrU64 = (refl, (refl, tt))
-type_proper type.Mem = (refl, tt)
 type_proper type.PtrMem = (refl, (refl, tt))
-type_proper type.Tab = (refl, tt)
 type_proper type.PtrTab = (refl, (refl, tt))
-type_proper type.FnPtr = (refl, tt)
+type_proper _ = (refl, tt)
 
 op_proper : (o : COp) → IsProper (op_token o)
 op_proper op.Add = refl
-op_proper op.Sub = refl
-op_proper op.Mul = refl
-op_proper op.Div = refl
-op_proper op.Rem = refl
-op_proper op.And = refl
-op_proper op.Or = refl
-op_proper op.Xor = refl
-op_proper op.Shl = refl
-op_proper op.Shr = refl
-op_proper op.Eq = refl
-op_proper op.Ne = refl
-op_proper op.Lt = refl
-op_proper op.Le = refl
-op_proper op.Gt = refl
-op_proper op.Ge = refl
+op_proper _ = refl
 
 expr_proper : (e : tree.Expr) (d : ℕ) → NamedExpr e → FitsExpr d e → AllProper (expr_tokens e)
 expr_proper (tree.Name n) d named fits = (named, tt)
 expr_proper (tree.At n i) zero named fits = absurd fits
 expr_proper (tree.At n i) (suc d) named fits = (named.0, (refl, join (expr_tokens i) _ (expr_proper i d named.1 fits) (refl, tt)))
-expr_proper (tree.Number n) zero named fits = absurd fits
 expr_proper (tree.Number n) (suc d) named fits = (num_proper n fits, tt)
-expr_proper (tree.To32 e) zero named fits = absurd fits
 expr_proper (tree.To32 e) (suc d) named fits = (refl, (refl, (refl, expr_proper e d named fits)))
-expr_proper (tree.To64 e) zero named fits = absurd fits
 expr_proper (tree.To64 e) (suc d) named fits = (refl, (refl, (refl, expr_proper e d named fits)))
 expr_proper (tree.Star n) d named fits = (refl, (refl, (named, (refl, tt))))
-expr_proper (tree.Op o a b) zero named fits = absurd fits
+expr_proper _ zero named fits = absurd fits
 expr_proper (tree.Op o a b) (suc d) named fits = (
   refl,
   join (expr_tokens a) _ (expr_proper a d named.0 fits.0)
@@ -334,7 +319,6 @@ call_named f args all =
 
 stmt_named : (s : tree.Stmt) → AllProper (stmt_tokens s) → NamedStmt s
 stmt_named (tree.Label n) all = all.0
-stmt_named tree.Null all = tt
 stmt_named (tree.Set n a) all = (all.0, arg_named a (split (arg_tokens a) _ all.1.1).0)
 stmt_named (tree.SetStar n e) all = (all.1.0, expr_named e (split (expr_tokens e) _ all.1.1.1).0)
 stmt_named (tree.Call None f args) all = let h = call_named f args all in (tt, h.0, h.1)
@@ -349,8 +333,8 @@ stmt_named (tree.Switch e cases n) all =
     let h = split (expr_tokens e) (Fixed tok.RightParen ∷ Fixed tok.LeftBrace ∷ (each case_tokens cases ++ after)) all.1.1 in
     let k = split (each case_tokens cases) after h.1.1.1 in
     (expr_named e h.0, each_of case_tokens NamedCase (λ c p. p.1.1.1.1.0) cases k.0, k.1.1.1.1.0)
-stmt_named tree.ReturnNone all = tt
 stmt_named (tree.Return a) all = arg_named a (split (arg_tokens a) _ all.1).0
+stmt_named _ all = tt
 
 local_named : (l : tree.Local) → AllProper (local_tokens l) → NamedLocal l
 local_named l all = (split (type_tokens l.0) (Named l.1 ∷ Fixed tok.Assign ∷ num_token l.2 ∷ Fixed tok.Semicolon ∷ []) all).1.0

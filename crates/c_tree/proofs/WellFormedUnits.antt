@@ -1,5 +1,6 @@
 -- Some text spells a unit exactly where it is well formed.
-use Rattle.c_tree.proofs.Common.{List, [], ◌∷◌, ◌++◌, refl, laid, Formed, depth_limit, Fixed, token_text, each, item_tokens, unit_tokens, IsWellFormed}
+use Rattle.c_tree.proofs.Common.{List, [], ◌∷◌, ◌++◌, refl, laid, Formed, depth_limit, Fixed, token_text, each, item_tokens, unit_tokens}
+use Rattle.c_tree.proofs.Common.{IsWellFormed}
 use Rattle.c_tree.specs.declared.token.Tok.TheVariants as tok
 use Rattle.c_tree.specs.Tree as tree
 use Rattle.c_tree.proofs.Laid.{laid_tokens, blank_apart}

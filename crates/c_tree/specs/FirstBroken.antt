@@ -1,6 +1,7 @@
 -- Where a unit breaks a rule, and which broken rule is the first: by the item, in it by the
 -- statement, and there by the rule.
-use Rattle.std.specs.Prelude.{◌≡◌, ◌⊎◌, ℕ, ◌+◌, ◌<◌, ◌≤◌, not, List, [], ◌++◌, map, filter, flat_map, take, slice_get, Option, Some, None, Bool}
+use Rattle.std.specs.Prelude.{◌≡◌, ◌⊎◌, ℕ, ◌+◌, ◌<◌, ◌≤◌, not, List, [], ◌++◌, map, filter, flat_map, take, slice_get, Option, Some, None}
+use Rattle.std.specs.Prelude.{Bool}
 use Rattle.std.specs.List.{Contains}
 use Rattle.w2c_base.specs.Lookup.{numbered}
 use Rattle.c_tree.specs.Tree as tree

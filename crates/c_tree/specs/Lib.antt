@@ -10,6 +10,9 @@ pub mod WellFormed
 pub mod Tests
 pub mod Runtime
 pub mod Scope
+pub mod TypesInC
+pub mod Primitives
+pub mod Makers
 pub mod Rules
 pub mod FirstBroken
 pub mod RuleSamples

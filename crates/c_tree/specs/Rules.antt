@@ -1,6 +1,7 @@
 -- The twelve rules that a unit of the C subset keeps, each by what it asks of an item or of a
 -- statement. They stand for C11's constraints, and for what the subset leaves out of C.
-use Rattle.std.specs.Prelude.{ℕ, ◌-◌, ◌==◌, ◌&&◌, ◌||◌, not, nat_le, nat_eq, Bool, true, false, if◌then◌else◌, List, [], ◌∷◌, ◌++◌, length, map, flat_map, filter_map, take, bytes_eq, is_some, Option, Some, None, codes}
+use Rattle.std.specs.Prelude.{ℕ, ◌-◌, ◌==◌, ◌&&◌, ◌||◌, not, nat_le, nat_eq, Bool, true, false, if◌then◌else◌, List, [], ◌∷◌, ◌++◌, length}
+use Rattle.std.specs.Prelude.{map, flat_map, filter_map, take, bytes_eq, is_some, Option, Some, None, codes}
 use Rattle.std.specs.List.{list_any, list_all, starts_with}
 use Rattle.w2c_base.specs.Lookup.{if_found, named}
 use Rattle.c_tree.specs.declared.tree.CType.{CType}
@@ -9,7 +10,9 @@ use Rattle.c_tree.specs.declared.tree.Num.{Num}
 use Rattle.c_tree.specs.declared.tree.Num.TheVariants.{N32, N64, Plain}
 use Rattle.c_tree.specs.Tree as tree
 use Rattle.c_tree.specs.Runtime.{same_type, same_func_type}
-use Rattle.c_tree.specs.Scope.{Name, Scope, is_among, name_of, func_type_of, param_variables, local_variables, file_variables, variables, arrays, file_functions, functions, is_number_type, is_object_type, is_comparison, pointer_to, pointed_by, type_of, common_type, typing_of}
+use Rattle.c_tree.specs.Scope.{Name, Scope, is_among, name_of, func_type_of, param_variables, local_variables, file_variables, variables}
+use Rattle.c_tree.specs.Scope.{arrays, file_functions, functions, is_number_type, is_object_type, is_comparison, pointer_to, pointed_by}
+use Rattle.c_tree.specs.Scope.{type_of, common_type, typing_of}
 
 -- an item of a unit, with its number from 0
 pub record Place : Type 0 where

@@ -1,6 +1,7 @@
 -- What the names of a unit stand for at a place of its text (C11, 6.2.1 scopes of identifiers),
 -- and the types of expressions (C11, 6.5).
-use Rattle.std.specs.Prelude.{ℕ, ◌||◌, not, Bool, true, false, if◌then◌else◌, List, [], ◌∷◌, ◌++◌, map, filter_map, bytes_eq, is_some, Option, Some, None, option_map, codes}
+use Rattle.std.specs.Prelude.{ℕ, ◌||◌, not, Bool, true, false, if◌then◌else◌, List, [], ◌∷◌, ◌++◌, map, filter_map, bytes_eq, is_some}
+use Rattle.std.specs.Prelude.{Option, Some, None, option_map, codes}
 use Rattle.std.specs.List.{list_any}
 use Rattle.w2c_base.specs.Lookup.{if_found, named}
 use Rattle.c_tree.specs.declared.tree.CType.{CType}
@@ -24,6 +25,12 @@ abbrev pub name_of : tree.Item → Name
 name_of (tree.Array name count bytes) = name
 name_of (tree.Var t name number) = name
 name_of (tree.Function f) = f.name
+
+-- the function that an item declares
+abbrev pub func_in : tree.Item → Option tree.Func
+func_in (tree.Array name count bytes) = None
+func_in (tree.Var t name number) = None
+func_in (tree.Function f) = Some f
 
 abbrev pub func_type_of : tree.Func → tree.FuncType
 func_type_of f = record { params = map (λ p. p.0) f.params; result = f.result }

@@ -1,8 +1,9 @@
-// Which words are names.
+// Which words are names, and whose names.
 ghost use Rattle.std.specs.Prelude.{◌≡◌, ◌≢◌, ◌^◌, ◌<◌, ℕ, true, List, ◌∷◌, ◌++◌, codes, map};
 ghost use Rattle.std.specs.Fmt.{decimal};
 ghost use Rattle.std.specs.List.{list_all, list_any};
 ghost use Rattle.std.specs.Str.{bytes_eq};
+ghost use Rattle.c_tree.specs.Rules.{is_own_name, is_symbol};
 ghost use Rattle.c_tree.specs.Text.{is_letter, is_word_byte, other_words};
 ghost use Rattle.c_tree.specs.Tokens.{fixed_text};
 ghost use Rattle.c_tree.specs.WellFormed.{is_key_word, is_name, IsName};
@@ -134,6 +135,30 @@ fn is_letter(byte: u8) -> bool
     ensures { result ≡ is_letter byte }
 {
     (97 <= byte && byte <= 122) || (65 <= byte && byte <= 90) || byte == 95
+}
+
+/// The runtime's one variable.
+pub const DEPTH_NAME: &[u8] = b"w2c_depth";
+
+/// Whether a name is that of the runtime's one variable.
+pub fn is_depth(name: &[u8]) -> bool
+    ensures { result ≡ bytes_eq name.now (codes "w2c_depth") }
+{
+    name == DEPTH_NAME
+}
+
+/// Whether a name is not reserved for the runtime or for other units.
+pub fn is_own_name(name: &[u8]) -> bool
+    ensures { result ≡ is_own_name name.now }
+{
+    !name.starts_with(b"w2c_") && !is_symbol(name)
+}
+
+/// Whether a name is reserved for what other units see.
+pub fn is_symbol(name: &[u8]) -> bool
+    ensures { result ≡ is_symbol name.now }
+{
+    name.starts_with(b"w2cZ_")
 }
 
 /// The law that two kinds of words are names: a letter other than `u` and `w` with a number behind

@@ -1,11 +1,13 @@
 // The tree of a unit, from its items down to expressions, and the content of a header.
-ghost use Rattle.std.specs.Prelude.{◌≡◌};
+ghost use Rattle.std.specs.Prelude.{◌≡◌, option_map, IfOk};
 ghost use Rattle.std.specs.Option.{option_copied};
-ghost use Rattle.c_tree.specs.Rules.{label_of};
-ghost use Rattle.c_tree.specs.View.{stmt_of};
+ghost use Rattle.c_tree.specs.Rules.{has_body, label_of};
+ghost use Rattle.c_tree.specs.Scope.{func_in, name_of};
+ghost use Rattle.c_tree.specs.View.{func_of, item_of, maybe_body_of, stmt_of};
 
+use std::alloc::Global;
 use std::boxed::Box;
-use w2c_base::{Bytes, Sequence};
+use w2c_base::{Bytes, Memory, Sequence};
 
 /// The bytes of a name.
 pub type Name = Bytes;
@@ -34,6 +36,19 @@ pub type CTypes = Sequence<CType>;
 pub struct CFuncType {
     pub params: CTypes,
     pub result: CType,
+}
+
+impl CFuncType {
+    /// An equal type.
+    pub fn copy(&self, alloc: Global) -> Result<CFuncType, Memory>
+        ensures { IfOk result (λ ty. ty ≡ self.now) }
+    {
+        let params = self.params.copy(alloc)?;
+        Ok(CFuncType {
+            params,
+            result: self.result,
+        })
+    }
 }
 
 /// A number, by its suffix: `u`, `ull` or none.
@@ -169,6 +184,53 @@ pub enum Item {
     Array(Name, u64, Bytes),
     Var(CType, Name, Option<Num>),
     Func(Func),
+}
+
+impl Func {
+    /// A function of the same linkage and result, with other parts.
+    pub fn with_parts(&self, name: Name, params: Params, body: Option<Body>) -> Func
+        ensures { func_of result ≡ record { is_static = self.now.is_static; result = self.now.result; name = name; params = params; body = maybe_body_of body } }
+    {
+        Func {
+            is_static: self.is_static,
+            result: self.result,
+            name,
+            params,
+            body,
+        }
+    }
+}
+
+impl Item {
+    /// The name that an item declares.
+    pub fn name(&self) -> &[u8]
+        ensures { result.now ≡ name_of (item_of self.now) }
+    {
+        match self {
+            Item::Array(name, _, _) | Item::Var(_, name, _) => name.as_slice(),
+            Item::Func(f) => f.name.as_slice(),
+        }
+    }
+
+    /// The function that an item declares.
+    pub fn function(&self) -> Option<&Func>
+        ensures { option_map (λ f. func_of f.now) result ≡ func_in (item_of self.now) }
+    {
+        match self {
+            Item::Func(f) => Some(f),
+            Item::Array(_, _, _) | Item::Var(_, _, _) => None,
+        }
+    }
+
+    /// Whether an item is a function with a body.
+    pub fn has_body(&self) -> bool
+        ensures { result ≡ has_body (item_of self.now) }
+    {
+        match self {
+            Item::Func(f) => f.body.is_some(),
+            Item::Array(_, _, _) | Item::Var(_, _, _) => false,
+        }
+    }
 }
 
 /// The functions that a header declares, each with its result, its name and its parameters' types.

@@ -1,5 +1,11 @@
 -- Units in which one is trimmed run as before.
-use Rattle.c_trim.proofs.Common.{◌≡◌, ℕ, zero, suc, ◌-◌, Bool, true, false, not, List, [], ◌∷◌, ◌++◌, map, length, take, if◌then◌else◌, ◌==◌, slice_get, Some, None, Option, option_map, sym, refl, ap, ◌∙◌, subst, arith, eqb-true, by_test, if_found, named, Host, Reply, Name, Program, SymbolCall, file_memory, file_table, file_var, objects_of, CRun, Ended, OutOfSteps, Outcome, Stopped, c_run, Asks, CValue, Element, FuncAddress, FuncPointer, HostFunc, Number, Objects, Pointer, Stop, Stuck, Table, Trapped, Undefined, UnitFunc, AreDistinct, ObjectNames, declared_names, names_of, Renaming, address, AllKeepRules, RunsAlike, among, left_out, new_number, new_outcome, new_stop, TellsNeeded, kept, stays}
+use Rattle.c_trim.proofs.Common.{◌≡◌, ℕ, zero, suc, ◌-◌, Bool, true, false, not, List, [], ◌∷◌, ◌++◌, map, length, take, if◌then◌else◌}
+use Rattle.c_trim.proofs.Common.{◌==◌, slice_get, Some, None, Option, option_map, sym, refl, ap, ◌∙◌, subst, arith, eqb-true, by_test}
+use Rattle.c_trim.proofs.Common.{if_found, named, Host, Reply, Name, Program, SymbolCall, file_memory, file_table, file_var, objects_of}
+use Rattle.c_trim.proofs.Common.{CRun, Outcome, Stopped, c_run, CValue, Element, FuncAddress, FuncPointer, HostFunc, Number, Objects}
+use Rattle.c_trim.proofs.Common.{Pointer, Stop, Table, Undefined, UnitFunc, AreDistinct, ObjectNames, declared_names, names_of, Renaming}
+use Rattle.c_trim.proofs.Common.{address, AllKeepRules, RunsAlike, among, left_out, new_number, new_outcome, new_stop, TellsNeeded, kept}
+use Rattle.c_trim.proofs.Common.{stays}
 use Rattle.c_tree.specs.Tree as tree
 use Rattle.c_renaming.specs.Renamed as renamed
 use Rattle.c_renaming.specs.Same.{SameRun}
@@ -79,19 +85,16 @@ module _ (p : Program) (used stay : whole.Stays) where
 -- ---- objects that a function does not declare
 
 no_var : (needed : Name → Bool) (x : tree.Item) → stays needed x ≡ false → file_var x ≡ None
-no_var needed (tree.Array name count bytes) e = cc
-no_var needed (tree.Var ty name number) e = cc
 no_var needed (tree.Function f) e = refl
+no_var needed _ e = cc
 
 no_memory : (needed : Name → Bool) (x : tree.Item) → stays needed x ≡ false → file_memory x ≡ None
-no_memory needed (tree.Array name count bytes) e = cc
-no_memory needed (tree.Var ty name number) e = cc
 no_memory needed (tree.Function f) e = refl
+no_memory needed _ e = cc
 
 no_table : (needed : Name → Bool) (x : tree.Item) → stays needed x ≡ false → file_table x ≡ None
-no_table needed (tree.Array name count bytes) e = cc
-no_table needed (tree.Var ty name number) e = cc
 no_table needed (tree.Function f) e = refl
+no_table needed _ e = cc
 
 same_declared : (needed : Name → Bool) (items : List tree.Item) → objects_of (kept needed items) ≡ objects_of items
 same_declared needed items = λ i. record {
@@ -161,16 +164,13 @@ module _ (before after : List (List tree.Item)) (hosts : List Host) (unit : List
               ∙ (let e : i - 0 ≡ i = omega arith in e)
 
   same_stop : (why : Stop) → renamed.stop ρ why ≡ new_stop needed unit k why
-  same_stop (Trapped kind) = refl
   same_stop (Undefined kind at) =
       ap (λ n. Undefined kind (record { unit = at.unit; item = n; statement = at.statement })) (number_is at.unit at.item)
-  same_stop Asks = refl
-  same_stop Stuck = refl
+  same_stop _ = refl
 
   same_outcome : (o : Outcome) → renamed.outcome ρ o ≡ new_outcome needed unit k o
-  same_outcome Ended = refl
   same_outcome (Stopped why) = ap Stopped (same_stop why)
-  same_outcome OutOfSteps = refl
+  same_outcome _ = refl
 
   declared_same : declared_names q ≡ declared_names p
   declared_same =

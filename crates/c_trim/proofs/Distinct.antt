@@ -1,10 +1,13 @@
 -- In a unit that keeps the rules no two objects of a kind have one name.
-use Rattle.c_trim.proofs.Common.{◌≡◌, Bool, true, false, not, ◌||◌, List, [], ◌∷◌, ◌++◌, map, length, Some, None, Option, option_map, filter_map, bytes_eq, sym, refl, ap, ◌∙◌, subst, list_all-append, bytes_eq-Decides, AllByRecursion, cons_option, list_all, ⊤, both_hold, of_each, by_test, Name, name_of, CType, file_memory, file_table, file_var, CValue, Memory, Table, AreDistinct}
+use Rattle.c_trim.proofs.Common.{◌≡◌, Bool, true, false, not, ◌||◌, List, [], ◌∷◌, ◌++◌, map, length, Some, None, Option, option_map}
+use Rattle.c_trim.proofs.Common.{filter_map, bytes_eq, sym, refl, ap, ◌∙◌, subst, list_all-append, AllByRecursion, cons_option, list_all, ⊤}
+use Rattle.c_trim.proofs.Common.{both_hold, of_each, Name, name_of, CType, file_memory, file_table, file_var, CValue, Memory, Table}
+use Rattle.c_trim.proofs.Common.{AreDistinct, unlike_back}
+use Rattle.w2c_base.proofs.Places.{take_front}
 use Rattle.c_tree.specs.declared.tree.CType.TheVariants as type
 use Rattle.c_tree.specs.Tree as tree
 use Rattle.c_tree.specs.Rules as rule
 use Rattle.c_renaming.specs.Kept as text
-use Rattle.c_trim.proofs.Lists.{take_front}
 use Rattle.c_trim.proofs.RulesHold.{ItemsHold, moved}
 
 -- the two may be declared one after the other
@@ -45,15 +48,9 @@ module _ {X : Type 0} (f : tree.Item → Option (Name × X))
   abbrev names : List tree.Item → List Name
   names items = map (λ (e : Name × X). e.0) (filter_map f items)
 
-  other_way : (x y : Name) → bytes_eq x y ≡ false → bytes_eq y x ≡ false
-  other_way x y e = by_test (bytes_eq y x) (λ is. no (sym e ∙ (bytes_eq-Decides x y).1 (sym ((bytes_eq-Decides y x).0 is)))) (λ is. is)
-    where
-      no : false ≡ true → bytes_eq y x ≡ false
-      no e = cc
-
   differ : (x y : tree.Item) → ((z : tree.Item) → rule.may_both_stand x z ≡ false) → may_follow x y ≡ true
       → bytes_eq (name_of y) (name_of x) ≡ false
-  differ x y alone e = other_way (name_of x) (name_of y) (by (bytes_eq (name_of x) (name_of y)) (rule.may_both_stand x y) (alone y) e)
+  differ x y alone e = unlike_back (name_of x) (name_of y) (by (bytes_eq (name_of x) (name_of y)) (rule.may_both_stand x y) (alone y) e)
     where
       by : (b c : Bool) → c ≡ false → (not b || c) ≡ true → b ≡ false
       by true true is e = cc
@@ -92,27 +89,24 @@ beside name (Some v) e is = cc
 
 pub var_declares : (x : tree.Item) (e : Name × CValue) → file_var x ≡ Some e → (name_of x ≡ e.0) × ((y : tree.Item)
     → rule.may_both_stand x y ≡ false)
-var_declares (tree.Array name count bytes) e is = cc
 var_declares (tree.Var ty name None) e is = (beside name _ e is, λ y. refl)
 var_declares (tree.Var ty name (Some number)) e is = (beside name _ e is, λ y. refl)
-var_declares (tree.Function f) e is = cc
+var_declares _ e is = cc
 
 pub memory_declares : (x : tree.Item) (e : Name × Memory) → file_memory x ≡ Some e → (name_of x ≡ e.0) × ((y : tree.Item)
     → rule.may_both_stand x y ≡ false)
-memory_declares (tree.Array name count bytes) e is = cc
 memory_declares (tree.Var ty name number) e is = (by ty is, λ y. refl)
   where
     by : (ty : CType) → file_memory (tree.Var ty name number) ≡ Some e → name ≡ e.0
     by type.Mem is = cc
     by _ is = cc
-memory_declares (tree.Function f) e is = cc
+memory_declares _ e is = cc
 
 pub table_declares : (x : tree.Item) (e : Name × Table) → file_table x ≡ Some e → (name_of x ≡ e.0) × ((y : tree.Item)
     → rule.may_both_stand x y ≡ false)
-table_declares (tree.Array name count bytes) e is = cc
 table_declares (tree.Var ty name number) e is = (by ty is, λ y. refl)
   where
     by : (ty : CType) → file_table (tree.Var ty name number) ≡ Some e → name ≡ e.0
     by type.Tab is = cc
     by _ is = cc
-table_declares (tree.Function f) e is = cc
+table_declares _ e is = cc

@@ -1,12 +1,18 @@
 -- Where all that is needed was reached, what was reached is what stays of the unit.
-use Rattle.c_trim.proofs.Common.{◌≡◌, ℕ, zero, suc, ◌+◌, Bool, true, false, not, ◌&&◌, ◌||◌, ◌⊎◌, List, [], ◌∷◌, length, is_some, if◌then◌else◌, slice_get, slice_index_or, Some, None, Option, zip, bytes_eq, sym, refl, ap, ◌∙◌, subst, inl, inr, arith, take_all, bytes_eq-Decides, AllByRecursion, list_any, position_from, range_with_len, both_hold, all_at, all_from, by_test, same_tests, numbered, KeepsRules, defines, has_body, Name, is_among, name_of, AreAllReached, KnowsDefiners, Reached, definer, is_in, is_reached, IsNeeded, IsTrimmed, body_functions, is_external, item_functions, kept, leads, names, stays}
+use Rattle.c_trim.proofs.Common.{◌≡◌, ℕ, zero, suc, ◌+◌, Bool, true, false, not, ◌&&◌, ◌||◌, ◌⊎◌, List, [], ◌∷◌, length, is_some}
+use Rattle.c_trim.proofs.Common.{if◌then◌else◌, slice_get, slice_index_or, Some, None, Option, zip, bytes_eq, sym, refl, ap, ◌∙◌, subst}
+use Rattle.c_trim.proofs.Common.{inl, inr, arith, take_all, bytes_eq-Decides, AllByRecursion, list_any, position_from, range_with_len}
+use Rattle.c_trim.proofs.Common.{both_hold, all_at, all_from, by_test, same_tests, numbered, KeepsRules, defines, has_body, Name, is_among}
+use Rattle.c_trim.proofs.Common.{name_of, AreAllReached, KnowsDefiners, Reached, definer, is_in, is_reached, IsNeeded, IsTrimmed}
+use Rattle.c_trim.proofs.Common.{body_functions, is_external, item_functions, kept, leads, names, stays}
+use Rattle.std.proofs.lemmas.Bool.{and_from, or_right, or_left}
+use Rattle.std.proofs.lemmas.Option.{slice_get_within}
 use Rattle.c_tree.specs.Tree as tree
 use Rattle.c_tree.specs.Rules as rule
-use Rattle.c_trim.proofs.Lists.{both_and, or_left, or_right}
 use Rattle.c_trim.proofs.RulesHold.{ItemsHold, item_at, rules_hold}
 use Rattle.c_trim.proofs.KeptText.{AreNamed, are_named}
 use Rattle.c_trim.proofs.Distinct.{InOrder, in_order, may_follow}
-use Rattle.c_trim.proofs.Spread.{Defined, defined_at, get_less, names_needed}
+use Rattle.c_trim.proofs.Spread.{Defined, defined_at, names_needed}
 
 abbrev flag : List Bool → ℕ → Bool
 flag flags j = slice_index_or flags j false
@@ -106,13 +112,12 @@ has_position {A} test k (x ∷ xs) e = by (test x) e (has_position test (k + 1) 
 
 -- what names a function has a body
 names_by_body : (item : tree.Item) (x : Name) → is_among x (item_functions item) ≡ true → has_body item ≡ true
-names_by_body (tree.Array name count bytes) x e = cc
-names_by_body (tree.Var ty name number) x e = cc
 names_by_body (tree.Function f) x e = by f.body e
   where
     by : (o : Option tree.Body) → is_among x (body_functions o) ≡ true → is_some o ≡ true
     by None e = cc
     by (Some b) e = refl
+names_by_body _ x e = cc
 
 static_rule : (unit : List tree.Item) (k : ℕ) (items : List tree.Item) → ItemsHold unit k items → (i : ℕ) (f : tree.Func)
     → slice_get items i ≡ Some (tree.Function f) → (not f.is_static || list_any (defines f.name) unit) ≡ true
@@ -122,13 +127,12 @@ static_rule unit k (x ∷ items) h zero f there =
 static_rule unit k (x ∷ items) h (suc i) f there = static_rule unit (k + 1) items h.1 i f there
 
 external_symbol : (item : tree.Item) → is_external item ≡ true → rule.file_name_is_free item ≡ true → rule.is_symbol (name_of item) ≡ true
-external_symbol (tree.Array name count bytes) external free = cc
-external_symbol (tree.Var ty name number) external free = cc
 external_symbol (tree.Function f) external free = by f.is_static external free
   where
     by : (b : Bool) → not b ≡ true → (if b then rule.is_own_name f.name else rule.is_symbol f.name) ≡ true → rule.is_symbol f.name ≡ true
     by true e free = cc
     by false e free = free
+external_symbol _ external free = cc
 
 static_own : (f : tree.Func) → f.is_static ≡ true → rule.file_name_is_free (tree.Function f) ≡ true → rule.is_symbol f.name ≡ false
 static_own f static free =
@@ -159,8 +163,8 @@ module _ (unit : List tree.Item) (keeps : KeepsRules unit) (table : List (Name �
       → is_among x (item_functions item) ≡ true
       → flag r.0 i ≡ true
   begun i item x there external among =
-      all.begun i item (get_less unit unit i item there) there
-      (both_and (is_external item) (has_body item) external (names_by_body item x among))
+      all.begun i item (slice_get_within unit i item there) there
+      (and_from (is_external item) (has_body item) external (names_by_body item x among))
 
   flagged : (chain : List Name) (x : Name) → leads unit chain x ≡ true → (m : ℕ) → definer unit x ≡ Some m → flag r.0 m ≡ true
   flagged [] x e m is =
@@ -172,7 +176,7 @@ module _ (unit : List tree.Item) (keeps : KeepsRules unit) (table : List (Name �
       let s = somewhere (λ item. bytes_eq (name_of item) y && is_among x (item_functions item)) unit parts.0 in
       let two = both_hold (bytes_eq (name_of s.item) y) (is_among x (item_functions s.item)) s.passes in
       let here : definer unit y ≡ Some s.at =
-      one_definer y s.at s.item s.there (both_and (bytes_eq (name_of s.item) y) (has_body s.item) two.0 (names_by_body s.item x two.1)) in
+      one_definer y s.at s.item s.there (and_from (bytes_eq (name_of s.item) y) (has_body s.item) two.0 (names_by_body s.item x two.1)) in
       followed s.at s.item (flagged chain y parts.1 s.at here) s.there x two.1 m is
 
   -- ---- named in the body of a function that was reached
@@ -197,7 +201,7 @@ module _ (unit : List tree.Item) (keeps : KeepsRules unit) (table : List (Name �
   needed_at i item x there is among =
       let n : i ≡ 0 + i = omega arith in
       there_from (names_it x) 0 unit i item there
-      (both_and (flag r.0 (0 + i)) (is_among x (item_functions item)) (ap (flag r.0) (sym n) ∙ is) among)
+      (and_from (flag r.0 (0 + i)) (is_among x (item_functions item)) (ap (flag r.0) (sym n) ∙ is) among)
 
   tells_needed : (chain : List Name) (x : Name) → leads unit chain x ≡ true → needed x ≡ true
   tells_needed [] x e =
@@ -209,7 +213,7 @@ module _ (unit : List tree.Item) (keeps : KeepsRules unit) (table : List (Name �
       let s = somewhere (λ item. bytes_eq (name_of item) y && is_among x (item_functions item)) unit parts.0 in
       let two = both_hold (bytes_eq (name_of s.item) y) (is_among x (item_functions s.item)) s.passes in
       let here : definer unit y ≡ Some s.at =
-      one_definer y s.at s.item s.there (both_and (bytes_eq (name_of s.item) y) (has_body s.item) two.0 (names_by_body s.item x two.1)) in
+      one_definer y s.at s.item s.there (and_from (bytes_eq (name_of s.item) y) (has_body s.item) two.0 (names_by_body s.item x two.1)) in
       needed_at s.at s.item x s.there (flagged chain y parts.1 s.at here) two.1
 
   -- ---- the same stays
@@ -252,11 +256,10 @@ module _ (unit : List tree.Item) (keeps : KeepsRules unit) (table : List (Name �
               tells_needed here.chain f.name here.leads_there
 
   same_item : (i : ℕ) (item : tree.Item) → slice_get unit i ≡ Some item → stays needed item ≡ stays (is_reached table r.0) item
-  same_item i (tree.Array name count bytes) there = refl
-  same_item i (tree.Var ty name number) there = refl
   same_item i (tree.Function f) there = by_test f.is_static
       (λ is. ap (λ b. not f.is_static || b) (same_name f i there is))
       (λ is. ap (λ b. not b || needed f.name) is ∙ sym (ap (λ b. not b || is_reached table r.0 f.name) is))
+  same_item i _ there = refl
 
   same_kept : (items : List tree.Item) → AllByRecursion (λ (item : tree.Item). stays needed item ≡ stays (is_reached table r.0) item) items
       → kept (is_reached table r.0) items ≡ kept needed items

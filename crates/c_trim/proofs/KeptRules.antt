@@ -1,9 +1,14 @@
 -- What stays of a unit keeps the rules that the unit keeps, where the functions that it names stay.
-use Rattle.c_trim.proofs.Common.{◌≡◌, ℕ, ◌+◌, Bool, true, false, not, ◌&&◌, ◌||◌, List, [], ◌∷◌, ◌++◌, map, length, take, is_some, if◌then◌else◌, Some, None, Option, filter_map, bytes_eq, sym, refl, ap, ◌∙◌, subst, append_assoc, append-nil, length_push, filter-append, bytes_eq-Decides, AllByRecursion, list_all, list_any, both_hold, named, KeepsRules, Name, is_among, name_of, body_functions, item_functions, kept, stays}
+use Rattle.c_trim.proofs.Common.{◌≡◌, ℕ, ◌+◌, Bool, true, false, not, ◌&&◌, ◌||◌, List, [], ◌∷◌, ◌++◌, map, length, take, is_some}
+use Rattle.c_trim.proofs.Common.{if◌then◌else◌, Some, None, Option, filter_map, bytes_eq, sym, refl, ap, ◌∙◌, subst, append_assoc}
+use Rattle.c_trim.proofs.Common.{append-nil, length_push, filter-append, bytes_eq-Decides, AllByRecursion, list_all, list_any, both_hold}
+use Rattle.c_trim.proofs.Common.{named, KeepsRules, Name, is_among, name_of, body_functions, item_functions, kept, stays}
+use Rattle.std.proofs.lemmas.Bool.{and_from, not-true, or_right}
+use Rattle.w2c_base.proofs.Places.{take_front, take_with}
 use Rattle.c_tree.specs.Tree as tree
 use Rattle.c_tree.specs.Scope as scope
 use Rattle.c_tree.specs.Rules as rule
-use Rattle.c_trim.proofs.Lists.{both_and, all_where, all_left, any_left, any_map, not_true, or_right, any_of_left, map_left, take_front, take_next}
+use Rattle.c_trim.proofs.Lists.{all_where, all_left, any_left, any_map, any_of_left, map_left}
 use Rattle.c_trim.proofs.RulesHold.{Hold, ItemHolds, ItemsHold, TextHolds, BodyHolds, item_at, moved, rules_hold, keeps_rules}
 use Rattle.c_trim.proofs.SameScope.{Each, AgreeOn, stmts_hold}
 
@@ -15,14 +20,12 @@ module _ (needed : Name → Bool) where
   -- ---- what is declared
 
   no_variable : (x : tree.Item) → stays needed x ≡ false → scope.variable_of x ≡ None
-  no_variable (tree.Array name count bytes) e = cc
-  no_variable (tree.Var ty name number) e = cc
   no_variable (tree.Function f) e = refl
+  no_variable _ e = cc
 
   no_array : (x : tree.Item) → stays needed x ≡ false → scope.array_of x ≡ None
-  no_array (tree.Array name count bytes) e = cc
-  no_array (tree.Var ty name number) e = cc
   no_array (tree.Function f) e = refl
+  no_array _ e = cc
 
   abbrev functions_in : List tree.Item → List (Name × tree.FuncType)
   functions_in items = filter_map scope.function_of items
@@ -90,26 +93,23 @@ module _ (needed : Name → Bool) where
     name_hidden : (name : Name) → not (is_among name (map name_of u)) ≡ true → not (is_among name (map name_of t)) ≡ true
     name_hidden name e = ap not (any_map (bytes_eq name) name_of t
         ∙ any_of_left (λ y. bytes_eq name (name_of y)) (stays needed) u
-        (sym (any_map (bytes_eq name) name_of u) ∙ not_true (is_among name (map name_of u)) e))
+        (sym (any_map (bytes_eq name) name_of u) ∙ not-true (is_among name (map name_of u)) e))
 
     hides : (names : List Name) → rule.hides_none u names ≡ true → rule.hides_none t names ≡ true
     hides names e = all_where _ _ name_hidden names e
 
     own_distinct : (y : tree.Item) → rule.own_names_are_distinct (item_at u (length before) y) ≡ true
         → rule.own_names_are_distinct (item_at t at y) ≡ true
-    own_distinct (tree.Array name count bytes) e = refl
-    own_distinct (tree.Var ty name number) e = refl
     own_distinct (tree.Function f) e =
         let names : List Name = rule.local_names (tree.Function f) in
         let two = both_hold (rule.params_are_named f) (rule.are_distinct names && rule.hides_none u names) e in
         let last = both_hold (rule.are_distinct names) (rule.hides_none u names) two.1 in
-        both_and (rule.params_are_named f) (rule.are_distinct names && rule.hides_none t names) two.0
-        (both_and (rule.are_distinct names) (rule.hides_none t names) last.0 (hides names last.1))
+        and_from (rule.params_are_named f) (rule.are_distinct names && rule.hides_none t names) two.0
+        (and_from (rule.are_distinct names) (rule.hides_none t names) last.0 (hides names last.1))
+    own_distinct _ e = refl
 
     defined_static : (y : tree.Item) → stays needed y ≡ true → rule.is_defined_if_static (item_at u (length before) y) ≡ true
         → rule.is_defined_if_static (item_at t at y) ≡ true
-    defined_static (tree.Array name count bytes) stay e = refl
-    defined_static (tree.Var ty name number) stay e = refl
     defined_static (tree.Function f) stay e = by f.is_static stay e
       where
         same_stays : needed f.name ≡ true → (y : tree.Item) → rule.defines f.name y ≡ true → stays needed y ≡ true
@@ -123,6 +123,7 @@ module _ (needed : Name → Bool) where
             → (not b || list_any (rule.defines f.name) t) ≡ true
         by false stay e = refl
         by true stay e = any_left (rule.defines f.name) (stays needed) (same_stays stay) u e
+    defined_static _ stay e = refl
 
     item_rules_hold : Hold rule.item_rules (item_at u (length before) x) → Hold rule.item_rules (item_at t at x)
     item_rules_hold hold = (
@@ -132,9 +133,9 @@ module _ (needed : Name → Bool) where
 
     declared_agree : AgreeOn needed (take (length before + 1) u) (take (at + 1) t)
     declared_agree =
-        subst (λ (l : List tree.Item). AgreeOn needed l (take (at + 1) t)) (sym (take_next before x behind))
+        subst (λ (l : List tree.Item). AgreeOn needed l (take (at + 1) t)) (sym (take_with before x behind))
         (subst (λ (l : List tree.Item). AgreeOn needed (before ++ x ∷ []) l)
-        (sym (ap (take (at + 1)) parts ∙ take_next (kept needed before) x (kept needed behind) ∙ sym last))
+        (sym (ap (take (at + 1)) parts ∙ take_with (kept needed before) x (kept needed behind) ∙ sym last))
         (agree (before ++ x ∷ [])))
       where
         last : kept needed (before ++ x ∷ []) ≡ kept needed before ++ x ∷ []
@@ -146,9 +147,8 @@ module _ (needed : Name → Bool) where
     body_holds f (Some b) all hold = stmts_hold needed (take (length before + 1) u) (take (at + 1) t) declared_agree f b 0 b.stmts all hold
 
     text_holds : (y : tree.Item) → Each needed (item_functions y) → TextHolds u (length before) y → TextHolds t at y
-    text_holds (tree.Array name count bytes) all hold = tt
-    text_holds (tree.Var ty name number) all hold = tt
     text_holds (tree.Function f) all hold = body_holds f f.body all hold
+    text_holds _ all hold = tt
 
     item_holds : Each needed (item_functions x) → ItemHolds u (length before) x → ItemHolds t at x
     item_holds all hold = (item_rules_hold hold.0, text_holds x all hold.1)

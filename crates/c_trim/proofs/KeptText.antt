@@ -1,5 +1,9 @@
 -- The text of a unit that keeps the rules takes no address of w2c_depth, and what of it stays names functions that stay.
-use Rattle.c_trim.proofs.Common.{◌≡◌, ℕ, zero, suc, ◌+◌, Bool, true, false, not, ◌||◌, List, [], ◌∷◌, ◌++◌, take, is_some, if◌then◌else◌, Some, None, Option, flat_map, filter_map, bytes_eq, sym, refl, ap, ◌∙◌, list_all-append, bytes_eq-Decides, AllByRecursion, list_all, ⊤, both_hold, all_split, by_test, if_found, named, same_type, Name, Scope, file_variables, functions, name_of, pointer_to, variables, CType, KeptBody, KeptItem, Renaming, arg_functions, body_functions, callee_functions, stmt_functions}
+use Rattle.c_trim.proofs.Common.{◌≡◌, ℕ, zero, suc, ◌+◌, Bool, true, false, not, ◌||◌, List, [], ◌∷◌, ◌++◌, take, is_some, if◌then◌else◌}
+use Rattle.c_trim.proofs.Common.{Some, None, Option, flat_map, filter_map, bytes_eq, sym, refl, ap, ◌∙◌, list_all-append, bytes_eq-Decides}
+use Rattle.c_trim.proofs.Common.{AllByRecursion, list_all, ⊤, both_hold, all_split, by_test, if_found, named, same_type, Name, Scope}
+use Rattle.c_trim.proofs.Common.{file_variables, functions, name_of, pointer_to, variables, CType, KeptBody, KeptItem, Renaming}
+use Rattle.c_trim.proofs.Common.{arg_functions, body_functions, callee_functions, stmt_functions}
 use Rattle.c_tree.specs.Tree as tree
 use Rattle.c_tree.specs.Scope as scope
 use Rattle.c_tree.specs.Rules as rule
@@ -18,24 +22,8 @@ own_is_free x own =
     no : rule.is_own_name depth_name ≡ true → bytes_eq x depth_name ≡ false
     no e = cc
 
-symbol_is_free : (x : Name) → rule.is_symbol x ≡ true → bytes_eq x depth_name ≡ false
-symbol_is_free x is_symbol =
-    by_test (bytes_eq x depth_name) (λ is. no (ap rule.is_symbol (sym ((bytes_eq-Decides x depth_name).0 is)) ∙ is_symbol)) (λ is. is)
-  where
-    no : rule.is_symbol depth_name ≡ true → bytes_eq x depth_name ≡ false
-    no e = cc
-
 abbrev pub IsFree : tree.Item → Type 0
 IsFree item = bytes_eq (name_of item) depth_name ≡ false
-
-item_is_free : (item : tree.Item) → rule.file_name_is_free item ≡ true → IsFree item
-item_is_free (tree.Array name count bytes) e = own_is_free name e
-item_is_free (tree.Var ty name number) e = own_is_free name e
-item_is_free (tree.Function f) e = by f.is_static e
-  where
-    by : (b : Bool) → (if b then rule.is_own_name f.name else rule.is_symbol f.name) ≡ true → bytes_eq f.name depth_name ≡ false
-    by true e = own_is_free f.name e
-    by false e = symbol_is_free f.name e
 
 -- the second rule, of each item
 abbrev pub AreNamed : List tree.Item → Type 0
@@ -123,13 +111,7 @@ module _ (ρ : Renaming) (u : ℕ) (s : Scope) (none : named depth_name (file_va
       (kept_callee f two.0, kept_call target args two.1 (rule.callee_type s f) (callee_there f callee.0) suits)
   kept_stmt (tree.Return a) used known suits =
       kept_arg s.func.result a used (both_hold (not (rule.is_void s.func.result)) (rule.arg_suits s s.func.result a) suits).1
-  kept_stmt (tree.SetStar x e) used known suits = tt
-  kept_stmt (tree.If op left right x) used known suits = tt
-  kept_stmt (tree.Switch e cases x) used known suits = tt
-  kept_stmt tree.ReturnNone used known suits = tt
-  kept_stmt (tree.Label x) used known suits = tt
-  kept_stmt tree.Null used known suits = tt
-  kept_stmt (tree.Goto x) used known suits = tt
+  kept_stmt _ used known suits = tt
 
   kept_stmts : (k : ℕ) (stmts : List tree.Stmt) → Used (flat_map stmt_functions stmts) → StmtsHold s k stmts
       → text.Each (KeptStmt ρ u) stmts

@@ -1,17 +1,19 @@
-mod Common
-pub mod Lists
-pub mod RulesHold
-pub mod SameScope
-pub mod KeptRules
+-- What crates above cite.
 pub mod Needed
-pub mod KeptText
-pub mod Programs
-pub mod Distinct
-pub mod Links
-pub mod AlikeRuns
-pub mod Steps
-pub mod Marking
-pub mod Spread
-pub mod Exact
-pub mod InPlace
-pub mod Carried
+-- What the crate's own proofs cite.
+mod Common
+mod Lists
+mod RulesHold
+mod SameScope
+mod KeptRules
+mod KeptText
+mod Programs
+mod Distinct
+mod Links
+mod AlikeRuns
+mod Steps
+mod Marking
+mod Spread
+mod Exact
+mod InPlace
+mod Carried

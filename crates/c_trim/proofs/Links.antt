@@ -1,5 +1,10 @@
 -- Units in which one is trimmed link as before, and the same calls fit.
-use Rattle.c_trim.proofs.Common.{◌≡◌, ℕ, zero, suc, ◌+◌, Bool, true, false, not, ◌&&◌, ◌||◌, List, [], ◌∷◌, ◌++◌, length, take, is_some, if◌then◌else◌, slice_get, Some, None, Option, zip, flat_map, sym, refl, ap, ◌∙◌, list_any, range_with_len, if_found, Host, same_func_type, Name, func_type_of, LinkRefusal, NotDefined, Program, SymbolCall, Twice, TypeDiffers, defined_for_all, external_func, external_functions, fits, func_type, host_symbol, link_refusal, externals, made, names_kept, test_same, Renaming, AllKeepRules, among, TellsNeeded, kept, stays}
+use Rattle.c_trim.proofs.Common.{◌≡◌, ℕ, zero, suc, ◌+◌, Bool, true, false, not, ◌&&◌, ◌||◌, List, [], ◌∷◌, ◌++◌, length, take, is_some}
+use Rattle.c_trim.proofs.Common.{if◌then◌else◌, slice_get, Some, None, Option, zip, flat_map, sym, refl, ap, ◌∙◌, list_any, range_with_len}
+use Rattle.c_trim.proofs.Common.{if_found, Host, same_func_type, Name, func_type_of, LinkRefusal, NotDefined, Program, SymbolCall, Twice}
+use Rattle.c_trim.proofs.Common.{TypeDiffers, defined_for_all, external_func, external_functions, fits, func_type, host_symbol}
+use Rattle.c_trim.proofs.Common.{link_refusal, externals, made, names_kept, test_same, Renaming, AllKeepRules, among, TellsNeeded, kept}
+use Rattle.c_trim.proofs.Common.{stays}
 use Rattle.c_tree.specs.Tree as tree
 use Rattle.c_meaning.proofs.Links.{program_twice, program_unresolved, refusal_stands}
 use Rattle.c_renaming.specs.Trimming as whole
@@ -43,13 +48,12 @@ external_of item = elim item as (λ _. Option tree.Func) [
 ]
 
 not_external : (needed : Name → Bool) (item : tree.Item) → stays needed item ≡ false → external_of item ≡ None
-not_external needed (tree.Array name count bytes) e = cc
-not_external needed (tree.Var ty name number) e = cc
 not_external needed (tree.Function f) e = by f.is_static e
   where
     by : (b : Bool) → (not b || needed f.name) ≡ false → (if b then None else Some f) ≡ None
     by true e = refl
     by false e = cc
+not_external needed _ e = cc
 
 same_externals : (needed : Name → Bool) (items : List tree.Item) → external_functions (kept needed items) ≡ external_functions items
 same_externals needed items = map_left external_of (stays needed) (not_external needed) items

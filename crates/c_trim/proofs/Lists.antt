@@ -1,26 +1,16 @@
 -- Lists of which some elements are left out, and what holds of each element.
-use Rattle.c_trim.proofs.Common.{◌≡◌, ℕ, suc, ◌+◌, Bool, true, false, not, ◌&&◌, ◌||◌, List, [], ◌∷◌, ◌++◌, map, length, take, if◌then◌else◌, slice_get, Some, None, filter, Option, filter_map, bytes_eq, sym, refl, ap, ◌∙◌, arith, AllByRecursion, cons_option, list_all, list_any, option_or, both_hold, of_each, named}
-
-pub both_and : (a b : Bool) → a ≡ true → b ≡ true → (a && b) ≡ true
-both_and a b left right = λ i. left i && right i
-
-pub or_left : (a b : Bool) → a ≡ true → (a || b) ≡ true
-or_left a b e = ap (λ c. c || b) e
-
-pub or_right : (a b : Bool) → b ≡ true → (a || b) ≡ true
-or_right true b e = refl
-or_right false b e = e
-
-pub and_false : (a b : Bool) → b ≡ false → (a && b) ≡ false
-and_false true b e = e
-and_false false b e = refl
+use Rattle.c_trim.proofs.Common.{◌≡◌, ℕ, ◌+◌, Bool, true, false, ◌&&◌, ◌||◌, List, [], ◌∷◌, ◌++◌, map, if◌then◌else◌, None, filter, Option}
+use Rattle.c_trim.proofs.Common.{filter_map, sym, refl, ap, ◌∙◌, AllByRecursion, cons_option, list_all, list_any, option_or, both_hold}
+use Rattle.c_trim.proofs.Common.{of_each, named}
+use Rattle.std.proofs.lemmas.Bool.{and_from, or_right, or_left}
+use Rattle.name_table.proofs.Lookups.{named-append}
 
 pub all_where : {A : Type 0} (p q : A → Bool) → ((a : A) → p a ≡ true → q a ≡ true) → (xs : List A) → list_all p xs ≡ true
     → list_all q xs ≡ true
 all_where p q go [] e = refl
 all_where p q go (x ∷ xs) e =
     let two = both_hold (p x) (list_all p xs) e in
-    both_and (q x) (list_all q xs) (go x two.0) (all_where p q go xs two.1)
+    and_from (q x) (list_all q xs) (go x two.0) (all_where p q go xs two.1)
 
 pub all_left : {A : Type 0} (p keep : A → Bool) (xs : List A) → list_all p xs ≡ true → list_all p (filter keep xs) ≡ true
 all_left p keep [] e = refl
@@ -28,17 +18,8 @@ all_left {A} p keep (x ∷ xs) e =
     let two = both_hold (p x) (list_all p xs) e in by (keep x) two.0 (all_left p keep xs two.1)
   where
     by : (b : Bool) → p x ≡ true → list_all p (filter keep xs) ≡ true → list_all p (if b then x ∷ filter keep xs else filter keep xs) ≡ true
-    by true here behind = both_and (p x) (list_all p (filter keep xs)) here behind
+    by true here behind = and_from (p x) (list_all p (filter keep xs)) here behind
     by false here behind = behind
-
-pub any_of_both : {A : Type 0} (p : A → Bool) (xs ys : List A) → list_any p (xs ++ ys) ≡ (list_any p xs || list_any p ys)
-any_of_both p [] ys = refl
-any_of_both {A} p (x ∷ xs) ys = by (p x) (any_of_both p xs ys)
-  where
-    by : (b : Bool) → list_any p (xs ++ ys) ≡ (list_any p xs || list_any p ys)
-        → (b || list_any p (xs ++ ys)) ≡ ((b || list_any p xs) || list_any p ys)
-    by true behind = refl
-    by false behind = behind
 
 -- what passes a test and stays is found still
 pub any_left : {A : Type 0} (p keep : A → Bool) → ((a : A) → p a ≡ true → keep a ≡ true) → (xs : List A) → list_any p xs ≡ true
@@ -69,10 +50,6 @@ pub any_map : {A B : Type 0} (p : B → Bool) (f : A → B) (xs : List A) → li
 any_map p f [] = refl
 any_map p f (x ∷ xs) = ap (λ b. p (f x) || b) (any_map p f xs)
 
-pub not_true : (b : Bool) → not b ≡ true → b ≡ false
-not_true true e = cc
-not_true false e = refl
-
 -- what gives nothing may be left out
 pub map_left : {A B : Type 0} (f : A → Option B) (keep : A → Bool) → ((a : A) → keep a ≡ false → f a ≡ None) → (xs : List A)
     → filter_map f (filter keep xs) ≡ filter_map f xs
@@ -94,30 +71,7 @@ any_of_each {A} (x ∷ xs) = (
       (λ a there test e. or_right (test x) (list_any test xs) (there test e)) xs (any_of_each xs),
 )
 
-pub take_front : {A : Type 0} (xs ys : List A) → take (length xs) (xs ++ ys) ≡ xs
-take_front [] ys = refl
-take_front (x ∷ xs) ys = ap (λ l. x ∷ l) (take_front xs ys)
-
-pub take_next : {A : Type 0} (xs : List A) (y : A) (ys : List A) → take (length xs + 1) (xs ++ y ∷ ys) ≡ xs ++ y ∷ []
-take_next [] y ys = refl
-take_next (x ∷ xs) y ys =
-    let e : suc (length xs) + 1 ≡ suc (length xs + 1) = omega arith in
-    ap (λ n. take n (x ∷ (xs ++ y ∷ ys))) e ∙ ap (λ l. x ∷ l) (take_next xs y ys)
-
 -- ---- lists of nothing
-
-pub first_none : {A : Type 0} (xs : List A) → slice_get xs 0 ≡ None → xs ≡ []
-first_none [] e = refl
-first_none (x ∷ xs) e = cc
-
-named-append : {A : Type 0} (name : List ℕ) (xs ys : List (List ℕ × A)) → named name (xs ++ ys) ≡ option_or (named name xs) (named name ys)
-named-append name [] ys = refl
-named-append {A} name (x ∷ xs) ys = go (bytes_eq x.0 name) (named-append name xs ys)
-  where
-    go : (b : Bool) → named name (xs ++ ys) ≡ option_or (named name xs) (named name ys)
-        → (if b then Some x.1 else named name (xs ++ ys)) ≡ option_or (if b then Some x.1 else named name xs) (named name ys)
-    go true behind = refl
-    go false behind = behind
 
 -- what stands beside a name, by the list in front
 pub named_in_front : {A : Type 0} (name : List ℕ) (xs ys behind : List (List ℕ × A)) → named name xs ≡ named name ys

@@ -1,6 +1,8 @@
 -- What reaching functions by their names comes to, name by name.
-use Rattle.c_trim.proofs.Common.{◌≡◌, ℕ, zero, suc, ◌+◌, ◌<◌, ◌≤◌, Bool, true, false, List, [], ◌∷◌, ◌++◌, map, length, get_or, take, drop, if◌then◌else◌, Some, None, flat_map, sym, refl, ap, ◌∙◌, arith, position_from, option_or, named, Name, Reached, with_item, with_names}
-use Rattle.c_trim.proofs.Steps.{drop_one}
+use Rattle.c_trim.proofs.Common.{◌≡◌, ℕ, zero, suc, ◌+◌, ◌<◌, ◌≤◌, Bool, true, false, List, [], ◌∷◌, ◌++◌, map, length, get_or, take, drop}
+use Rattle.c_trim.proofs.Common.{if◌then◌else◌, Some, None, flat_map, sym, refl, ap, ◌∙◌, arith, position_from, option_or, named, Name}
+use Rattle.c_trim.proofs.Common.{Reached, with_item, with_names}
+use Rattle.c_tree.proofs.Tested.{at_front}
 
 pub with_both : (table : List (Name × ℕ)) (xs ys : List Name) (r : Reached) → with_names table (xs ++ ys) r
     ≡ with_names table ys (with_names table xs r)
@@ -15,7 +17,7 @@ pub one_reached : {A B : Type 0} (table : List (Name × ℕ)) (names : B → Lis
 one_reached table names f xs i item old new whole less is reached before =
     ap (with_names table (flat_map names (map f (drop (i + 1) xs)))) reached
     ∙ sym (with_both table (names (f item)) (flat_map names (map f (drop (i + 1) xs))) old)
-    ∙ sym (ap (λ l. with_names table (flat_map names (map f l)) old) (drop_one xs i item less is))
+    ∙ sym (ap (λ l. with_names table (flat_map names (map f l)) old) (at_front xs i item less is))
     ∙ before
 
 -- ---- the first of a list that passes

@@ -1,20 +1,22 @@
 -- What is needed in a unit: what stays of the unit names that alone, and it is needed in what stays too.
-use Rattle.c_trim.proofs.Common.{◌≡◌, Bool, true, false, not, ◌&&◌, ◌||◌, List, [], ◌∷◌, if◌then◌else◌, filter, bytes_eq, sym, refl, ap, ◌∙◌, subst, bytes_eq-Decides, AllByRecursion, list_any, both_hold, of_each, same_tests, KeepsRules, Name, is_among, name_of, IsNeeded, IsTrimmed, TellsNeeded, is_external, item_functions, kept, leads, names, stays}
+use Rattle.c_trim.proofs.Common.{◌≡◌, Bool, true, false, not, ◌&&◌, ◌||◌, List, [], ◌∷◌, if◌then◌else◌, filter, bytes_eq, sym, refl, ap}
+use Rattle.c_trim.proofs.Common.{◌∙◌, subst, bytes_eq-Decides, AllByRecursion, list_any, both_hold, of_each, same_tests, KeepsRules, Name}
+use Rattle.c_trim.proofs.Common.{is_among, name_of, IsNeeded, IsTrimmed, TellsNeeded, is_external, item_functions, kept, leads, names}
+use Rattle.c_trim.proofs.Common.{stays, all_filtered}
+use Rattle.std.proofs.lemmas.Bool.{and_from, or_right}
 use Rattle.c_tree.specs.Tree as tree
 use Rattle.c_tree.specs.Spelled.{Formed, FitsItem, depth_limit}
 use Rattle.c_tree.specs.WellFormed.{IsWellFormed, NamedItem}
 use Rattle.c_tree.proofs.WellFormedUnits as whole
-use Rattle.c_trim.proofs.Lists.{both_and, or_right, any_left, any_of_each}
+use Rattle.c_meaning.proofs.Lookups.{bytes_equal}
+use Rattle.c_trim.proofs.Lists.{any_left, any_of_each}
 use Rattle.c_trim.proofs.SameScope.{Each}
 use Rattle.c_trim.proofs.KeptRules.{IsClosed, kept_keeps_rules}
-
-itself : (x : Name) → bytes_eq x x ≡ true
-itself x = (bytes_eq-Decides x x).1 refl
 
 -- each name of a list is among them
 each_among : (xs : List Name) → AllByRecursion (λ (x : Name). is_among x xs ≡ true) xs
 each_among xs = of_each (λ (x : Name). (test : Name → Bool) → test x ≡ true → list_any test xs ≡ true)
-    (λ (x : Name). is_among x xs ≡ true) (λ x there. there (bytes_eq x) (itself x)) xs (any_of_each xs)
+    (λ (x : Name). is_among x xs ≡ true) (λ x there. there (bytes_eq x) (bytes_equal x)) xs (any_of_each xs)
 
 module _ (unit : List tree.Item) (needed : Name → Bool) (tells : TellsNeeded unit needed) where
   abbrev IsThere : tree.Item → Type 0
@@ -23,24 +25,23 @@ module _ (unit : List tree.Item) (needed : Name → Bool) (tells : TellsNeeded u
   -- what an item names is needed, where it stays
   named_needed : (item : tree.Item) → IsThere item → stays needed item ≡ true → (x : Name) → is_among x (item_functions item) ≡ true
       → needed x ≡ true
-  named_needed (tree.Array name count bytes) there stay x among = cc
-  named_needed (tree.Var ty name number) there stay x among = cc
   named_needed (tree.Function f) there stay x among = by f.is_static refl stay
     where
       by : (b : Bool) → f.is_static ≡ b → (not b || needed f.name) ≡ true → needed x ≡ true
       by false is stay = (tells x).1 (record {
         chain = [];
-        leads_there = there (λ item. is_external item && is_among x (item_functions item)) (both_and (not f.is_static) _ (ap not is) among);
+        leads_there = there (λ item. is_external item && is_among x (item_functions item)) (and_from (not f.is_static) _ (ap not is) among);
       })
       by true is stay =
           let need : IsNeeded unit f.name = (tells f.name).0 stay in
           (tells x).1 (record {
             chain = f.name ∷ need.chain;
-            leads_there = both_and (names unit f.name x) _
+            leads_there = and_from (names unit f.name x) _
                 (there (λ item. bytes_eq (name_of item) f.name
-                && is_among x (item_functions item)) (both_and (bytes_eq f.name f.name) _ (itself f.name) among))
+                && is_among x (item_functions item)) (and_from (bytes_eq f.name f.name) _ (bytes_equal f.name) among))
                 need.leads_there;
           })
+  named_needed _ there stay x among = cc
 
   pub closed : IsClosed needed unit
   closed = of_each IsThere (λ (item : tree.Item). stays needed item ≡ true → Each needed (item_functions item))
@@ -50,23 +51,21 @@ module _ (unit : List tree.Item) (needed : Name → Bool) (tells : TellsNeeded u
   -- ---- in what stays
 
   external_stays : (x : Name) (item : tree.Item) → (is_external item && is_among x (item_functions item)) ≡ true → stays needed item ≡ true
-  external_stays x (tree.Array name count bytes) e = refl
-  external_stays x (tree.Var ty name number) e = refl
   external_stays x (tree.Function f) e = ap (λ b. b || needed f.name) (both_hold (not f.is_static) _ e).0
+  external_stays x _ e = refl
 
   named_stays : (y x : Name) → needed y ≡ true → (item : tree.Item) → (bytes_eq (name_of item) y && is_among x (item_functions item)) ≡ true
       → stays needed item ≡ true
-  named_stays y x is (tree.Array name count bytes) e = refl
-  named_stays y x is (tree.Var ty name number) e = refl
   named_stays y x is (tree.Function f) e =
       or_right (not f.is_static) (needed f.name) (ap needed ((bytes_eq-Decides f.name y).0 (both_hold (bytes_eq f.name y) _ e).0) ∙ is)
+  named_stays y x is _ e = refl
 
   leads_still : (chain : List Name) (x : Name) → leads unit chain x ≡ true → leads (kept needed unit) chain x ≡ true
   leads_still [] x e = any_left _ (stays needed) (external_stays x) unit e
   leads_still (y ∷ chain) x e =
       let two = both_hold (names unit y x) (leads unit chain y) e in
       let need : needed y ≡ true = (tells y).1 (record { chain = chain; leads_there = two.1 }) in
-      both_and (names (kept needed unit) y x) (leads (kept needed unit) chain y)
+      and_from (names (kept needed unit) y x) (leads (kept needed unit) chain y)
       (any_left _ (stays needed) (named_stays y x need) unit two.0) (leads_still chain y two.1)
 
   needed_still : (x : Name) → IsNeeded unit x → IsNeeded (kept needed unit) x
@@ -94,13 +93,12 @@ trimmed_again unit once twice first second =
         (needed_still unit first.needed first.tells x ((first.tells x).0 is)))
 
     more : (item : tree.Item) → stays first.needed item ≡ true → stays second.needed item ≡ true
-    more (tree.Array name count bytes) e = refl
-    more (tree.Var ty name number) e = refl
     more (tree.Function f) e = by f.is_static e
       where
         by : (b : Bool) → (not b || first.needed f.name) ≡ true → (not b || second.needed f.name) ≡ true
         by false e = refl
         by true e = need f.name e
+    more _ e = refl
 
 -- a unit is trimmed in one way
 pub one_trimmed : (unit one other : List tree.Item) → IsTrimmed unit one → IsTrimmed unit other → one ≡ other
@@ -111,28 +109,19 @@ one_trimmed unit one other left right = left.is ∙ same unit ∙ sym right.is
         (λ is. (right.tells x).1 ((left.tells x).0 is)) (λ is. (left.tells x).1 ((right.tells x).0 is))
 
     same_stays : (item : tree.Item) → stays left.needed item ≡ stays right.needed item
-    same_stays (tree.Array name count bytes) = refl
-    same_stays (tree.Var ty name number) = refl
     same_stays (tree.Function f) = ap (λ b. not f.is_static || b) (same_test f.name)
+    same_stays _ = refl
 
     same : (items : List tree.Item) → kept left.needed items ≡ kept right.needed items
     same [] = refl
     same (item ∷ items) = λ i. if same_stays item i then item ∷ same items i else same items i
 
-each_left : {A : Type 0} (P : A → Type 0) (keep : A → Bool) (xs : List A) → AllByRecursion P xs → AllByRecursion P (filter keep xs)
-each_left P keep [] all = tt
-each_left {A} P keep (x ∷ xs) all = by (keep x) (each_left P keep xs all.1)
-  where
-    by : (b : Bool) → AllByRecursion P (filter keep xs) → AllByRecursion P (if b then x ∷ filter keep xs else filter keep xs)
-    by true behind = (all.0, behind)
-    by false behind = behind
-
 pub trimmed_formed : (unit trimmed : List tree.Item) → IsTrimmed unit trimmed → Formed unit → Formed trimmed
 trimmed_formed unit trimmed is formed =
     let well : IsWellFormed unit = whole.well_formed unit formed in
     subst Formed (sym is.is) (whole.formed (kept is.needed unit) (record {
-      named = each_left NamedItem (stays is.needed) unit well.named;
-      fits = each_left (FitsItem depth_limit) (stays is.needed) unit well.fits;
+      named = all_filtered NamedItem (stays is.needed) unit well.named;
+      fits = all_filtered (FitsItem depth_limit) (stays is.needed) unit well.fits;
     }))
 
 pub trimmed_keeps : (unit trimmed : List tree.Item) → IsTrimmed unit trimmed → KeepsRules unit → KeepsRules trimmed

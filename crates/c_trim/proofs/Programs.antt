@@ -1,12 +1,16 @@
 -- A unit among others, trimmed, makes a program from which functions are left out that no text uses.
-use Rattle.c_trim.proofs.Common.{◌≡◌, ℕ, ◌+◌, ◌<◌, Bool, true, false, not, ◌&&◌, ◌||◌, ◌≢◌, List, [], ◌∷◌, ◌++◌, map, length, is_some, if◌then◌else◌, ◌==◌, slice_get, Some, None, Option, option_map, zip, filter_map, sym, refl, ap, ◌∙◌, subst, arith, eq-eqb, eqb-true, AllByRecursion, cons_option, range_with_len, both_hold, of_each, by_test, Host, Name, Program, trimmed_renames, KeptItem, item_stays, Renaming, AllKeepRules, among, TellsNeeded, body_functions, kept, stays}
+use Rattle.c_trim.proofs.Common.{◌≡◌, ℕ, ◌+◌, ◌<◌, Bool, true, false, not, ◌&&◌, ◌||◌, ◌≢◌, List, [], ◌∷◌, ◌++◌, map, length, is_some}
+use Rattle.c_trim.proofs.Common.{if◌then◌else◌, ◌==◌, slice_get, Some, None, Option, option_map, zip, filter_map, sym, refl, ap, ◌∙◌, subst}
+use Rattle.c_trim.proofs.Common.{arith, eq-eqb, eqb-true, AllByRecursion, cons_option, range_with_len, both_hold, of_each, by_test, Host}
+use Rattle.c_trim.proofs.Common.{Name, Program, trimmed_renames, KeptItem, item_stays, Renaming, AllKeepRules, among, TellsNeeded}
+use Rattle.c_trim.proofs.Common.{body_functions, kept, stays}
+use Rattle.std.proofs.lemmas.Bool.{and_from, or_right, or_left}
 use Rattle.c_tree.specs.Tree as tree
 use Rattle.c_tree.specs.Rules as rule
 use Rattle.c_meaning.specs.Linking.{Definition, definition_of, definition_at, is_external}
 use Rattle.c_renaming.specs.Renames.{Renames}
 use Rattle.c_renaming.specs.Kept as text
 use Rattle.c_renaming.specs.Trimming as whole
-use Rattle.c_trim.proofs.Lists.{both_and, or_left, or_right}
 use Rattle.c_trim.proofs.RulesHold.{rules_hold}
 use Rattle.c_trim.proofs.SameScope.{Each}
 use Rattle.c_trim.proofs.KeptRules.{IsClosed}
@@ -16,9 +20,6 @@ use Rattle.c_trim.proofs.Needed.{closed}
 not_same : (j k : ℕ) → j ≢ k → (j == k) ≡ false
 not_same j k apart = by_test (j == k) (λ is. absurd (apart (eqb-true j k is))) (λ is. is)
 
-same_number : (k : ℕ) → (k == k) ≡ true
-same_number k = eq-eqb k k refl
-
 -- external names stay, and so do those that are needed
 abbrev pub name_stays : (Name → Bool) → Name → Bool
 name_stays needed x = rule.is_symbol x || needed x
@@ -26,8 +27,6 @@ name_stays needed x = rule.is_symbol x || needed x
 -- by names and by items the same is kept
 pub same_stays : (needed : Name → Bool) (item : tree.Item) → rule.file_name_is_free item ≡ true
     → item_stays (name_stays needed) item ≡ stays needed item
-same_stays needed (tree.Array name count bytes) free = refl
-same_stays needed (tree.Var ty name number) free = refl
 same_stays needed (tree.Function f) free = by f.is_static free
   where
     own : (b c : Bool) → (not b && not c) ≡ true → c ≡ false
@@ -39,6 +38,7 @@ same_stays needed (tree.Function f) free = by f.is_static free
         → (rule.is_symbol f.name || needed f.name) ≡ (not b || needed f.name)
     by true e = ap (λ b. b || needed f.name) (own (rule.is_runtime_name f.name) (rule.is_symbol f.name) e)
     by false e = ap (λ b. b || needed f.name) e
+same_stays needed _ free = refl
 
 same_left : (needed : Name → Bool) (items : List tree.Item) → AreNamed items → whole.left (name_stays needed) items ≡ kept needed items
 same_left needed [] free = refl
@@ -90,7 +90,7 @@ module _ (before after : List (List tree.Item)) (hosts : List Host) (unit : List
   names_stay u items there = by_test (u == k) mine others
     where
       is_used : (x : Name) → stay u x ≡ true → used u x ≡ true
-      is_used x is = both_and (is_some (slice_get p.units u)) (stay u x || not (is_some (definition_at p u x))) (ap is_some there)
+      is_used x is = and_from (is_some (slice_get p.units u)) (stay u x || not (is_some (definition_at p u x))) (ap is_some there)
           (or_left (stay u x) (not (is_some (definition_at p u x))) is)
 
       others : (u == k) ≡ false → AllByRecursion (NamesUsed ρ u (stay u)) items

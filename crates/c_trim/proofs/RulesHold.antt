@@ -1,8 +1,10 @@
 -- A unit keeps the rules where each of its items and statements does.
-use Rattle.c_trim.proofs.Common.{◌≡◌, ℕ, ◌+◌, Bool, true, false, not, List, [], ◌∷◌, ◌++◌, map, length, take, if◌then◌else◌, slice_get, Some, None, filter, Option, zip, flat_map, sym, refl, ap, ◌∙◌, subst, append_assoc, length_push, AllByRecursion, range_with_len, ⊤, numbered, BrokenAt, KeepsRules, broken_in_body, broken_in_item, broken_in_stmt, broken_of, broken_rules, Place, StmtPlace, item_rules, stmt_rules, Scope}
+use Rattle.c_trim.proofs.Common.{◌≡◌, ℕ, ◌+◌, Bool, true, false, not, List, [], ◌∷◌, ◌++◌, map, length, take, if◌then◌else◌, slice_get}
+use Rattle.c_trim.proofs.Common.{Some, None, filter, Option, zip, flat_map, sym, refl, ap, ◌∙◌, subst, append_assoc, length_push}
+use Rattle.c_trim.proofs.Common.{AllByRecursion, range_with_len, ⊤, numbered, BrokenAt, KeepsRules, broken_in_body, broken_in_item}
+use Rattle.c_trim.proofs.Common.{broken_in_stmt, broken_of, broken_rules, Place, StmtPlace, item_rules, stmt_rules, Scope}
 use Rattle.c_tree.specs.Tree as tree
-use Rattle.w2c_base.proofs.Nothing.{append_none, map_none}
-use Rattle.c_trim.proofs.Lists.{first_none}
+use Rattle.w2c_base.proofs.Nothing.{append_none, map_none, none_first}
 
 -- each rule holds at a place
 abbrev pub Hold : {P : Type 0} → List (ℕ × (P → Bool)) → P → Type 0
@@ -83,22 +85,20 @@ in_body unit k f body = elim body as (λ _. List BrokenAt) [
 ]
 
 text_holds : (unit : List tree.Item) (k : ℕ) (x : tree.Item) → broken_in_body unit k x ≡ [] → TextHolds unit k x
-text_holds unit k (tree.Array name count bytes) e = tt
-text_holds unit k (tree.Var ty name number) e = tt
 text_holds unit k (tree.Function f) e = by f.body e
   where
     by : (o : Option tree.Body) → in_body unit k f o ≡ [] → BodyHolds unit k f o
     by None e = tt
     by (Some b) e = stmts_hold (scope_at unit k f b) k 0 b.stmts e
+text_holds unit k _ e = tt
 
 none_in_text : (unit : List tree.Item) (k : ℕ) (x : tree.Item) → TextHolds unit k x → broken_in_body unit k x ≡ []
-none_in_text unit k (tree.Array name count bytes) hold = refl
-none_in_text unit k (tree.Var ty name number) hold = refl
 none_in_text unit k (tree.Function f) hold = by f.body hold
   where
     by : (o : Option tree.Body) → BodyHolds unit k f o → in_body unit k f o ≡ []
     by None hold = refl
     by (Some b) hold = none_in_stmts (scope_at unit k f b) k 0 b.stmts hold
+none_in_text unit k _ hold = refl
 
 abbrev in_items : List tree.Item → ℕ → List tree.Item → List BrokenAt
 in_items unit k items = flat_map (broken_in_item unit) (zip (range_with_len k (length items)) items)
@@ -126,7 +126,7 @@ none_in_items unit k (x ∷ items) hold = λ i.
     ++ none_in_items unit (k + 1) items hold.1 i
 
 pub rules_hold : (unit : List tree.Item) → KeepsRules unit → ItemsHold unit 0 unit
-rules_hold unit keeps = items_hold unit 0 unit (first_none (broken_rules unit) keeps)
+rules_hold unit keeps = items_hold unit 0 unit (none_first (broken_rules unit) keeps)
 
 pub keeps_rules : (unit : List tree.Item) → ItemsHold unit 0 unit → KeepsRules unit
 keeps_rules unit hold = ap (λ found. slice_get found 0) (none_in_items unit 0 unit hold)

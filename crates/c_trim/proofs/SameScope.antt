@@ -1,5 +1,9 @@
 -- Rules of a statement in two scopes that differ in functions alone which the statement does not name.
-use Rattle.c_trim.proofs.Common.{◌≡◌, ℕ, ◌+◌, Bool, true, false, not, ◌&&◌, ◌||◌, List, [], ◌∷◌, ◌++◌, map, is_some, Some, None, codes, Option, flat_map, filter_map, sym, refl, ap, ◌∙◌, list_all-append, AllByRecursion, list_all, all_split, if_found, named, primitives, same_type, Name, Scope, arrays, file_functions, functions, is_among, is_comparison, is_object_type, pointed_by, pointer_to, type_of, typing_of, variables, CType, arg_functions, callee_functions, stmt_functions}
+use Rattle.c_trim.proofs.Common.{◌≡◌, ℕ, ◌+◌, Bool, true, false, not, ◌&&◌, ◌||◌, List, [], ◌∷◌, ◌++◌, map, is_some, Some, None, codes}
+use Rattle.c_trim.proofs.Common.{Option, flat_map, filter_map, sym, refl, ap, ◌∙◌, list_all-append, AllByRecursion, list_all, all_split}
+use Rattle.c_trim.proofs.Common.{if_found, named, primitives, same_type, Name, Scope, arrays, file_functions, functions, is_among}
+use Rattle.c_trim.proofs.Common.{is_comparison, is_object_type, pointed_by, pointer_to, type_of, typing_of, variables, CType, arg_functions}
+use Rattle.c_trim.proofs.Common.{callee_functions, stmt_functions}
 use Rattle.c_tree.specs.declared.tree.CType.TheVariants as type
 use Rattle.c_tree.specs.Tree as tree
 use Rattle.c_tree.specs.Scope as scope
@@ -113,10 +117,7 @@ module _ (needed : Name → Bool) (old new : List tree.Item) (agree : AgreeOn ne
   known_stmt (tree.If op left right x) all = all_append (rule.expr_uses left) (rule.expr_uses right) (known_expr left) (known_expr right)
   known_stmt (tree.Switch e cases x) all = known_expr e
   known_stmt (tree.Return a) all = known_arg a all
-  known_stmt (tree.Label x) all = refl
-  known_stmt tree.Null all = refl
-  known_stmt (tree.Goto x) all = refl
-  known_stmt tree.ReturnNone all = refl
+  known_stmt _ all = refl
 
   -- ---- rule 9: expressions have types
 
@@ -125,8 +126,7 @@ module _ (needed : Name → Bool) (old new : List tree.Item) (agree : AgreeOn ne
 
   same_arg_type : (a : tree.Arg) → rule.arg_has_type s' a ≡ rule.arg_has_type s a
   same_arg_type (tree.Value e) = same_has_type e
-  same_arg_type (tree.Address x) = refl
-  same_arg_type (tree.OfFunction x) = refl
+  same_arg_type _ = refl
 
   same_arg_types : (args : List tree.Arg) → list_all (rule.arg_has_type s') args ≡ list_all (rule.arg_has_type s) args
   same_arg_types [] = refl
@@ -154,10 +154,7 @@ module _ (needed : Name → Bool) (old new : List tree.Item) (agree : AgreeOn ne
       && is_some o) (λ i. scope.common_type (same_typing left i) (same_typing right i))
   same_typed (tree.Switch e cases x) = same_has_type e
   same_typed (tree.Return a) = same_arg_type a
-  same_typed (tree.Label x) = refl
-  same_typed tree.Null = refl
-  same_typed (tree.Goto x) = refl
-  same_typed tree.ReturnNone = refl
+  same_typed _ = refl
 
   -- ---- rule 10: assignments, calls and results
 
@@ -202,28 +199,15 @@ module _ (needed : Name → Bool) (old new : List tree.Item) (agree : AgreeOn ne
   same_stmt_suits (tree.Call target f args) all =
       let two = all_split (λ (x : Name). needed x ≡ true) (callee_functions f) (flat_map arg_functions args) all in
       ap (λ o. rule.if_any o (rule.call_suits s' target args)) (same_callee f two.0) ∙ same_call target args two.1 (rule.callee_type s f)
-  same_stmt_suits tree.ReturnNone all = refl
   same_stmt_suits (tree.Return a) all = ap (λ b. not (rule.is_void func.result) && b) (same_suit func.result a all)
-  same_stmt_suits (tree.If op left right x) all = refl
-  same_stmt_suits (tree.Switch e cases x) all = refl
-  same_stmt_suits (tree.Label x) all = refl
-  same_stmt_suits tree.Null all = refl
-  same_stmt_suits (tree.Goto x) all = refl
+  same_stmt_suits _ all = refl
 
   -- ---- rule 11: cases of a switch
 
   same_cases : (k : ℕ) (stmt : tree.Stmt) → rule.cases_are_distinct (stmt_at s' k stmt) ≡ rule.cases_are_distinct (stmt_at s k stmt)
   same_cases k (tree.Switch e cases x) =
       ap (λ o. rule.if_any o (rule.cases_suit cases) && rule.are_distinct_numbers (map rule.case_value cases)) (same_type_of e)
-  same_cases k (tree.Set x a) = refl
-  same_cases k (tree.SetStar x e) = refl
-  same_cases k (tree.Call target f args) = refl
-  same_cases k tree.ReturnNone = refl
-  same_cases k (tree.Return a) = refl
-  same_cases k (tree.If op left right x) = refl
-  same_cases k (tree.Label x) = refl
-  same_cases k tree.Null = refl
-  same_cases k (tree.Goto x) = refl
+  same_cases k _ = refl
 
   -- ---- all rules of statements
 

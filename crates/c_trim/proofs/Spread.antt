@@ -1,7 +1,15 @@
 -- Reaching functions keeps what the marks say, and goes on for as long as there are items.
-use Rattle.c_trim.proofs.Common.{◌≡◌, ℕ, zero, suc, ◌+◌, ◌-◌, ◌<◌, ◌≤◌, Bool, true, false, ◌&&◌, ◌||◌, ◌⊎◌, List, [], ◌∷◌, ◌++◌, length, take, if◌then◌else◌, ◌==◌, slice_get, slice_index_or, slice_set, Some, None, Option, bytes_eq, sym, refl, ap, ◌∙◌, subst, inl, inr, append_assoc, append-nil, arith, length-append, eq-eqb, eqb-true, bytes_eq-Decides, list_any, both_hold, named, defines, has_body, Name, is_among, name_of, Found, position_found, AreReached, BegunTo, FollowedTo, IsWanted, KnowsDefiners, Reached, begins, definer, functions_at, is_in, unreached, with_item, with_names, IsNeeded, is_external, item_functions, names}
+use Rattle.c_trim.proofs.Common.{◌≡◌, ℕ, zero, suc, ◌+◌, ◌-◌, ◌<◌, ◌≤◌, Bool, true, false, ◌&&◌, ◌||◌, ◌⊎◌, List, [], ◌∷◌, ◌++◌, length}
+use Rattle.c_trim.proofs.Common.{take, if◌then◌else◌, ◌==◌, slice_get, slice_index_or, slice_set, Some, None, Option, bytes_eq, sym, refl}
+use Rattle.c_trim.proofs.Common.{ap, ◌∙◌, subst, inl, inr, append_assoc, append-nil, arith, length-append, eq-eqb, eqb-true}
+use Rattle.c_trim.proofs.Common.{bytes_eq-Decides, list_any, both_hold, named, defines, has_body, Name, is_among, name_of, Found}
+use Rattle.c_trim.proofs.Common.{position_found, AreReached, BegunTo, FollowedTo, IsWanted, KnowsDefiners, Reached, begins, definer}
+use Rattle.c_trim.proofs.Common.{functions_at, is_in, unreached, with_item, with_names, IsNeeded, is_external, item_functions, names}
+use Rattle.c_trim.proofs.Common.{list_any-append}
+use Rattle.std.proofs.lemmas.Bool.{and_from, or_right, or_left, false≢true}
+use Rattle.std.proofs.lemmas.Option.{same_Some, slice_get_within}
+use Rattle.w2c_base.proofs.Places.{get_within}
 use Rattle.c_tree.specs.Tree as tree
-use Rattle.c_trim.proofs.Lists.{both_and, or_left, or_right, any_of_both}
 
 abbrev flag : List Bool → ℕ → Bool
 flag flags j = slice_index_or flags j false
@@ -62,13 +70,14 @@ fewer (false ∷ flags) (suc j) e = ap suc (fewer flags j e)
 -- ---- numbers in a list
 
 in_front : (j : ℕ) (xs ys : List ℕ) → is_in j xs ≡ true → is_in j (xs ++ ys) ≡ true
-in_front j xs ys e = any_of_both (λ m. m == j) xs ys ∙ or_left (is_in j xs) (is_in j ys) e
+in_front j xs ys e = list_any-append (λ m. m == j) xs ys ∙ or_left (is_in j xs) (is_in j ys) e
 
 at_end : (j : ℕ) (xs : List ℕ) → is_in j (xs ++ j ∷ []) ≡ true
-at_end j xs = any_of_both (λ m. m == j) xs (j ∷ []) ∙ or_right (is_in j xs) (is_in j (j ∷ [])) (or_left (j == j) false (eq-eqb j j refl))
+at_end j xs = list_any-append (λ m. m == j) xs (j ∷ []) ∙
+    or_right (is_in j xs) (is_in j (j ∷ [])) (or_left (j == j) false (eq-eqb j j refl))
 
 in_either : (j m : ℕ) (xs : List ℕ) → is_in j (xs ++ m ∷ []) ≡ true → (is_in j xs ≡ true) ⊎ (m ≡ j)
-in_either j m xs e = by (is_in j xs) (m == j) refl (sym (any_of_both (λ n. n == j) xs (m ∷ [])) ∙ e)
+in_either j m xs e = by (is_in j xs) (m == j) refl (sym (list_any-append (λ n. n == j) xs (m ∷ [])) ∙ e)
   where
     by : (b c : Bool) → (m == j) ≡ c → (b || (c || false)) ≡ true → (b ≡ true) ⊎ (m ≡ j)
     by true c is e = inl refl
@@ -180,11 +189,6 @@ module _ (unit : List tree.Item) where
       let same : f.at ≡ m = omega (arith, is) in
       record { item = f.item; there = subst (λ k. slice_get unit k ≡ Some f.item) same f.there; defines_it = f.passes }
 
-  pub get_less : {A : Type 0} (xs : List A) (i : ℕ) (x : A) → slice_get xs i ≡ Some x → i < length xs
-  get_less [] i x e = cc
-  get_less (y ∷ xs) zero x e = omega arith
-  get_less (y ∷ xs) (suc i) x e = let less = get_less xs i x e in omega arith
-
   module _ (table : List (Name × ℕ)) (knows : KnowsDefiners table unit) where
     reached_names : (names : List Name) (r : Reached) → AreReached unit r → ((x : Name) → is_among x names ≡ true → IsNeeded unit x)
         → AreReached unit (with_names table names r)
@@ -234,13 +238,13 @@ module _ (unit : List tree.Item) where
     names_needed i item there (inl external) x among = record {
       chain = [];
       leads_there =
-          any_at unit i item (λ y. is_external y && is_among x (item_functions y)) there (both_and (is_external item) _ external among);
+          any_at unit i item (λ y. is_external y && is_among x (item_functions y)) there (and_from (is_external item) _ external among);
     }
     names_needed i item there (inr need) x among = record {
       chain = name_of item ∷ need.chain;
-      leads_there = both_and (names unit (name_of item) x) _
+      leads_there = and_from (names unit (name_of item) x) _
           (any_at unit i item (λ y. bytes_eq (name_of y) (name_of item) && is_among x (item_functions y)) there
-          (both_and (bytes_eq (name_of item) (name_of item)) _ ((bytes_eq-Decides (name_of item) (name_of item)).1 refl) among))
+          (and_from (bytes_eq (name_of item) (name_of item)) _ ((bytes_eq-Decides (name_of item) (name_of item)).1 refl) among))
           need.leads_there;
     }
 
@@ -248,11 +252,6 @@ module _ (unit : List tree.Item) where
     in_at [] k i e = cc
     in_at (x ∷ xs) zero i e = let same : x ≡ i = cc in or_left (x == i) (is_in i xs) (eq-eqb x i same)
     in_at (x ∷ xs) (suc k) i e = or_right (x == i) (is_in i xs) (in_at xs k i e)
-
-    get_there : {A : Type 0} (xs : List A) (k : ℕ) → k < length xs → (i : A) × (slice_get xs k ≡ Some i)
-    get_there [] k less = absurd (omega arith)
-    get_there (x ∷ xs) zero less = (x, refl)
-    get_there (x ∷ xs) (suc k) less = get_there xs k (omega arith)
 
     take_at_place : (xs more : List ℕ) (k i : ℕ) → slice_get xs k ≡ Some i → take (k + 1) (xs ++ more) ≡ take k xs ++ i ∷ []
     take_at_place [] more k i e = cc
@@ -264,11 +263,11 @@ module _ (unit : List tree.Item) where
     pub follow : (k : ℕ) (r r' : Reached) → k < length r.1 → r' ≡ with_names table (functions_at unit (slice_get r.1 k)) r
         → AreReached unit r → FollowedTo unit k r → AreReached unit r' × FollowedTo unit (k + 1) r'
     follow k r r' less is old followed =
-        let at = get_there r.1 k less in
+        let at = get_within r.1 k less in
         let i : ℕ = at.0 in
         let inside : is_in i r.1 ≡ true = in_at r.1 k i at.1 in
         let short : i < length unit = subst (λ n. i < n) old.long (true_there r.0 i (old.flagged i inside)) in
-        let found = get_there unit i short in
+        let found = get_within unit i short in
         let item : tree.Item = found.0 in
         let named_here : functions_at unit (slice_get r.1 k) ≡ item_functions item =
         ap (functions_at unit) at.1
@@ -290,15 +289,12 @@ module _ (unit : List tree.Item) where
             g.flags m (followed j other before there x among m defines_it)
         by i item at found new g j other there x among m defines_it (inr same) =
             let other_is : item ≡ other =
-            same_item item other (sym found ∙ ap (slice_get unit) same ∙ there) in
+            same_Some item other (sym found ∙ ap (slice_get unit) same ∙ there) in
             let d = defined_at x m defines_it in
-            let short : m < length r.0 = subst (λ n. m < n) (sym old.long) (get_less unit m d.item d.there) in
+            let short : m < length r.0 = subst (λ n. m < n) (sym old.long) (slice_get_within unit m d.item d.there) in
             ap (λ (s : Reached). flag s.0 m) new
             ∙ names_flagged (item_functions item) r x m (ap (λ y. is_among x (item_functions y)) other_is ∙ among) (knows x
             ∙ defines_it) short
-          where
-            same_item : (a b : tree.Item) → Some a ≡ Some b → a ≡ b
-            same_item a b e = cc
 
 -- ---- the begin
 
@@ -311,19 +307,16 @@ begin_next unit i item r r' there is old begun = by (begins item) refl is
         → flag s.0 j ≡ true
     before j s g other at starts less = g.flags j (begun j other less at starts)
 
-    same_item : (a b : tree.Item) → Some a ≡ Some b → a ≡ b
-    same_item a b e = cc
-
     either : (j : ℕ) → j < i + 1 → (j < i) ⊎ (j ≡ i)
     either j less = grind arith
 
     by : (b : Bool) → begins item ≡ b → r' ≡ (if b then with_item (Some i) r else r) → AreReached unit r' × BegunTo unit (i + 1) r'
     by true starts new =
         let want : (other : tree.Item) → slice_get unit i ≡ Some other → IsWanted unit other =
-        λ other at. inl (ap is_external (sym (same_item item other (sym there ∙ at)))
+        λ other at. inl (ap is_external (sym (same_Some item other (sym there ∙ at)))
         ∙ (both_hold (is_external item) (has_body item) starts).0) in
         let g : Grows r r' = subst (Grows r) (sym new) (grows_item (Some i) r) in
-        let less : i < length r.0 = subst (λ n. i < n) (sym old.long) (get_less unit unit i item there) in (
+        let less : i < length r.0 = subst (λ n. i < n) (sym old.long) (slice_get_within unit i item there) in (
           subst (AreReached unit) (sym new)
               (reached_item unit i r old want),
           λ j other short at begun_here. go g less j other at begun_here (either j short),
@@ -339,11 +332,8 @@ begin_next unit i item r r' there is old begun = by (begins item) refl is
         go : (j : ℕ) (other : tree.Item) → slice_get unit j ≡ Some other → begins other ≡ true → (j < i) ⊎ (j ≡ i) → flag r'.0 j ≡ true
         go j other at begun_here (inl short) = before j r' (subst (Grows r) (sym new) (grows_item None r)) other at begun_here short
         go j other at begun_here (inr same) =
-            let other_is : other ≡ item = same_item other item (sym at ∙ ap (slice_get unit) same ∙ there) in
-            absurd (never (sym starts ∙ ap begins (sym other_is) ∙ begun_here))
-          where
-            never : false ≡ true → ⊥
-            never e = cc
+            let other_is : other ≡ item = same_Some other item (sym at ∙ ap (slice_get unit) same ∙ there) in
+            absurd (false≢true (sym starts ∙ ap begins (sym other_is) ∙ begun_here))
 
 -- ---- the loop over the order
 

@@ -1,5 +1,6 @@
 -- Tools of the code, which no promise names: the functions that were reached so far, by the numbers of their items.
-use Rattle.std.specs.Prelude.{◌≡◌, ◌⊎◌, ℕ, suc, ◌<◌, ◌==◌, ◌&&◌, Bool, true, false, if◌then◌else◌, List, [], ◌∷◌, ◌++◌, length, take, slice_get, slice_set, slice_index_or, Option, Some, None}
+use Rattle.std.specs.Prelude.{◌≡◌, ◌⊎◌, ℕ, suc, ◌<◌, ◌==◌, ◌&&◌, Bool, true, false, if◌then◌else◌, List, [], ◌∷◌, ◌++◌, length, take}
+use Rattle.std.specs.Prelude.{slice_get, slice_set, slice_index_or, Option, Some, None}
 use Rattle.std.specs.List.{list_any, position_from}
 use Rattle.w2c_base.specs.Lookup.{named}
 use Rattle.c_tree.specs.Tree as tree

@@ -1,5 +1,6 @@
 -- A unit without the static functions that nothing needs (C11, 6.2.2 paragraph 3 internal linkage).
-use Rattle.std.specs.Prelude.{◌≡◌, ◌↔◌, ◌&&◌, ◌||◌, not, Bool, true, false, List, [], ◌∷◌, ◌++◌, filter, flat_map, bytes_eq, Option, Some, None}
+use Rattle.std.specs.Prelude.{◌≡◌, ◌↔◌, ◌&&◌, ◌||◌, not, Bool, true, false, List, [], ◌∷◌, ◌++◌, filter, flat_map, bytes_eq, Option, Some}
+use Rattle.std.specs.Prelude.{None}
 use Rattle.std.specs.List.{list_any}
 use Rattle.c_tree.specs.Tree as tree
 use Rattle.c_tree.specs.Scope.{Name, is_among, name_of}

@@ -1,9 +1,9 @@
 // Copies of the parts of a unit, with trees of their own.
 ghost use Rattle.std.specs.Prelude.{◌≡◌, IfOk, map};
-ghost use Rattle.c_tree.specs.View.{expr_of, arg_of, func_type_of, callee_of, stmt_of, maybe_body_of, func_of, item_of};
+ghost use Rattle.c_tree.specs.View.{expr_of, arg_of, callee_of, stmt_of, maybe_body_of, func_of, item_of};
 
 use c_tree::{
-    Arg, Args, Body, CFuncType, Callee, Cases, Expr, Func, Item, Locals, Name, Params, Stmt, Stmts,
+    Arg, Args, Body, Callee, Cases, Expr, Func, Item, Locals, Params, Stmt, Stmts, copy_name,
 };
 use std::alloc::Global;
 use std::boxed::Box;
@@ -51,23 +51,13 @@ fn copy_arguments(alloc: Global, arguments: &[Arg]) -> Result<Args, Memory>
     Ok(copies)
 }
 
-fn copy_type(alloc: Global, ty: &CFuncType) -> Result<CFuncType, Memory>
-    ensures { IfOk result (λ copy. func_type_of copy ≡ func_type_of ty.now) }
-{
-    let params = ty.params.copy(alloc)?;
-    Ok(CFuncType {
-        params,
-        result: ty.result,
-    })
-}
-
 fn copy_callee(alloc: Global, callee: &Callee) -> Result<Callee, Memory>
     ensures { IfOk result (λ copy. callee_of copy ≡ callee_of callee.now) }
 {
     match callee {
         Callee::Named(name) => Ok(Callee::Named(name.copy(alloc)?)),
         Callee::Through(ty, name) => {
-            let ty = copy_type(alloc, ty)?;
+            let ty = ty.copy(alloc)?;
             let name = name.copy(alloc)?;
             Ok(Callee::Through(ty, name))
         }
@@ -82,15 +72,6 @@ fn copy_cases(alloc: Global, cases: &Cases) -> Result<Cases, Memory>
         copies.push((*number, label.copy(alloc)?))?;
     }
     Ok(copies)
-}
-
-fn copy_name(alloc: Global, name: &Option<Name>) -> Result<Option<Name>, Memory>
-    ensures { IfOk result (λ copy. copy ≡ name.now) }
-{
-    match name {
-        None => Ok(None),
-        Some(name) => Ok(Some(name.copy(alloc)?)),
-    }
 }
 
 fn copy_statement(alloc: Global, statement: &Stmt) -> Result<Stmt, Memory>
@@ -182,13 +163,7 @@ fn copy_function(alloc: Global, f: &Func) -> Result<Func, Memory>
     let name = f.name.copy(alloc)?;
     let params = copy_params(alloc, &f.params)?;
     let body = copy_body(alloc, &f.body)?;
-    Ok(Func {
-        is_static: f.is_static,
-        result: f.result,
-        name,
-        params,
-        body,
-    })
+    Ok(f.with_parts(name, params, body))
 }
 
 /// An item with the same tree.

@@ -3,13 +3,12 @@ ghost use Rattle.std.specs.Prelude.{◌≡◌, ℕ, length, slice_get, ◌∷◌
 ghost use Rattle.std.specs.Option.{option_or};
 ghost use Rattle.w2c_base.specs.Lookup.{named};
 ghost use Rattle.c_tree.specs.Rules.{defines};
-ghost use Rattle.c_tree.specs.Tree as tree;
-ghost use Rattle.c_tree.specs.View.{arg_of, callee_of, stmt_of, maybe_body_of, func_of, item_of, unit_of};
+ghost use Rattle.c_tree.specs.View.{arg_of, callee_of, stmt_of, maybe_body_of, item_of, unit_of};
 ghost use Rattle.c_trim.specs.Trim.{arg_functions, callee_functions, stmt_functions, body_functions, item_functions};
 ghost use Rattle.c_trim.specs.Marks.{AreAllReached, AreReached, BegunTo, KnowsDefiners, begins, functions_at, reached_by, with_item, with_names};
 
 use c_rules::salt_of;
-use c_tree::{Arg, Body, Callee, Func, Item, Name, Stmt};
+use c_tree::{Arg, Body, Callee, Item, Name, Stmt};
 use name_table::NameTable;
 use std::alloc::Global;
 use w2c_base::Memory;
@@ -41,23 +40,8 @@ fn enter_item(
     ensures { OnOk result ((q : List ℕ) → named q table.new ≡ option_or (named q table.old)
         (if defines q (item_of item.now) then Some i else None)) }
 {
-    match item {
-        Item::Func(f) => enter_function(alloc, table, f, i),
-        Item::Array(_, _, _) | Item::Var(_, _, _) => Ok(()),
-    }
-}
-
-fn enter_function(
-    alloc: Global,
-    table: &mut NameTable<usize>,
-    f: &Func,
-    i: usize,
-) -> Result<(), Memory>
-    ensures { OnOk result ((q : List ℕ) → named q table.new ≡ option_or (named q table.old)
-        (if defines q (tree.Function (func_of f.now)) then Some i else None)) }
-{
-    if f.body.is_some() {
-        table.enter(alloc, f.name.as_slice(), i)
+    if item.has_body() {
+        table.enter(alloc, item.name(), i)
     } else {
         Ok(())
     }

@@ -1,3 +1,5 @@
-mod Common
-pub mod Suits
+-- What crates above cite.
 pub mod Tested
+-- What the crate's own proofs cite.
+mod Common
+mod Suits

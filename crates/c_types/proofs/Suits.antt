@@ -1,5 +1,6 @@
 -- Arguments, each beside the type of its parameter.
-use Rattle.c_types.proofs.Common.{◌≡◌, ℕ, suc, ◌+◌, ◌<◌, ◌≤◌, Bool, true, false, ◌&&◌, ◌≢◌, List, [], ◌∷◌, map, length, get_or, drop, sym, refl, ap, ◌∙◌, arith, arg_suits, args_suit}
+use Rattle.c_types.proofs.Common.{◌≡◌, ℕ, suc, ◌+◌, ◌<◌, ◌≤◌, Bool, true, false, ◌&&◌, ◌≢◌, List, [], ◌∷◌, map, length, get_or, drop, sym}
+use Rattle.c_types.proofs.Common.{refl, ap, ◌∙◌, arith, arg_suits, args_suit}
 use Rattle.std.proofs.lemmas.List.{drop_all, length-map}
 use Rattle.c_tree.specs.declared.tree.CType.{CType}
 use Rattle.c_tree.specs.Tree as tree

@@ -1,14 +1,10 @@
 -- Tests of all items of a list that is made of others.
 use Rattle.c_types.proofs.Common.{◌≡◌, Bool, true, false, ◌&&◌, List, [], ◌∷◌, ◌++◌, map, flat_map, refl, ap, ◌∙◌, list_all}
+use Rattle.std.proofs.lemmas.List.Folds.{list_all-append}
 
+-- (under a name that code can cite)
 pub all_append : {A : Type 0} (p : A → Bool) (xs ys : List A) → list_all p (xs ++ ys) ≡ (list_all p xs && list_all p ys)
-all_append p [] ys = refl
-all_append p (x ∷ xs) ys = go (p x) (all_append p xs ys)
-  where
-    go : (b : Bool) → list_all p (xs ++ ys) ≡ (list_all p xs && list_all p ys)
-        → (b && list_all p (xs ++ ys)) ≡ ((b && list_all p xs) && list_all p ys)
-    go true behind = behind
-    go false behind = refl
+all_append p xs ys = list_all-append p xs ys
 
 pub all_one : {A : Type 0} (p : A → Bool) (x : A) → list_all p (x ∷ []) ≡ p x
 all_one p x = go (p x)

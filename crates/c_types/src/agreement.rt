@@ -77,7 +77,7 @@ fn signature_suits(s: &Scope, signature: Signature, args: &[Arg]) -> bool
 {
     match signature {
         Signature::Declared(f) => args_suit(s, proper_types(f.params.as_slice()), args),
-        Signature::Runtime(p) => args_suit(s, proper_types(p.params), args),
+        Signature::Runtime(p) => args_suit(s, proper_types(p.param_types()), args),
         Signature::Written(t) => args_suit(s, proper_types(t.params.as_slice()), args),
     }
 }
@@ -87,7 +87,7 @@ fn result_of(signature: Signature) -> CType
 {
     match signature {
         Signature::Declared(f) => f.result,
-        Signature::Runtime(p) => p.result,
+        Signature::Runtime(p) => p.result_type(),
         Signature::Written(t) => t.result,
     }
 }

@@ -9,9 +9,7 @@ mod typed;
 mod typing;
 
 pub use agreement::types_agree;
-pub use ctype::{
-    Typed, is_number_type, is_object_type, is_result_type, is_value_type, is_void, proper_types,
-};
+pub use ctype::{Typed, is_number_type, is_result_type, is_value_type, is_void, proper_types};
 pub use known::names_are_known;
 pub use typed::stmt_is_typed;
-pub use typing::{Typing, type_of, typing_of};
+pub use typing::type_of;

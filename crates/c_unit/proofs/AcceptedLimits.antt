@@ -2,4 +2,4 @@
 use Rattle.c_unit.proofs.Common.{NamedModule, within_of, HasLimits, IsAccepted}
 
 pub accepted_limits : {m : NamedModule} → IsAccepted m → HasLimits m.tree
-accepted_limits {m} a = within_of m.tree a.formed
+accepted_limits {m} a = within_of m.tree a.within

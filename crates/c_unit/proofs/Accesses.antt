@@ -1,5 +1,8 @@
 -- Functions that give pointers.
-use Rattle.c_unit.proofs.Common.{◌≡◌, ℕ, List, map, slice_get, Some, None, Option, option_map, refl, ap, ◌∙◌, slice_get-map, Export, ExportGlobal, ExportMemory, ExportTable, Import, Name, NamedModule, global_name, memory_name, table_name, Typed, export_symbol, export_type, global_imports, memory_imports, table_imports, accessor_by, accessor, export_func}
+use Rattle.c_unit.proofs.Common.{◌≡◌, ℕ, List, map, slice_get, Some, None, Option, option_map, refl, ap, ◌∙◌, slice_get-map, Export}
+use Rattle.c_unit.proofs.Common.{ExportGlobal, ExportMemory, ExportTable, Import, Name, NamedModule, global_name, memory_name, table_name}
+use Rattle.c_unit.proofs.Common.{Typed, export_symbol, export_type, global_imports, memory_imports, table_imports, accessor_by, accessor}
+use Rattle.c_unit.proofs.Common.{export_func}
 use Rattle.c_symbols.specs.Reached.{usable_symbol}
 
 -- what stands at an index of a list that was made item by item

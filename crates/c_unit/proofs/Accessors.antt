@@ -1,6 +1,14 @@
 -- Each exported and each imported table, memory and global is reached: its function gives the owner's pointer,
 -- through as many units as pass it on.
-use Rattle.c_unit.proofs.Common.{◌≡◌, ℕ, zero, suc, ◌+◌, ◌*◌, ◌<◌, Bool, true, List, [], ◌∷◌, if◌then◌else◌, slice_get, Some, None, Option, option_map, sym, refl, ap, ◌∙◌, subst, arith, at_index, ValType, export_symbol_of, SymbolKind, global_type_in, imported_globals, Export, ExportKind, ExportFunc, ExportGlobal, ExportMemory, ExportTable, Import, ImportKind, ImportFunc, ImportGlobal, ImportMemory, ImportTable, Module, Name, func_type_of, CType, Plain, External, GlobalAddress, IndexSpaces, IsFunc, IsGlobal, IsMemory, IsTable, LinkedSet, NamedModule, global_type, import_at, instances, Program, definition_at, external_func, func_named, func_type, primitive, FuncAddress, ObjectAddress, UnitFunc, first_global, global_name, memory_name, table_name, accessor_type, export_symbol, export_type, global_accessor_type, import_symbol, import_type, is_usable, ResolvesAs, accessor, export_func, external, passes_on, result_name, usable_symbol, IsAcceptedSet, program_of}
+use Rattle.c_unit.proofs.Common.{◌≡◌, ℕ, zero, suc, ◌+◌, ◌*◌, ◌<◌, Bool, true, List, [], ◌∷◌, if◌then◌else◌, slice_get, Some, None, Option}
+use Rattle.c_unit.proofs.Common.{option_map, sym, refl, ap, ◌∙◌, subst, arith, at_index, ValType, export_symbol_of, SymbolKind}
+use Rattle.c_unit.proofs.Common.{global_type_in, imported_globals, Export, ExportKind, ExportFunc, ExportGlobal, ExportMemory, ExportTable}
+use Rattle.c_unit.proofs.Common.{Import, ImportKind, ImportFunc, ImportGlobal, ImportMemory, ImportTable, Module, Name, func_type_of, CType}
+use Rattle.c_unit.proofs.Common.{Plain, External, GlobalAddress, IndexSpaces, IsFunc, IsGlobal, IsMemory, IsTable, LinkedSet, NamedModule}
+use Rattle.c_unit.proofs.Common.{global_type, import_at, instances, Program, definition_at, external_func, func_named, func_type, primitive}
+use Rattle.c_unit.proofs.Common.{FuncAddress, ObjectAddress, UnitFunc, first_global, global_name, memory_name, table_name, accessor_type}
+use Rattle.c_unit.proofs.Common.{export_symbol, export_type, global_accessor_type, import_symbol, import_type, is_usable, ResolvesAs}
+use Rattle.c_unit.proofs.Common.{accessor, export_func, external, passes_on, result_name, usable_symbol, IsAcceptedSet, program_of}
 use Rattle.w2c_base.specs.declared.value.ValType.TheVariants as val
 use Rattle.w2c_mangle.specs.declared.symbol.SymbolKind.TheVariants as symbol
 use Rattle.wasm_meaning.specs.LinkedSet as link
@@ -10,10 +18,13 @@ use Rattle.c_unit.proofs.Defined.{IsExternal, export_external, export_is_no_prim
 use Rattle.c_unit.proofs.Instances.{IsPlaced, spaces_at}
 use Rattle.c_unit.proofs.Linked.{ExportedBy}
 use Rattle.c_unit.proofs.External.{SymbolFound, symbol_found, external_found, named_external}
-use Rattle.c_unit.proofs.Usable.{Origin, FromModule, FromHost, origin, origin_bytes, origin_differs, import_kind, import_symbol_is, import_resolves, type_as, type_is, usable}
+use Rattle.c_unit.proofs.Usable.{Origin, FromModule, FromHost, origin, origin_bytes, origin_differs, import_kind, import_symbol_is}
+use Rattle.c_unit.proofs.Usable.{import_resolves, type_as, type_is, usable}
 use Rattle.c_unit.proofs.Stands.{type_by, func_by}
-use Rattle.c_unit.proofs.Accessor.{IsPointer, of_table, of_memory, of_u32, of_u64, GivesPointer, own_stmts, passed_stmts, own_gives, passed_gives}
-use Rattle.c_unit.proofs.Pointers.{target_of, ByImport, TableCase, ImportedTable, OwnTable, table_case, MemoryCase, ImportedMemory, OwnMemory, memory_case, GlobalCase, ImportedGlobal, OwnGlobal, global_case}
+use Rattle.c_unit.proofs.Accessor.{IsPointer, of_table, of_memory, of_u32, of_u64, GivesPointer, own_stmts, passed_stmts, own_gives}
+use Rattle.c_unit.proofs.Accessor.{passed_gives}
+use Rattle.c_unit.proofs.Pointers.{target_of, ByImport, TableCase, ImportedTable, OwnTable, table_case, MemoryCase, ImportedMemory}
+use Rattle.c_unit.proofs.Pointers.{OwnMemory, memory_case, GlobalCase, ImportedGlobal, OwnGlobal, global_case}
 use Rattle.c_unit.proofs.Globals.{GlobalTyped, global_typed}
 use Rattle.c_unit.proofs.Small.{some_same}
 
@@ -40,9 +51,7 @@ stands_as s spaces e ExportFunc o t target stands = absurd (none o target (at_in
     none : (o : External) → target_of s o ≡ Some t → (x : Option link.FuncAddress) → option_map IsFunc x ≡ Some o → ⊥
     none o target None e = cc
     none (IsFunc f) target (Some g) e = cc
-    none (IsTable w) target (Some g) e = cc
-    none (IsMemory w) target (Some g) e = cc
-    none (IsGlobal w) target (Some g) e = cc
+    none _ target (Some g) e = cc
 stands_as s spaces e ExportTable o t target stands = go (at_index spaces.tables e.index) refl stands
   where
     go : (x : Option ℕ) → at_index spaces.tables e.index ≡ x → option_map IsTable x ≡ Some o → Stands spaces e ExportTable o
@@ -286,9 +295,7 @@ same_types s accepted v n is h e kind o kind_is stands u m i k r at = go kind_is
 
 no_func : (s : LinkedSet) (o : External) (t : ObjectAddress) (f : link.FuncAddress) → target_of s o ≡ Some t → o ≡ IsFunc f → ⊥
 no_func s (IsFunc g) t f target e = cc
-no_func s (IsTable w) t f target e = cc
-no_func s (IsMemory w) t f target e = cc
-no_func s (IsGlobal w) t f target e = cc
+no_func s _ t f target e = cc
 
 -- an export that stands for an object, with its symbol
 pub record ObjectExported (s : LinkedSet) (v : ℕ) (n : NamedModule) (e : Export) (o : External) : Type 0 where

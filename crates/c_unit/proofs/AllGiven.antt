@@ -1,5 +1,6 @@
 -- Items that are given one after the other make the unit.
-use Rattle.c_unit.proofs.Common.{◌≡◌, suc, ◌<◌, List, [], ◌∷◌, ◌++◌, length, Some, None, Option, option_map, sym, refl, ap, ◌∙◌, append_assoc, append-nil, arith, map_push, item_of, unit_of, Given}
+use Rattle.c_unit.proofs.Common.{◌≡◌, suc, ◌<◌, List, [], ◌∷◌, ◌++◌, length, Some, None, Option, option_map, sym, refl, ap, ◌∙◌}
+use Rattle.c_unit.proofs.Common.{append_assoc, append-nil, arith, map_push, item_of, unit_of, Given}
 use Rattle.c_tree.specs.declared.tree.Item.{Item}
 use Rattle.c_tree.specs.Tree as tree
 

@@ -1,5 +1,11 @@
 -- All imports are taken: then the pointers of the unit are set.
-use Rattle.c_unit.proofs.Common.{◌≡◌, ℕ, suc, ◌+◌, ◌^◌, ◌<◌, Bool, true, false, not, ◌||◌, List, [], ◌∷◌, ◌++◌, map, length, if◌then◌else◌, slice_get, Some, codes, filter, sym, refl, ap, ◌∙◌, subst, append_assoc, arith, none-some, slice_get_within, AllByRecursion, Trail, imported_globals, is_func_import, is_global_import, is_memory_import, is_table_import, Import, ImportKind, ImportFunc, ImportGlobal, ImportMemory, ImportTable, LinkedSet, NamedModule, Take, Task, global_name, memory_name, table_name, global_imports, memory_imports, table_imports, asks_something, has_test, set_pointer, take_stmts, takes_from, test_limits}
+use Rattle.c_unit.proofs.Common.{◌≡◌, ℕ, suc, ◌+◌, ◌^◌, ◌<◌, Bool, true, false, not, ◌||◌, List, [], ◌∷◌, ◌++◌, map, length, if◌then◌else◌}
+use Rattle.c_unit.proofs.Common.{slice_get, Some, codes, filter, sym, refl, ap, ◌∙◌, subst, append_assoc, arith, none-some}
+use Rattle.c_unit.proofs.Common.{slice_get_within, AllByRecursion, Trail, imported_globals, is_func_import, is_global_import}
+use Rattle.c_unit.proofs.Common.{is_memory_import, is_table_import, Import, ImportKind, ImportFunc, ImportGlobal, ImportMemory, ImportTable}
+use Rattle.c_unit.proofs.Common.{LinkedSet, NamedModule, Take, Task, global_name, memory_name, table_name, global_imports, memory_imports}
+use Rattle.c_unit.proofs.Common.{table_imports, asks_something, has_test, set_pointer, take_stmts, takes_from, test_limits}
+use Rattle.std.proofs.Math.Bool.{or-true, or-false}
 use Rattle.wasm_meaning.specs.Store as store
 use Rattle.c_tree.specs.Tree as c
 use Rattle.c_meaning.specs.State as state
@@ -8,7 +14,7 @@ use Rattle.c_unit.proofs.InitRuns.{FollowsTask, FollowsTasks, and_others}
 use Rattle.c_unit.proofs.TakeTasks.{IsTakenAs, AreTaken, IsLow, next_number, IsTaking, table_follows, memory_follows, global_follows}
 use Rattle.c_unit.proofs.LimitTests.{CanTest}
 use Rattle.c_unit.proofs.MakeTasks.{IsMaking}
-use Rattle.c_unit.proofs.Small.{is_func, is_table, is_memory, is_global, or_true, or_false}
+use Rattle.c_unit.proofs.Small.{is_func, is_table, is_memory, is_global}
 
 -- ---- one import
 
@@ -47,22 +53,22 @@ import_follows s g m table memory number i rest few taken can low = go i.kind re
         subst (λ kind. FollowsTask s g (IsTaking s g m table memory number) (Take i)
         (IsTaking s g m (table || is_table kind) (memory || is_memory kind) (if is_global kind then suc number else number))
         (stmts_as m number i kind ++ rest) rest) (sym e)
-        (flagged true memory (table || true) (memory || false) number (stmts_as m number i (ImportTable l) ++ rest) (or_true table)
-        (or_false memory)
+        (flagged true memory (table || true) (memory || false) number (stmts_as m number i (ImportTable l) ++ rest) (or-true table)
+        (or-false memory)
         (table_follows s g m i l table memory number rest e h (λ is. can (ap tests e ∙ is)) low))
     go (ImportMemory l) e h low =
         subst (λ kind. FollowsTask s g (IsTaking s g m table memory number) (Take i)
         (IsTaking s g m (table || is_table kind) (memory || is_memory kind) (if is_global kind then suc number else number))
         (stmts_as m number i kind ++ rest) rest) (sym e)
-        (flagged table true (table || false) (memory || true) number (stmts_as m number i (ImportMemory l) ++ rest) (or_false table)
-        (or_true memory)
+        (flagged table true (table || false) (memory || true) number (stmts_as m number i (ImportMemory l) ++ rest) (or-false table)
+        (or-true memory)
         (memory_follows s g m i l table memory number rest e h (λ is. can (ap tests e ∙ is)) low))
     go (ImportGlobal t mutable) e h low =
         subst (λ kind. FollowsTask s g (IsTaking s g m table memory number) (Take i)
         (IsTaking s g m (table || is_table kind) (memory || is_memory kind) (if is_global kind then suc number else number))
         (stmts_as m number i kind ++ rest) rest) (sym e)
         (flagged table memory (table || false) (memory || false) (suc number) (stmts_as m number i (ImportGlobal t mutable) ++ rest)
-        (or_false table) (or_false memory)
+        (or-false table) (or-false memory)
         (global_follows s g m i t mutable table memory number rest e h few))
 
 -- ---- imports in order
@@ -115,7 +121,7 @@ flag_found f apart has (i ∷ imports) x e = go (flag_found f apart has imports 
         → (b : Bool) → f i ≡ b → (t : Bool) → is_func_import i ≡ t → flag_after f has (filter is_taken (i ∷ imports)) ≡ true
     go skip further true is true func = absurd (let no : is_func_import i ≡ false = apart i is in cc)
     go skip further true is false func = rw func (rw is
-        (ap (λ b. flag_after f b (filter is_taken imports)) (or_true has) ∙ flag_true f (filter is_taken imports)))
+        (ap (λ b. flag_after f b (filter is_taken imports)) (or-true has) ∙ flag_true f (filter is_taken imports)))
     go skip further false is true func = rw func (skip (rw is at e))
     go skip further false is false func = rw func (further (rw is at e))
 
@@ -139,27 +145,21 @@ global_is_taken i = go i.kind
   where
     go : (kind : ImportKind) → is_global kind ≡ true → is_func kind ≡ false
     go (ImportFunc t) e = absurd cc
-    go (ImportTable l) e = refl
-    go (ImportMemory l) e = refl
-    go (ImportGlobal t mutable) e = refl
+    go _ e = refl
 
 table_is_taken : (i : Import) → is_table_import i ≡ true → is_func_import i ≡ false
 table_is_taken i = go i.kind
   where
     go : (kind : ImportKind) → is_table kind ≡ true → is_func kind ≡ false
     go (ImportFunc t) e = absurd cc
-    go (ImportTable l) e = refl
-    go (ImportMemory l) e = refl
-    go (ImportGlobal t mutable) e = refl
+    go _ e = refl
 
 memory_is_taken : (i : Import) → is_memory_import i ≡ true → is_func_import i ≡ false
 memory_is_taken i = go i.kind
   where
     go : (kind : ImportKind) → is_memory kind ≡ true → is_func kind ≡ false
     go (ImportFunc t) e = absurd cc
-    go (ImportTable l) e = refl
-    go (ImportMemory l) e = refl
-    go (ImportGlobal t mutable) e = refl
+    go _ e = refl
 
 taken_is_making : (s : LinkedSet) (g : Seat) (m : NamedModule) (table memory : Bool) (number : ℕ) (mach : state.Machine)
     (made : store.Store) (trail : Trail) (vars : state.Vars)

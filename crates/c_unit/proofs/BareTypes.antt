@@ -1,5 +1,8 @@
 -- The declaration of a body's function is that of its index and type.
-use Rattle.c_unit.proofs.Common.{◌≡◌, ℕ, suc, true, List, [], ◌∷◌, map, Some, None, Option, option_map, unwrap_or, sym, refl, ap, ◌∙◌, if_found, FuncType, ValType, type_in, BodyEntry, FuncEntry, Module, NamedModule, c_params_of, c_result_of, c_type_of, func_name, body_of, defined_at, func_of, params_of, no_name, prototype, bare_params, prototype_of}
+use Rattle.c_unit.proofs.Common.{◌≡◌, ℕ, suc, true, List, [], ◌∷◌, map, Some, None, Option, option_map, unwrap_or, sym, refl, ap, ◌∙◌}
+use Rattle.c_unit.proofs.Common.{if_found, FuncType, ValType, type_in, BodyEntry, FuncEntry, Module, NamedModule, c_params_of, c_result_of}
+use Rattle.c_unit.proofs.Common.{c_type_of, func_name, body_of, defined_at, func_of, params_of, no_name, prototype, bare_params}
+use Rattle.c_unit.proofs.Common.{prototype_of}
 use Rattle.c_tree.specs.Tree as tree
 use Rattle.c_body.specs.Body.{params_from, no_func}
 

@@ -1,13 +1,19 @@
 -- What stands behind the functions of a module that is accepted: each has a type and a body that is typed.
-use Rattle.c_unit.proofs.Common.{◌≡◌, ℕ, zero, suc, ◌+◌, ◌-◌, ◌^◌, ◌<◌, ◌≤◌, Bool, true, List, [], ◌∷◌, length, is_none, slice_get, Some, None, Option, option_map, zip, flat_map, unwrap_or, refl, ap, ◌∙◌, subst, arith, same_Some, list_any, none_at, all_at, if_found, FuncType, ValType, defined_behind_imports, declared_locals, imported_funcs, type_in, Code, BodyEntry, FuncEntry, TypeEntry, Module, body_context, context_of, fault_if, unknown_import_type, unknown_types, bodies_of, Void, NamedModule, body_of, func_of, most_operands, BodyHasLimits, HasLimits, IsAccepted}
-use Rattle.wasm_valid.specs.declared.fault.ValidCause.TheVariants as cause
-use Rattle.wasm_valid.specs.Typing.{values, BodyHasType}
-use Rattle.wasm_valid.specs.Verdict.{IsTyped, AreTyped}
-use Rattle.wasm_valid.specs.ModuleFaults.{module_faults}
+use Rattle.c_unit.proofs.Common.{◌≡◌, ℕ, zero, suc, ◌+◌, ◌-◌, ◌^◌, ◌<◌, ◌≤◌, Bool, true, List, [], ◌∷◌, length, is_none, slice_get, Some}
+use Rattle.c_unit.proofs.Common.{None, Option, option_map, zip, flat_map, unwrap_or, refl, ap, ◌∙◌, subst, arith, same_Some, list_any}
+use Rattle.c_unit.proofs.Common.{none_at, all_at, if_found, FuncType, defined_behind_imports, declared_locals, imported_funcs, type_in}
+use Rattle.c_unit.proofs.Common.{Code, BodyEntry, FuncEntry, TypeEntry, Module, body_context, context_of, fault_if, unknown_import_type}
+use Rattle.c_unit.proofs.Common.{unknown_types, bodies_of, Void, NamedModule, body_of, func_of, most_operands, BodyHasLimits, HasLimits}
+use Rattle.c_unit.proofs.Common.{IsAccepted}
 use Rattle.c_body.specs.Stack.{peak}
 use Rattle.c_unit.proofs.Small.{no_left, no_right, no_fault, there_is}
 use Rattle.std.proofs.lemmas.Map.Keys.{any_passes_from_place}
+use Rattle.c_body.proofs.Peaks.{one_value}
 use Rattle.c_unit.proofs.AcceptedLimits.{accepted_limits}
+use Rattle.wasm_typing.specs.declared.fault.ValidCause.TheVariants as cause
+use Rattle.wasm_typing.specs.Typing.{values, BodyHasType}
+use Rattle.wasm_typing.specs.Verdict.{IsTyped, AreTyped}
+use Rattle.wasm_typing.specs.ModuleFaults.{module_faults}
 
 pub record BodyAt (m : NamedModule) (k : ℕ) : Type 0 where
   pub ty : FuncType
@@ -91,9 +97,5 @@ few_locals m k b = omega (arith, b.params, b.within.locals)
 pub few_operands : (m : NamedModule) (k : ℕ) (b : BodyAt m k) → most_operands (context_of m.tree b.ty b.entry) b.entry.code ≤ 2 ^ 64
 few_operands m k b =
     let low : peak (context_of m.tree b.ty b.entry) [] b.entry.code < 2 ^ 32 = b.within.operands (context_of m.tree b.ty b.entry) in
-    let one : length (values b.ty.result) ≤ 1 = at_most b.ty.result in
+    let one : length (values b.ty.result) ≤ 1 = one_value b.ty.result in
     omega (arith, low, one)
-  where
-    at_most : (r : Option ValType) → length (values r) ≤ 1
-    at_most None = omega arith
-    at_most (Some t) = omega arith

@@ -1,16 +1,25 @@
 -- The prototypes and the functions of bodies keep the rules in a module's unit.
-use Rattle.c_unit.proofs.Common.{◌≡◌, ℕ, suc, ◌+◌, ◌-◌, ◌^◌, ◌<◌, ◌≤◌, true, false, not, ◌||◌, ◌≢◌, ◌⊎◌, List, [], ◌∷◌, ◌++◌, map, length, None, bytes_eq, sym, refl, ap, ◌∙◌, subst, inl, inr, append_assoc, arith, length-append, or_left, or_right, list_any-append, AllByRecursion, list_all, list_any, all_append, all_map, FuncType, ValType, declared_locals, imported_funcs, Module, defines, is_value_type, may_both_stand, proper_params, same_type, same_types, name_of, param_variables, CType, NamedModule, c_result_of, func_name, helper_of, declared_symbols, FileKnows, body_keeps_rules, class, after_typed, result_type, lettered, body_of, func_of, params_of, helpers_of, pointers_of, bodies, data_of, declaration, objects_of, prototype, IsAccepted}
+use Rattle.c_unit.proofs.Common.{◌≡◌, ℕ, suc, ◌+◌, ◌-◌, ◌^◌, ◌<◌, ◌≤◌, true, false, not, ◌||◌, ◌≢◌, ◌⊎◌, List, [], ◌∷◌, ◌++◌, map, length}
+use Rattle.c_unit.proofs.Common.{None, bytes_eq, sym, refl, ap, ◌∙◌, subst, inl, inr, append_assoc, arith, length-append, or_left, or_right}
+use Rattle.c_unit.proofs.Common.{list_any-append, AllByRecursion, list_all, list_any, all_append, all_map, FuncType, ValType}
+use Rattle.c_unit.proofs.Common.{declared_locals, imported_funcs, Module, defines, is_value_type, may_both_stand, proper_params, same_types}
+use Rattle.c_unit.proofs.Common.{name_of, param_variables, NamedModule, c_result_of, func_name, FileKnows, body_keeps_rules, class}
+use Rattle.c_unit.proofs.Common.{after_typed, result_type, lettered, body_of, func_of, params_of, bodies, data_of, prototype, IsAccepted}
 use Rattle.w2c_base.specs.declared.value.ValType.TheVariants.{I32, I64}
 use Rattle.c_tree.specs.declared.tree.CType.TheVariants as type
 use Rattle.c_tree.specs.Tree as tree
+use Rattle.c_tree.proofs.SameTypes.{same_as_itself}
 use Rattle.c_body.specs.Body.{params_from}
 use Rattle.c_body.proofs.RulesOfFunctions.{all_at}
+use Rattle.c_unit.proofs.SectionLists.{before_declarations, before_functions, before_prototypes, declarations, helpers, objects}
 use Rattle.c_unit.proofs.BodiesAt.{BodyAt, body_at, few_locals, few_operands}
 use Rattle.c_unit.proofs.Pairs.{AllPairs, pairs_at, all_range, pairs_range}
 use Rattle.c_unit.proofs.ItemRules.{AllShow, Keeps, Apart, apart_joined, apart_classes, apart_names, once, declared_func, declaration_keeps}
-use Rattle.c_unit.proofs.Sections.{AllClass, tabs_class, mems_class, globals_class, pointers_class, data_class, declared_class, prototypes_class, bodies_class, helpers_class, body_name, few_funcs}
+use Rattle.c_unit.proofs.Sections.{AllClass, data_class, declared_class, prototypes_class, bodies_class, helpers_class, body_name}
+use Rattle.c_unit.proofs.Sections.{few_funcs}
 use Rattle.c_unit.proofs.PlainItems.{ItemKeeps, NotSame, NoClass, other_class, section_keeps}
 use Rattle.c_unit.proofs.NeedsDeclared.{all_known}
+use Rattle.c_unit.proofs.BeforeSections.{objects_none, none_before_functions}
 
 abbrev Proto : tree.Func → tree.Func
 Proto x = record {
@@ -43,26 +52,14 @@ values (I64 ∷ types) = each_value 1 types
 
 -- ---- a prototype and its function may both stand
 
-same_refl : (t : CType) → same_type t t ≡ true
-same_refl type.Void = refl
-same_refl type.U32 = refl
-same_refl type.U64 = refl
-same_refl type.PtrU32 = refl
-same_refl type.PtrU64 = refl
-same_refl type.Mem = refl
-same_refl type.PtrMem = refl
-same_refl type.Tab = refl
-same_refl type.PtrTab = refl
-same_refl type.FnPtr = refl
-
 same_params : (params : List tree.Param) → same_types (map (λ (p : tree.Param). p.0) (map (λ (p : tree.Param). (p.0, None)) params))
     (map (λ (p : tree.Param). p.0) params) ≡ true
 same_params [] = refl
-same_params (p ∷ params) = rw (same_refl p.0) (same_params params)
+same_params (p ∷ params) = rw (same_as_itself p.0) (same_params params)
 
 proto_stands : (m : NamedModule) (index : ℕ) (ty : FuncType) (entry : _)
     → may_both_stand (tree.Function (Proto (func_of m index ty entry))) (tree.Function (func_of m index ty entry)) ≡ true
-proto_stands m index ty entry = rw (same_params (params_of ty.params), same_refl (c_result_of ty.result)) refl
+proto_stands m index ty entry = rw (same_params (params_of ty.params), same_as_itself (c_result_of ty.result)) refl
 
 seven_not_nine : (n : ℕ) → n ≡ 7 → n ≢ 9
 seven_not_nine n e f = absurd (omega (arith, e, f))
@@ -121,37 +118,8 @@ module _ (m : NamedModule) (a : IsAccepted m) where
 
   -- ---- bodies
 
-  abbrev objects : List tree.Item
-  objects = objects_of t (pointers_of t)
-
-  abbrev declarations : List tree.Item
-  declarations = map declaration (declared_symbols m)
-
-  abbrev helpers : List tree.Item
-  helpers = map (λ which. tree.Function (helper_of which)) (helpers_of t)
-
   abbrev front : List tree.Item
-  front = (((objects_of t (pointers_of t) ++ data_of t) ++ map declaration (declared_symbols m)) ++ map prototype (bodies m)) ++ map
-      (λ which. tree.Function (helper_of which)) (helpers_of t)
-
-  front_none : (k : ℕ) → NoClass k (objects_of t (pointers_of t)) → NoClass k (data_of t) → NoClass k (map declaration (declared_symbols m))
-      → NoClass k (map prototype (bodies m)) → NoClass k (map (λ which. tree.Function (helper_of which)) (helpers_of t)) → NoClass k front
-  front_none k o d s p h =
-      all_append (λ o. class (name_of o) ≢ k) _ _ (all_append (λ o. class (name_of o) ≢ k) _ _
-      (all_append (λ o. class (name_of o) ≢ k) _ _ (all_append (λ o. class (name_of o) ≢ k) _ _ o d) s) p) h
-
-  pub objects_none : (k : ℕ) → 5 ≤ k → NoClass k (objects_of t (pointers_of t))
-  objects_none k le =
-      all_append (λ o. class (name_of o) ≢ k) _ _ (other_class 1 k _ (λ e. absurd (omega (arith, e, le))) (tabs_class m a))
-      (all_append (λ o. class (name_of o) ≢ k) _ _ (other_class 2 k _ (λ e. absurd (omega (arith, e, le))) (mems_class m a))
-      (all_append (λ o. class (name_of o) ≢ k) _ _ (other_class 3 k _ (λ e. absurd (omega (arith, e, le))) (globals_class m a))
-      (other_class 4 k _ (λ e. absurd (omega (arith, e, le))) (pointers_class m a))))
-
-  pub front_none_own : NoClass 9 front
-  front_none_own = front_none 9 (objects_none 9 (omega arith)) (other_class 5 9 _ (λ e. absurd (grind (arith, e))) (data_class m a))
-      (other_class 6 9 _ (λ e. absurd (grind (arith, e))) (declared_class m a))
-      (other_class 7 9 _ (λ e. absurd (grind (arith, e))) (prototypes_class m a))
-      (other_class 8 9 _ (λ e. absurd (grind (arith, e))) (helpers_class m a))
+  front = before_functions m
 
   record IsBody (x : tree.Item) : Type 0 where
     k : ℕ
@@ -206,8 +174,8 @@ module _ (m : NamedModule) (a : IsAccepted m) where
       one : IsBody x → Keeps (front ++ before) x (behind ++ back)
       one i = subst (λ y. Keeps (front ++ before) y (behind ++ back)) (sym item_is)
           (body_keeps_rules m i.k b.ty b.entry declared (front ++ before) (behind ++ back) refl
-          (subst (FileKnows m) (sym (append_assoc front before (tree.Function f ∷ []) ∙ regroup objects (data_of t) declarations
-          (map prototype (bodies m)) helpers (before ++ tree.Function f ∷ [])))
+          (subst (FileKnows m) (sym (append_assoc front before (tree.Function f ∷ []) ∙ regroup (objects m) (data_of t) (declarations m)
+          (map prototype (bodies m)) (helpers m) (before ++ tree.Function f ∷ [])))
           (all_known m a (before ++ tree.Function f ∷ [])
           (all_append (λ o. class (name_of o) ≡ 7) before (tree.Function f ∷ [])
           (all_before (λ o. class (name_of o) ≡ 7) before x behind classes)
@@ -220,7 +188,7 @@ module _ (m : NamedModule) (a : IsAccepted m) where
           (subst (AllPairs NotSame) e (pairs_mapped NotSame tree.Function (bodies m) names_differ)))))))
           (all_map (λ n. class n ≢ 9) name_of ((front ++ before) ++ tree.Function f ∷ (behind ++ back))
           (joined (front ++ before) (tree.Function f ∷ (behind ++ back)) 9
-          (joined front before 9 front_none_own (other_class 7 9 before (λ e. absurd (grind (arith, e)))
+          (joined front before 9 (none_before_functions m a 9 (omega arith)) (other_class 7 9 before (λ e. absurd (grind (arith, e)))
           (all_before (λ o. class (name_of o) ≡ 7) before x behind classes))) (
             seven_not_nine (class (name_of (tree.Function f)))
                 (subst (λ y. class (name_of y) ≡ 7) item_is (all_at (λ o. class (name_of o) ≡ 7) before x behind classes)),
@@ -252,12 +220,13 @@ module _ (m : NamedModule) (a : IsAccepted m) where
 
           apart_front : Apart (tree.Function f) front
           apart_front =
-              apart_joined (tree.Function f) (((objects ++ data_of t) ++ declarations) ++ map prototype (bodies m)) helpers
-              (apart_joined (tree.Function f) ((objects ++ data_of t) ++ declarations) (map prototype (bodies m))
-              (apart_joined (tree.Function f) (objects ++ data_of t) declarations
-              (apart_joined (tree.Function f) objects (data_of t)
-              (apart_classes (tree.Function f) objects (subst (λ j. NoClass j objects) (sym own_class) (objects_none 7 (omega arith))))
+              apart_joined (tree.Function f) (before_prototypes m ++ map prototype (bodies m)) (helpers m)
+              (apart_joined (tree.Function f) (before_prototypes m) (map prototype (bodies m))
+              (apart_joined (tree.Function f) (before_declarations m) (declarations m)
+              (apart_joined (tree.Function f) (objects m) (data_of t)
+              (apart_classes (tree.Function f) (objects m)
+              (subst (λ j. NoClass j (objects m)) (sym own_class) (objects_none m a 7 (omega arith))))
               (by_class 5 (data_of t) (λ e. absurd (grind (arith, e))) (data_class m a)))
-              (by_class 6 declarations (λ e. absurd (grind (arith, e))) (declared_class m a)))
+              (by_class 6 (declarations m) (λ e. absurd (grind (arith, e))) (declared_class m a)))
               (apart_protos i.k b i.low i.high))
-              (by_class 8 helpers (λ e. absurd (grind (arith, e))) (helpers_class m a))
+              (by_class 8 (helpers m) (λ e. absurd (grind (arith, e))) (helpers_class m a))

@@ -1,5 +1,6 @@
 -- Segments with bytes have a loop.
-use Rattle.c_unit.proofs.Common.{◌≡◌, ℕ, ◌<◌, ◌≤◌, List, [], ◌∷◌, ◌++◌, length, refl, ap, ◌∙◌, append_assoc, arith, SegmentEntry, Module, write_data}
+use Rattle.c_unit.proofs.Common.{◌≡◌, ℕ, ◌<◌, ◌≤◌, List, [], ◌∷◌, ◌++◌, length, refl, ap, ◌∙◌, append_assoc, arith, SegmentEntry, Module}
+use Rattle.c_unit.proofs.Common.{write_data}
 use Rattle.c_tree.specs.Tree as tree
 use Rattle.c_unit.specs.Loops.{byte_loop, byte_parts}
 

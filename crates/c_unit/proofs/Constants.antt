@@ -1,5 +1,6 @@
 -- Expressions by their only instruction.
-use Rattle.c_unit.proofs.Common.{◌≡◌, Some, None, Option, refl, ap, arith, Code, GlobalGet, I32Const, I64Const, Kind, end_code, then_code, Module, constant_expr, constant_by, single_of}
+use Rattle.c_unit.proofs.Common.{◌≡◌, Some, None, Option, refl, ap, arith, Code, GlobalGet, I32Const, I64Const, Kind, end_code, then_code}
+use Rattle.c_unit.proofs.Common.{Module, constant_expr, constant_by, single_of}
 use Rattle.wasm_tree.specs.Appended.{InstrTree, code_length, instr_at}
 
 pub by_single : (m : Module) (code : Code) → constant_by m (single_of code) ≡ constant_expr m code

@@ -1,11 +1,16 @@
 -- What the unit of a checked module counts has room in its numbers: indexes, parameters and items.
-use Rattle.c_unit.proofs.Common.{◌≡◌, ℕ, suc, ◌+◌, ◌^◌, ◌<◌, ◌≤◌, Bool, true, false, List, [], ◌∷◌, ◌++◌, map, length, if◌then◌else◌, slice_get, Some, None, Option, zip, flat_map, sym, refl, ap, ◌∙◌, arith, length-append, length-map-range_with_len, slice_get-map, slice_get_within, list_any, range_with_len, if_found, numbered, FuncType, func_space, func_type_in, imported_funcs, imported_globals, is_func_import, is_global_import, is_memory_import, is_table_import, memory_of_import, table_of_import, type_in, BodyEntry, LimitsEntry, SegmentEntry, TypeEntry, Module, WithinLimits, IsValid, Name, is_among, NamedModule, HELPERS, declared_symbols, declared_type, firsts, global_imports, import_symbol, memory_imports, symbol_type, table_imports, filter_few, body_of, any_in, calls_helper, helpers_of, pointers_of, bodies, data_item, data_of, items, objects_of}
-use Rattle.wasm_spelling.specs.Places.{IsFormed}
-use Rattle.wasm_spelling.proofs.WithinPlaces.{formed_is_within}
+use Rattle.c_unit.proofs.Common.{◌≡◌, ℕ, suc, ◌+◌, ◌^◌, ◌<◌, ◌≤◌, Bool, true, false, List, [], ◌∷◌, ◌++◌, map, length, if◌then◌else◌}
+use Rattle.c_unit.proofs.Common.{slice_get, Some, None, Option, zip, flat_map, sym, refl, ap, ◌∙◌, arith, length-append}
+use Rattle.c_unit.proofs.Common.{length-map-range_with_len, slice_get-map, slice_get_within, list_any, range_with_len, if_found, numbered}
+use Rattle.c_unit.proofs.Common.{FuncType, func_space, func_type_in, imported_funcs, imported_globals, is_func_import, is_global_import}
+use Rattle.c_unit.proofs.Common.{is_memory_import, is_table_import, memory_of_import, table_of_import, type_in, BodyEntry, LimitsEntry}
+use Rattle.c_unit.proofs.Common.{SegmentEntry, TypeEntry, Module, WithinLimits, IsValid, Name, is_among, NamedModule, HELPERS}
+use Rattle.c_unit.proofs.Common.{declared_symbols, declared_type, firsts, global_imports, import_symbol, memory_imports, symbol_type}
+use Rattle.c_unit.proofs.Common.{table_imports, filter_few, body_of, any_in, calls_helper, helpers_of, pointers_of, bodies, data_item}
+use Rattle.c_unit.proofs.Common.{data_of, items, objects_of, length-map}
 use Rattle.c_tree.specs.Tree as tree
 use Rattle.c_body.specs.Ready.{HaveFewParams}
 use Rattle.c_unit.specs.Entries.{entries}
-use Rattle.c_unit.proofs.Counts.{map_length}
 use Rattle.c_unit.proofs.Sections.{few_tables, few_memories}
 
 -- ---- entries
@@ -13,12 +18,11 @@ use Rattle.c_unit.proofs.Sections.{few_tables, few_memories}
 behind_few : {A B : Type 0} (xs : List A) (f : B → A) (ys : List B) → length (xs ++ map f ys) ≤ 1 → length ys ≤ 1
 behind_few xs f ys few =
     let e = length-append xs (map f ys) in
-    let n = map_length f ys in
+    let n = length-map ys f in
     omega (arith, e, n, few)
 
-pub few_entries : (m : Module) → IsValid m → IsFormed m → entries m < 2 ^ 32
-few_entries m valid formed =
-    let within : WithinLimits m = formed_is_within m formed in
+pub few_entries : (m : Module) → IsValid m → WithinLimits m → entries m < 2 ^ 32
+few_entries m valid within =
     let imports = within.imports in
     let funcs = within.funcs in
     let globals = within.globals in
@@ -52,7 +56,7 @@ joined : {A : Type 0} (xs ys : List A) (a b : ℕ) → length xs ≤ a → lengt
 joined xs ys a b few others = let e = length-append xs ys in omega (arith, e, few, others)
 
 mapped : {A B : Type 0} (f : A → B) (xs : List A) (a : ℕ) → length xs ≤ a → length (map f xs) ≤ a
-mapped f xs a few = let e = map_length f xs in omega (arith, e, few)
+mapped f xs a few = let e = length-map xs f in omega (arith, e, few)
 
 -- each brings one at most
 one_each : {A B : Type 0} (brings : A → List B) → ((x : A) → length (brings x) ≤ 1) → (xs : List A)
@@ -98,7 +102,7 @@ declared_few : (m : NamedModule) → length (declared_symbols m) ≤ length m.tr
 declared_few m =
     let names = map import_symbol m.tree.imports in
     mapped (λ name. (name, declared_type (symbol_type m name))) (firsts [] names) (length m.tree.imports)
-    (let few = firsts_few [] names in let e = map_length import_symbol m.tree.imports in omega (arith, few, e))
+    (let few = firsts_few [] names in let e = length-map m.tree.imports import_symbol in omega (arith, few, e))
 
 helpers_few : (m : Module) → length (helpers_of m) ≤ 57
 helpers_few m =

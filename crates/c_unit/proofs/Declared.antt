@@ -1,5 +1,13 @@
 -- The variables that a unit declares for its module, and its arrays of data, are found by their names (C11, 6.9.2).
-use Rattle.c_unit.proofs.Common.{◌≡◌, ℕ, zero, suc, ◌+◌, ◌^◌, ◌<◌, Bool, true, false, ◌≢◌, List, [], ◌∷◌, ◌++◌, map, length, is_some, if◌then◌else◌, slice_get, Some, None, Option, option_map, zip, flat_map, filter_map, bytes_eq, sym, refl, ap, ◌∙◌, subst, append_assoc, arith, decimal_injective, none-some, same_Some, slice_get_within, AllByRecursion, cons_option, range_with_len, ⊤, all_append, get_within, some_first, if_found, named, numbered, value, ValType, global_space, imported_global_space, imported_globals, GlobalEntry, LimitsEntry, SegmentEntry, Module, Name, CType, LinkedSet, NamedModule, bytes_differ, bytes_equal, array_bytes, array_named, c_type_of, global_name, memory_name, table_name, global_imports, memory_imports, pointer_type, table_imports, vars_in, get_behind, get_left, get_mapped, global_count, pointer_name, pointers_of, data_name, zero_like, data_of, items, objects_of, IsAccepted, program_of}
+use Rattle.c_unit.proofs.Common.{◌≡◌, ℕ, zero, suc, ◌+◌, ◌^◌, ◌<◌, Bool, true, false, ◌≢◌, List, [], ◌∷◌, ◌++◌, map, length, is_some}
+use Rattle.c_unit.proofs.Common.{if◌then◌else◌, slice_get, Some, None, Option, option_map, zip, flat_map, filter_map, bytes_eq, sym, refl}
+use Rattle.c_unit.proofs.Common.{ap, ◌∙◌, subst, append_assoc, arith, decimal_injective, none-some, same_Some, slice_get_within}
+use Rattle.c_unit.proofs.Common.{AllByRecursion, cons_option, range_with_len, ⊤, all_append, get_within, some_first, if_found, named}
+use Rattle.c_unit.proofs.Common.{numbered, value, ValType, global_space, imported_global_space, imported_globals, GlobalEntry, LimitsEntry}
+use Rattle.c_unit.proofs.Common.{SegmentEntry, Module, Name, CType, LinkedSet, NamedModule, bytes_differ, bytes_equal, array_bytes}
+use Rattle.c_unit.proofs.Common.{array_named, c_type_of, global_name, memory_name, table_name, global_imports, memory_imports, pointer_type}
+use Rattle.c_unit.proofs.Common.{table_imports, vars_in, get_behind, get_front, get_mapped, global_count, pointer_name, pointers_of}
+use Rattle.c_unit.proofs.Common.{data_name, zero_like, data_of, items, objects_of, IsAccepted, program_of}
 use Rattle.w2c_base.specs.declared.value.ValType.TheVariants as type
 use Rattle.c_tree.specs.declared.tree.CType.TheVariants as c_type
 use Rattle.c_tree.specs.Tree as c
@@ -146,7 +154,7 @@ declares m a rest = record {
       let i = get_within (global_imports m.tree) k less in
       let g = imported_global m.tree.imports k i.0 i.1 in
       holds (pointer_name (global_name k)) (pointer_type g.1) (state.Pointer None)
-      (imported_global_is m a k (g.1, g.0) (get_left (imported_global_space m.tree) _ k (g.1, g.0) g.2) (ap is_some i.1))
+      (imported_global_is m a k (g.1, g.0) (get_front (imported_global_space m.tree) _ k (g.1, g.0) g.2) (ap is_some i.1))
       (pointer_zero g.1) refl;
 }
   where

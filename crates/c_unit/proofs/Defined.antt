@@ -1,12 +1,26 @@
 -- What the names of a module's unit stand for in it: helpers, bodies, exports and the init function, and
 -- that symbols of other modules stand for nothing.
-use Rattle.c_unit.proofs.Common.{◌≡◌, ℕ, zero, suc, ◌+◌, ◌-◌, ◌^◌, ◌<◌, ◌≤◌, Bool, true, false, not, ◌&&◌, ◌≢◌, ◌⊎◌, List, [], ◌∷◌, ◌++◌, map, length, is_none, if◌then◌else◌, nat_eq, slice_get, Some, None, All, Contains, Option, option_map, find, bytes_eq, unwrap_or, sym, refl, ap, ◌∙◌, subst, inl, inr, arith, decimal_injective, slice_get-get_or, bytes_eq-Decides, AllByRecursion, list_all, range_with_len, option_or, all_append, if_found, numbered, FuncType, ValType, export_symbol_of-injective, init_symbol_of-not_export, export_symbol_of, init_symbol_of, SymbolKind, global_type_in, imported_funcs, type_in, BodyEntry, Export, ExportKind, ExportFunc, ExportGlobal, ExportMemory, ExportTable, FuncEntry, Import, SegmentEntry, Module, Name, CType, NamedModule, bytes_differ, bytes_equal, Definition, defined, defined_for_all, typed, primitive, func_name, global_name, memory_name, table_name, listed, made_static, names_differ, helper_of, Helper, HELPERS, export_symbol, export_type, global_imports, global_kind, global_symbol, memory_imports, table_imports, class, class_lettered, get_numbered, IsDefined, body_of, defined_at, func_of, helpers_of, needs_of, callee, accessor, export_func, passes_on, data_name, init_func, bodies, data_of, declaration, items, objects_of, prototype}
+use Rattle.c_unit.proofs.Common.{◌≡◌, ℕ, zero, suc, ◌+◌, ◌-◌, ◌^◌, ◌<◌, ◌≤◌, Bool, true, false, not, ◌&&◌, ◌≢◌, ◌⊎◌, List, [], ◌∷◌, ◌++◌}
+use Rattle.c_unit.proofs.Common.{map, length, is_none, if◌then◌else◌, nat_eq, slice_get, Some, None, All, Contains, Option, option_map}
+use Rattle.c_unit.proofs.Common.{find, bytes_eq, unwrap_or, sym, refl, ap, ◌∙◌, subst, inl, inr, arith, decimal_injective, slice_get-get_or}
+use Rattle.c_unit.proofs.Common.{bytes_eq-Decides, AllByRecursion, list_all, range_with_len, option_or, all_append, if_found, numbered}
+use Rattle.c_unit.proofs.Common.{FuncType, ValType, export_symbol_of-injective, init_symbol_of-not_export, export_symbol_of, init_symbol_of}
+use Rattle.c_unit.proofs.Common.{SymbolKind, global_type_in, imported_funcs, type_in, BodyEntry, Export, ExportKind, ExportFunc}
+use Rattle.c_unit.proofs.Common.{ExportGlobal, ExportMemory, ExportTable, FuncEntry, Import, SegmentEntry, Module, Name, CType, NamedModule}
+use Rattle.c_unit.proofs.Common.{bytes_differ, bytes_equal, Definition, defined, defined_for_all, typed, primitive, func_name, global_name}
+use Rattle.c_unit.proofs.Common.{memory_name, table_name, listed, made_static, names_differ, helper_of, Helper, HELPERS, export_symbol}
+use Rattle.c_unit.proofs.Common.{export_type, global_imports, global_kind, global_symbol, memory_imports, table_imports, class}
+use Rattle.c_unit.proofs.Common.{class_lettered, get_numbered, IsDefined, body_of, defined_at, func_of, helpers_of, needs_of, callee}
+use Rattle.c_unit.proofs.Common.{accessor, export_func, passes_on, data_name, init_func, bodies, data_of, declaration, items, objects_of}
+use Rattle.c_unit.proofs.Common.{prototype, not-true, test_at}
+use Rattle.w2c_base.proofs.Options.{no_option}
 use Rattle.w2c_mangle.specs.declared.symbol.SymbolKind.TheVariants as symbol
 use Rattle.c_tree.specs.declared.tree.CType.TheVariants as c_type
 use Rattle.c_tree.specs.Tree as tree
+use Rattle.c_meaning.proofs.Links.{all_flat}
 use Rattle.c_prelude.specs.declared.operation.Helper.TheVariants as helper
-use Rattle.c_unit.proofs.Plans.{all_flat}
-use Rattle.c_unit.proofs.Found.{Test, Misses, Finds, FindsNone, skip, skip_none, named_by, external_by, here, find_at, find_none, find_map, found_among, none_among}
+use Rattle.c_unit.proofs.Found.{Test, Misses, Finds, FindsNone, skip, skip_none, named_by, external_by, here, find_at, find_none, find_map}
+use Rattle.c_unit.proofs.Found.{found_among, none_among}
 use Rattle.c_unit.proofs.Small.{all_images}
 
 -- ---- sections: those without bodies define nothing
@@ -120,20 +134,6 @@ symbol_not_apart [] letter = refl
 symbol_not_apart (c ∷ []) letter = refl
 symbol_not_apart (c ∷ d ∷ name) letter = ap (λ b. nat_eq (class (b ∷ d ∷ name)) 8) letter
 
-list_all_at : {A : Type 0} (p : A → Bool) (xs : List A) (i : ℕ) (a : A) → list_all p xs ≡ true → slice_get xs i ≡ Some a → p a ≡ true
-list_all_at p [] i a all is = absurd (cc)
-list_all_at p (x ∷ xs) zero a all is = let first : p x ≡ true = first_of (p x) (list_all p xs) all in let same : x ≡ a = cc in
-    ap p (sym same) ∙ first
-  where
-    first_of : (b c : Bool) → (b && c) ≡ true → b ≡ true
-    first_of true c e = refl
-    first_of false c e = absurd (cc)
-list_all_at p (x ∷ xs) (suc i) a all is = list_all_at p xs i a (second_of (p x) (list_all p xs) all) is
-  where
-    second_of : (b c : Bool) → (b && c) ≡ true → c ≡ true
-    second_of true c e = e
-    second_of false c e = absurd (cc)
-
 helpers_apart : list_all (λ which. apart (helper_of which).name) HELPERS ≡ true
 helpers_apart = refl
 
@@ -145,23 +145,15 @@ helpers_are_no_primitives : list_all (λ which. is_none (primitive (helper_of wh
 helpers_are_no_primitives = refl
 
 helper_apart : (which : Helper) → apart (helper_of which).name ≡ true
-helper_apart which = let at = listed which in list_all_at (λ w. apart (helper_of w).name) HELPERS at.0 which helpers_apart at.1
+helper_apart which = let at = listed which in test_at (λ w. apart (helper_of w).name) HELPERS at.0 which helpers_apart at.1
 
 helper_is_no_symbol : (which : Helper) → nat_eq (head (helper_of which).name) 119 ≡ false
-helper_is_no_symbol which = let at = listed which in is_not (nat_eq (head (helper_of which).name) 119)
-    (list_all_at (λ w. not (nat_eq (head (helper_of w).name) 119)) HELPERS at.0 which helpers_are_no_symbols at.1)
-  where
-    is_not : (b : Bool) → not b ≡ true → b ≡ false
-    is_not false e = refl
-    is_not true e = absurd (cc)
-
-none_of : {A : Type 0} (o : Option A) → is_none o ≡ true → o ≡ None
-none_of None h = refl
-none_of (Some a) h = absurd (cc)
+helper_is_no_symbol which = let at = listed which in not-true (nat_eq (head (helper_of which).name) 119)
+    (test_at (λ w. not (nat_eq (head (helper_of w).name) 119)) HELPERS at.0 which helpers_are_no_symbols at.1)
 
 pub helper_is_no_primitive : (which : Helper) → primitive (helper_of which).name ≡ None
-helper_is_no_primitive which = let at = listed which in none_of (primitive (helper_of which).name)
-    (list_all_at (λ w. is_none (primitive (helper_of w).name)) HELPERS at.0 which helpers_are_no_primitives at.1)
+helper_is_no_primitive which = let at = listed which in no_option (primitive (helper_of which).name)
+    (test_at (λ w. is_none (primitive (helper_of w).name)) HELPERS at.0 which helpers_are_no_primitives at.1)
 
 pub func_is_no_primitive : (k : ℕ) → primitive (func_name k) ≡ None
 func_is_no_primitive k = refl
@@ -334,12 +326,7 @@ find_only {A} p (x ∷ xs) k a is passes only = go k (p x) refl is (λ j at. fin
 
 helper_body : (which : Helper) → (body : tree.Body) × ((helper_of which).body ≡ Some body)
 helper_body (helper.Num op) = (_, refl)
-helper_body (helper.Load op) = (_, refl)
-helper_body (helper.Store op) = (_, refl)
-helper_body helper.Size = (_, refl)
-helper_body helper.Element = (_, refl)
-helper_body helper.Copy = (_, refl)
-helper_body helper.Fill = (_, refl)
+helper_body _ = (_, refl)
 
 pub helper_defined : (m : NamedModule) (which : Helper) → Contains (helpers_of m.tree) which
     → (body : tree.Body) × ((helper_of which).body ≡ Some body)

@@ -1,5 +1,13 @@
 -- The section of exports keeps the rules in a module's unit.
-use Rattle.c_unit.proofs.Common.{◌≡◌, ℕ, zero, suc, ◌^◌, ◌<◌, ◌≤◌, Bool, true, false, not, List, [], ◌∷◌, ◌++◌, map, length, is_some, is_none, if◌then◌else◌, IsSome, slice_get, Some, None, Option, sym, refl, ap, ◌∙◌, subst, arith, at_index, named, FuncType, ValType, export_symbol_of, SymbolKind, func_space, func_type_in, global_space, global_type_in, imported_global_space, is_global_import, is_memory_import, is_table_import, memory_space, table_space, type_in, Import, ImportGlobal, Module, is_symbol, is_void, proper_types, primitives, Name, is_among, is_object_type, pointer_to, CType, NamedModule, c_params_of, c_type_of, global_name, memory_name, table_name, accessor_type, c_func_type, c_func_type_if, global_accessor_type, global_imports, import_symbol, import_type, is_usable, memory_imports, pointer_type, table_imports, funcs_in, vars_in, get_left, named_in, callee, pointers_of, accessor, passes_on, usable_symbol, objects_of, IsAccepted}
+use Rattle.c_unit.proofs.Common.{◌≡◌, ℕ, zero, suc, ◌^◌, ◌<◌, ◌≤◌, Bool, true, false, not, List, [], ◌∷◌, ◌++◌, map, length, is_some}
+use Rattle.c_unit.proofs.Common.{is_none, if◌then◌else◌, IsSome, slice_get, Some, None, Option, sym, refl, ap, ◌∙◌, subst, arith, at_index}
+use Rattle.c_unit.proofs.Common.{named, FuncType, ValType, export_symbol_of, SymbolKind, func_space, func_type_in, global_space}
+use Rattle.c_unit.proofs.Common.{global_type_in, imported_global_space, is_global_import, is_memory_import, is_table_import, memory_space}
+use Rattle.c_unit.proofs.Common.{table_space, type_in, Import, ImportGlobal, Module, is_symbol, is_void, proper_types, primitives, Name}
+use Rattle.c_unit.proofs.Common.{is_among, is_object_type, pointer_to, CType, NamedModule, c_params_of, c_type_of, global_name, memory_name}
+use Rattle.c_unit.proofs.Common.{table_name, accessor_type, c_func_type, c_func_type_if, global_accessor_type, global_imports}
+use Rattle.c_unit.proofs.Common.{import_symbol, import_type, is_usable, memory_imports, pointer_type, table_imports, funcs_in, vars_in}
+use Rattle.c_unit.proofs.Common.{get_front, named_in, callee, pointers_of, accessor, passes_on, usable_symbol, objects_of, IsAccepted}
 use Rattle.w2c_base.specs.declared.value.ValType.TheVariants.{I32, I64}
 use Rattle.w2c_mangle.specs.declared.symbol.SymbolKind.TheVariants as symbol
 use Rattle.c_tree.specs.declared.tree.CType.TheVariants as type
@@ -139,7 +147,7 @@ module _ (m : NamedModule) (a : IsAccepted m) (declared : List tree.Item) (sees 
       (λ i e.
       let found = imported_global t.imports k i e in
       let same : found.1 ≡ g.0.0 = ap (λ (x : ValType × Bool). x.0)
-      (some_same (sym (get_left (imported_global_space t) _ k (found.1, found.0) found.2) ∙ g.1)) in (
+      (some_same (sym (get_front (imported_global_space t) _ k (found.1, found.0) found.2) ∙ g.1)) in (
         (kept_among import_symbol is_global_import t.imports k i e).0,
         accessor_is t i found.1 found.0 found.3
             ∙ ap (λ ty. accessor_type (pointer_type ty)) same,

@@ -1,9 +1,15 @@
 -- The function of each export is one of the external functions that keep the rules.
-use Rattle.c_unit.proofs.Common.{◌≡◌, ℕ, zero, suc, Bool, true, false, not, List, [], ◌∷◌, map, is_some, if◌then◌else◌, slice_get, Some, None, codes, filter, Option, bytes_eq, sym, refl, ap, ◌∙◌, or_left, or_right, named, FuncType, ValType, is_memory_import, is_table_import, Import, ImportKind, ImportFunc, ImportGlobal, ImportMemory, ImportTable, Module, is_symbol, is_void, proper_types, same_func_type, Name, Scope, is_among, is_object_type, pointer_to, CType, NamedModule, bytes_equal, c_params_of, c_type_of, accessor_type, c_func_type_if, declared_symbols, firsts, import_symbol, import_type, is_usable, symbol_type, funcs_in, vars_in, named_in, address_arg, return_passes, external, named_params, params_from, declaration}
+use Rattle.c_unit.proofs.Common.{◌≡◌, ℕ, zero, suc, Bool, true, false, not, List, [], ◌∷◌, map, is_some, if◌then◌else◌, slice_get, Some}
+use Rattle.c_unit.proofs.Common.{None, codes, filter, Option, bytes_eq, sym, refl, ap, ◌∙◌, or_left, or_right, named, FuncType, ValType}
+use Rattle.c_unit.proofs.Common.{is_memory_import, is_table_import, Import, ImportKind, ImportMemory, ImportTable, Module, is_symbol}
+use Rattle.c_unit.proofs.Common.{is_void, proper_types, same_func_type, Name, Scope, is_among, is_object_type, pointer_to, CType}
+use Rattle.c_unit.proofs.Common.{NamedModule, bytes_equal, c_params_of, c_type_of, accessor_type, c_func_type_if, declared_symbols, firsts}
+use Rattle.c_unit.proofs.Common.{import_symbol, import_type, is_usable, symbol_type, funcs_in, vars_in, named_in, address_arg}
+use Rattle.c_unit.proofs.Common.{return_passes, external, named_params, params_from, declaration}
 use Rattle.w2c_base.specs.declared.value.ValType.TheVariants.{I32, I64}
 use Rattle.c_tree.specs.declared.tree.CType.TheVariants as type
 use Rattle.c_tree.specs.Tree as tree
-use Rattle.c_unit.proofs.KnownNames.{func_types_same}
+use Rattle.c_tree.proofs.SameTypes.{func_types_same}
 use Rattle.c_unit.proofs.KnownFuncs.{symbol_named, firsts_have, params_back}
 use Rattle.c_unit.proofs.ExportRules.{IsExternal}
 use Rattle.c_unit.proofs.Small.{some_same}
@@ -108,17 +114,13 @@ table_import_type m i = by i.kind
   where
     by : (kind : ImportKind) → is_table_import (record { «module» = i.«module»; field = i.field; kind = kind; place = i.place }) ≡ true
         → import_type m (record { «module» = i.«module»; field = i.field; kind = kind; place = i.place }) ≡ accessor_type type.PtrTab
-    by (ImportFunc x) e = absurd cc
     by (ImportTable l) e = refl
-    by (ImportMemory l) e = absurd cc
-    by (ImportGlobal t u) e = absurd cc
+    by _ e = absurd cc
 
 pub memory_import_type : (m : Module) (i : Import) → is_memory_import i ≡ true → import_type m i ≡ accessor_type type.PtrMem
 memory_import_type m i = by i.kind
   where
     by : (kind : ImportKind) → is_memory_import (record { «module» = i.«module»; field = i.field; kind = kind; place = i.place }) ≡ true
         → import_type m (record { «module» = i.«module»; field = i.field; kind = kind; place = i.place }) ≡ accessor_type type.PtrMem
-    by (ImportFunc x) e = absurd cc
-    by (ImportTable l) e = absurd cc
     by (ImportMemory l) e = refl
-    by (ImportGlobal t u) e = absurd cc
+    by _ e = absurd cc

@@ -1,8 +1,20 @@
 -- The numbers of the init function's statements fit their types.
-use Rattle.c_unit.proofs.Common.{◌≡◌, ℕ, zero, suc, ◌+◌, ◌^◌, ◌<◌, ◌≤◌, Bool, true, false, not, List, [], ◌∷◌, ◌++◌, map, length, ℤ, pos, negsuc, is_some, if◌then◌else◌, slice_get, Some, None, codes, filter, Option, zip, flat_map, refl, arith, AllByRecursion, range_with_len, all_append, all_flat, if_found, numbered, code_of, FuncType, TrapKind, func_space, func_type_in, is_func_import, is_global_import, memory_of_import, memory_space, table_of_import, table_space, type_in, Code, GlobalGet, I32Const, I64Const, end_code, then_code, ElementEntry, FuncRef, Import, ImportKind, ImportFunc, ImportGlobal, ImportMemory, ImportTable, Limits, LimitsEntry, SegmentEntry, Start, Module, IsMaximum, Name, FitsArg, FitsExpr, FitsStmt, depth_limit, NamedModule, pattern_of, global_name, memory_name, table_name, global_imports, import_symbol, is_usable, memory_imports, table_imports, all_kept, all_behind, all_front, all_weaker, pointer_name, callee, memory_arg, table_arg, bounds_label, byte_name, call_start, constant_expr, init_stmts, limits_label, make_global, make_memory, make_table, max_number, n64, place_expr, set_pointer, signature, start_stmts, take_stmts, takes_from, test_bounds, test_data, test_elements, test_max, test_min, tests_bounds, tests_limits, trap_if, write_data, write_element, write_elements, IsAccepted}
+use Rattle.c_unit.proofs.Common.{◌≡◌, ℕ, zero, suc, ◌+◌, ◌^◌, ◌<◌, ◌≤◌, Bool, true, false, not, List, [], ◌∷◌, ◌++◌, map, length, ℤ, pos}
+use Rattle.c_unit.proofs.Common.{negsuc, is_some, if◌then◌else◌, slice_get, Some, None, codes, filter, Option, zip, flat_map, refl, arith}
+use Rattle.c_unit.proofs.Common.{AllByRecursion, range_with_len, all_append, all_flat, if_found, numbered, code_of, FuncType, TrapKind}
+use Rattle.c_unit.proofs.Common.{func_space, func_type_in, is_func_import, is_global_import, memory_of_import, memory_space}
+use Rattle.c_unit.proofs.Common.{table_of_import, table_space, type_in, Code, GlobalGet, I32Const, I64Const, end_code, then_code}
+use Rattle.c_unit.proofs.Common.{ElementEntry, FuncRef, Import, ImportKind, ImportFunc, ImportGlobal, ImportMemory, ImportTable, Limits}
+use Rattle.c_unit.proofs.Common.{LimitsEntry, SegmentEntry, Start, Module, IsMaximum, Name, FitsArg, FitsExpr, FitsStmt, depth_limit}
+use Rattle.c_unit.proofs.Common.{NamedModule, pattern_of, global_name, memory_name, table_name, global_imports, import_symbol, is_usable}
+use Rattle.c_unit.proofs.Common.{memory_imports, table_imports, all_filtered, all_behind, all_front, all_weaker, pointer_name, callee}
+use Rattle.c_unit.proofs.Common.{memory_arg, table_arg, bounds_label, byte_name, call_start, constant_expr, init_stmts, limits_label}
+use Rattle.c_unit.proofs.Common.{make_global, make_memory, make_table, max_number, n64, place_expr, set_pointer, signature, start_stmts}
+use Rattle.c_unit.proofs.Common.{take_stmts, takes_from, test_bounds, test_data, test_elements, test_max, test_min, tests_bounds}
+use Rattle.c_unit.proofs.Common.{tests_limits, trap_if, write_data, write_element, write_elements, IsAccepted}
 use Rattle.w2c_base.specs.declared.trap.TrapKind.TheVariants as trap
 use Rattle.c_tree.specs.Tree as tree
-use Rattle.c_prelude.specs.Pieces as pieces
+use Rattle.c_tree.specs.Makers as makers
 use Rattle.c_body.proofs.FormedCode.{Fits, signature_below}
 use Rattle.c_unit.proofs.BodiesAt.{few_params}
 use Rattle.c_unit.proofs.Small.{all_images}
@@ -136,7 +148,7 @@ module _ (m : NamedModule) (a : IsAccepted m) where
   )
 
   kept : (P : Import → Type 0) (test : Import → Bool) (xs : List Import) → AllByRecursion P xs → AllByRecursion P (filter test xs)
-  kept P test xs h = all_kept P test xs h
+  kept P test xs h = all_filtered P test xs h
 
   limits_of : (xs : List Limits) (most : ℕ) → most < 2 ^ 32 → AllByRecursion (λ (l : Limits). l.min ≤ most) xs
       → AllByRecursion (λ (l : Limits). IsMaximum l.max) xs → AllByRecursion AreLimits xs
@@ -255,7 +267,7 @@ module _ (m : NamedModule) (a : IsAccepted m) where
       by None = tt
       by (Some name) = (tt, tt)
 
-  trap_fits : (b : Bool) (n : ℕ) (kind : TrapKind) → Fits (trap_if b n (pieces.trap kind))
+  trap_fits : (b : Bool) (n : ℕ) (kind : TrapKind) → Fits (trap_if b n (makers.trap kind))
   trap_fits false n kind = tt
   trap_fits true n kind = (tt, ((tt, (code_fits kind, tt)), tt))
 
@@ -281,7 +293,7 @@ module _ (m : NamedModule) (a : IsAccepted m) where
         (all_append FitsHere (flat_map (write_data t) (numbered t.segments)) _ (all_data_fit 0 t.segments (accepted_limits a).bytes)
         (all_append FitsHere (start_stmts m t.start) _ (start_fits t.start) (
           tt,
-          all_append FitsHere (trap_if (tests_limits t) limits_label (pieces.trap trap.ImportLimits)) _
+          all_append FitsHere (trap_if (tests_limits t) limits_label (makers.trap trap.ImportLimits)) _
               (trap_fits (tests_limits t) limits_label trap.ImportLimits)
               (trap_fits (tests_bounds t) bounds_label trap.SegmentOut),
         ))))))))),

@@ -1,6 +1,21 @@
 -- Each section of a module's unit is well formed, up to the init function.
-use Rattle.c_unit.proofs.Common.{◌≡◌, ℕ, suc, ◌+◌, ◌^◌, ◌<◌, ◌≤◌, Bool, true, false, List, [], ◌∷◌, ◌++◌, map, length, is_none, if◌then◌else◌, slice_get, Some, None, filter, Option, option_map, zip, flat_map, bytes_eq, sym, refl, ap, ◌∙◌, subst, arith, length-append, AllByRecursion, range_with_len, all_append, all_at, all_map, named, numbered, FuncType, ValType, declared_locals, func_of_import, func_space, func_type_in, global_space, global_type_in, imported_funcs, imported_global_space, imported_globals, is_func_import, is_global_import, is_memory_import, is_table_import, type_in, Export, ExportKind, ExportFunc, ExportGlobal, ExportMemory, ExportTable, GlobalEntry, Import, ImportKind, ImportFunc, ImportGlobal, ImportMemory, ImportTable, LimitsEntry, SegmentEntry, TypeEntry, Module, context_of, unknown_export, proper_types, Name, name_of, FitsArg, FitsItem, FitsNum, FitsStmt, depth_limit, IsName, IsNamedIfAny, NamedArg, NamedItem, NamedStmt, CType, NamedModule, c_params_of, c_type_of, func_name, global_name, memory_name, table_name, helper_of, Typed, accessor_type, c_func_type_if, declared_symbols, export_symbol, export_type, exported_symbols, firsts, func_imports, global_accessor_type, global_imports, import_symbol, import_type, imported_symbols, is_usable, memory_imports, pointer_type, symbol_type, table_imports, depth_known, scope_knows, all_kept, NamedItems, body_item_fits, body_named, after_typed, all_behind, all_front, get_unmapped, body_locals, func_count, global_count, body_of, func_of, params_of, stmts_of, helpers_of, callee, pointers_of, accessor, args_from, call_if, export_func, external, first_value, named_params, param_name, params_from, passes_on, result_name, usable_symbol, bodies, data_of, declaration, objects_of, prototype, IsAccepted}
-use Rattle.wasm_valid.specs.declared.fault.ValidCause.TheVariants as cause
+use Rattle.c_unit.proofs.Common.{◌≡◌, ℕ, suc, ◌+◌, ◌^◌, ◌<◌, ◌≤◌, Bool, true, false, List, [], ◌∷◌, ◌++◌, map, length, is_none}
+use Rattle.c_unit.proofs.Common.{if◌then◌else◌, slice_get, Some, None, filter, Option, option_map, zip, flat_map, bytes_eq, sym, refl, ap}
+use Rattle.c_unit.proofs.Common.{◌∙◌, subst, arith, length-append, AllByRecursion, range_with_len, all_append, all_at, all_map, named}
+use Rattle.c_unit.proofs.Common.{numbered, FuncType, ValType, declared_locals, func_of_import, func_space, func_type_in, global_space}
+use Rattle.c_unit.proofs.Common.{global_type_in, imported_funcs, imported_global_space, imported_globals, is_func_import, is_global_import}
+use Rattle.c_unit.proofs.Common.{is_memory_import, is_table_import, type_in, Export, ExportKind, ExportFunc, ExportGlobal, ExportMemory}
+use Rattle.c_unit.proofs.Common.{ExportTable, GlobalEntry, Import, ImportKind, ImportFunc, LimitsEntry, SegmentEntry, TypeEntry, Module}
+use Rattle.c_unit.proofs.Common.{context_of, unknown_export, proper_types, Name, name_of, FitsArg, FitsItem, FitsNum, FitsStmt, depth_limit}
+use Rattle.c_unit.proofs.Common.{IsName, IsNamedIfAny, NamedArg, NamedItem, NamedStmt, CType, NamedModule, c_type_of, func_name}
+use Rattle.c_unit.proofs.Common.{global_name, memory_name, table_name, helper_of, Typed, accessor_type, c_func_type_if, declared_symbols}
+use Rattle.c_unit.proofs.Common.{export_symbol, export_type, exported_symbols, firsts, func_imports, global_accessor_type, global_imports}
+use Rattle.c_unit.proofs.Common.{import_symbol, import_type, imported_symbols, is_usable, memory_imports, pointer_type, symbol_type}
+use Rattle.c_unit.proofs.Common.{table_imports, depth_known, scope_knows, NamedItems, body_item_fits, body_named, after_typed, all_behind}
+use Rattle.c_unit.proofs.Common.{all_front, get_unmapped, body_locals, func_count, global_count, body_of, func_of, params_of, stmts_of}
+use Rattle.c_unit.proofs.Common.{helpers_of, callee, pointers_of, accessor, args_from, call_if, export_func, external, zero_number}
+use Rattle.c_unit.proofs.Common.{named_params, param_name, params_from, passes_on, result_name, usable_symbol, bodies, data_of, declaration}
+use Rattle.c_unit.proofs.Common.{objects_of, prototype, IsAccepted, all_filtered, length-map}
 use Rattle.c_tree.specs.declared.tree.CType.TheVariants as type
 use Rattle.c_tree.specs.Tree as tree
 use Rattle.c_tree.proofs.Names.{numbered as numbered_name}
@@ -12,10 +27,13 @@ use Rattle.c_unit.proofs.ExportSection.{few_types, first_there}
 use Rattle.c_unit.proofs.Pairs.{all_range}
 use Rattle.c_unit.proofs.Sections.{bodies_class, few_funcs, few_globals}
 use Rattle.c_unit.proofs.InitSegments.{data_item}
-use Rattle.c_unit.proofs.UnitNames.{import_named, export_named, func_named, global_named, helper_formed, objects_named, data_names, symbols_named, body_here, prototypes_named, helpers_named, bodies_named, declarations_named}
+use Rattle.c_unit.proofs.UnitNames.{import_named, export_named, func_named, global_named, helper_formed, objects_named, data_names}
+use Rattle.c_unit.proofs.UnitNames.{symbols_named, body_here, prototypes_named, helpers_named, bodies_named, declarations_named}
 use Rattle.c_unit.proofs.Small.{no_fault, all_images, each_none}
 use Rattle.c_unit.proofs.AcceptedLimits.{accepted_limits}
-use Rattle.c_unit.proofs.Counts.{map_length}
+use Rattle.c_body.proofs.FormedCode.{params_there}
+use Rattle.c_unit.proofs.SectionLists.{functions_of, globals, mems, pointers, tabs}
+use Rattle.wasm_typing.specs.declared.fault.ValidCause.TheVariants as cause
 
 abbrev pub IsFormed : tree.Item → Type 0
 IsFormed o = NamedItem o × FitsItem depth_limit o
@@ -32,11 +50,7 @@ HasParams ty = 0 < length ty.params
 
 func_has : (o : Option FuncType) → HasParams (c_func_type_if o)
 func_has None = omega arith
-func_has (Some ty) = by ty.params
-  where
-    by : (params : List ValType) → 0 < length (c_params_of params)
-    by [] = omega arith
-    by (x ∷ params) = omega arith
+func_has (Some ty) = params_there ty.params
 
 global_has : (o : Option (ValType × Bool)) → HasParams (global_accessor_type o)
 global_has None = omega arith
@@ -47,9 +61,7 @@ import_has m i = by i.kind
   where
     by : (kind : ImportKind) → HasParams (import_type m (record { «module» = i.«module»; field = i.field; kind = kind; place = i.place }))
     by (ImportFunc x) = func_has (type_in m x)
-    by (ImportTable x) = omega arith
-    by (ImportMemory x) = omega arith
-    by (ImportGlobal x mutable) = omega arith
+    by _ = omega arith
 
 export_has : (m : Module) (e : Export) → HasParams (export_type m e)
 export_has m e = by e.kind
@@ -57,9 +69,8 @@ export_has m e = by e.kind
     by : (kind : ExportKind) → HasParams (export_type m
         (record { name = e.name; kind = kind; index = e.index; name_place = e.name_place; index_place = e.index_place }))
     by ExportFunc = func_has (func_type_in m e.index)
-    by ExportTable = omega arith
-    by ExportMemory = omega arith
     by ExportGlobal = global_has (global_type_in m e.index)
+    by _ = omega arith
 
 found_has : (name : Name) (symbols : List Typed) (ty : tree.FuncType) → AllByRecursion (λ (s : Typed). HasParams s.1) symbols
     → named name symbols ≡ Some ty → HasParams ty
@@ -130,7 +141,7 @@ call_formed None target types few name result = (tt, tt)
 call_formed (Some n) None types few name result = ((result, name, args_named 0 types (omega (arith, few))), (tt, args_fit_here 0 types))
 call_formed (Some n) (Some r) types few name result = ((result, name, args_named 0 types (omega (arith, few))), (tt, args_fit 0 types))
 
-value_fits : (r : CType) → FitsNum (first_value r)
+value_fits : (r : CType) → FitsNum (zero_number r)
 value_fits type.U32 = omega arith
 value_fits type.U64 = omega arith
 value_fits _ = omega arith
@@ -140,10 +151,10 @@ pub passes_formed : (ty : tree.FuncType) (symbol : Name) (o : Option Name) → l
 passes_formed ty symbol o few name known = by ty.result
   where
     value : (r : CType) → NamedItem (tree.Function
-        (external (record { params = ty.params; result = r }) symbol ((r, result_name, first_value r) ∷ [])
+        (external (record { params = ty.params; result = r }) symbol ((r, result_name, zero_number r) ∷ [])
         (call_if o (Some result_name) (proper_types ty.params) ∷ tree.Return (tree.Value (tree.Name result_name)) ∷ [])))
         × FitsItem depth_limit (tree.Function
-        (external (record { params = ty.params; result = r }) symbol ((r, result_name, first_value r) ∷ [])
+        (external (record { params = ty.params; result = r }) symbol ((r, result_name, zero_number r) ∷ [])
         (call_if o (Some result_name) (proper_types ty.params) ∷ tree.Return (tree.Value (tree.Name result_name)) ∷ [])))
     value r =
         let call = call_formed o (Some result_name) (proper_types ty.params) few known refl in (
@@ -157,15 +168,7 @@ passes_formed ty symbol o few name known = by ty.result
           (name, named_params_are (proper_types ty.params) few, (tt, (call.0, (tt, tt)))),
           (named_params_there (proper_types ty.params), (tt, (call.1, (tt, tt)))),
         )
-    by type.U32 = value type.U32
-    by type.U64 = value type.U64
-    by type.PtrU32 = value type.PtrU32
-    by type.PtrU64 = value type.PtrU64
-    by type.Mem = value type.Mem
-    by type.PtrMem = value type.PtrMem
-    by type.Tab = value type.Tab
-    by type.PtrTab = value type.PtrTab
-    by type.FnPtr = value type.FnPtr
+    by r = value r
 
 accessor_formed : (m : NamedModule) (pointer : CType) (symbol : Name) (o : Option Import) (object : Name) → IsName symbol → IsName object
     → ((i : Import) → o ≡ Some i → IsName (import_symbol i))
@@ -184,37 +187,25 @@ module _ (m : NamedModule) (a : IsAccepted m) where
   abbrev t : Module
   t = m.tree
 
-  abbrev tabs : List tree.Item
-  tabs = map (λ (x : LimitsEntry). tree.Var type.Tab table_name None) t.tables
-
-  abbrev mems : List tree.Item
-  mems = map (λ (x : LimitsEntry). tree.Var type.Mem memory_name None) t.memories
-
-  abbrev globals : List tree.Item
-  globals = map (λ (g : ℕ × GlobalEntry). tree.Var (c_type_of g.1.ty) (global_name (imported_globals t + g.0)) None) (numbered t.globals)
-
-  abbrev pointers : List tree.Item
-  pointers = map (λ (p : CType × Name). tree.Var p.0 p.1 None) (pointers_of t)
-
   abbrev Named : tree.Item → Type 0
   Named o = IsName (name_of o)
 
   pub objects_formed : AllByRecursion IsFormed (objects_of t (pointers_of t))
   objects_formed =
       let names = objects_named m a in
-      let behind_tabs = all_behind Named tabs (mems ++ (globals ++ pointers)) names in
-      let behind_mems = all_behind Named mems (globals ++ pointers) behind_tabs in
-      all_append IsFormed tabs (mems ++ (globals ++ pointers))
+      let behind_tabs = all_behind Named (tabs m) (mems m ++ (globals m ++ pointers m)) names in
+      let behind_mems = all_behind Named (mems m) (globals m ++ pointers m) behind_tabs in
+      all_append IsFormed (tabs m) (mems m ++ (globals m ++ pointers m))
       (vars_formed (λ (x : LimitsEntry). type.Tab) (λ (x : LimitsEntry). table_name) t.tables
-      (all_front Named tabs (mems ++ (globals ++ pointers)) names))
-      (all_append IsFormed mems (globals ++ pointers)
+      (all_front Named (tabs m) (mems m ++ (globals m ++ pointers m)) names))
+      (all_append IsFormed (mems m) (globals m ++ pointers m)
       (vars_formed (λ (x : LimitsEntry). type.Mem) (λ (x : LimitsEntry). memory_name) t.memories
-      (all_front Named mems (globals ++ pointers) behind_tabs))
-      (all_append IsFormed globals pointers
+      (all_front Named (mems m) (globals m ++ pointers m) behind_tabs))
+      (all_append IsFormed (globals m) (pointers m)
       (vars_formed (λ (g : ℕ × GlobalEntry). c_type_of g.1.ty) (λ (g : ℕ × GlobalEntry). global_name (imported_globals t + g.0))
-      (numbered t.globals) (all_front Named globals pointers behind_mems))
+      (numbered t.globals) (all_front Named (globals m) (pointers m) behind_mems))
       (vars_formed (λ (p : CType × Name). p.0) (λ (p : CType × Name). p.1) (pointers_of t)
-      (all_behind Named globals pointers behind_mems))))
+      (all_behind Named (globals m) (pointers m) behind_mems))))
 
   abbrev of_bytes : SegmentEntry → List ℕ → SegmentEntry
   of_bytes d bytes = record { memory = d.memory; offset = d.offset; bytes = bytes; place = d.place; offset_place = d.offset_place }
@@ -276,20 +267,17 @@ module _ (m : NamedModule) (a : IsAccepted m) where
   pub helpers_formed : AllByRecursion IsFormed (map (λ which. tree.Function (helper_of which)) (helpers_of t))
   helpers_formed = all_images IsFormed (λ which. tree.Function (helper_of which)) (helpers_of t) helper_formed
 
-  abbrev functions_of : List tree.Item
-  functions_of = map tree.Function (bodies m)
-
   abbrev declared : List tree.Item
   declared = objects_of t (pointers_of t) ++ (data_of t ++
       (map declaration (declared_symbols m) ++ (map prototype (bodies m) ++
-      (map (λ which. tree.Function (helper_of which)) (helpers_of t) ++ functions_of))))
+      (map (λ which. tree.Function (helper_of which)) (helpers_of t) ++ functions_of m))))
 
   declared_named : NamedItems declared
   declared_named =
       all_append Named (objects_of t (pointers_of t)) _ (objects_named m a)
       (all_append Named (data_of t) _ (data_names m a) (all_append Named (map declaration (declared_symbols m)) _ (declarations_named m a)
       (all_append Named (map prototype (bodies m)) _ (prototypes_named m a)
-      (all_append Named (map (λ which. tree.Function (helper_of which)) (helpers_of t)) functions_of (helpers_named m a)
+      (all_append Named (map (λ which. tree.Function (helper_of which)) (helpers_of t)) (functions_of m) (helpers_named m a)
       (bodies_named m a)))))
 
   signatures : (x : ℕ) (ty : FuncType) → slice_get (map (λ (e : TypeEntry). e.ty) t.types) x ≡ Some ty → length ty.params ≤ 60
@@ -297,7 +285,7 @@ module _ (m : NamedModule) (a : IsAccepted m) where
       let found = get_unmapped (λ (e : TypeEntry). e.ty) t.types x ty e in
       few_params t (accepted_limits a) x ty (ap (option_map (λ (e : TypeEntry). e.ty)) found.1 ∙ ap Some found.2)
 
-  pub bodies_formed : AllByRecursion IsFormed functions_of
+  pub bodies_formed : AllByRecursion IsFormed (functions_of m)
   bodies_formed = all_map IsFormed tree.Function (bodies m)
       (all_range (λ (f : tree.Func). IsFormed (tree.Function f)) (body_of t m.name) (imported_funcs t) (length t.funcs)
       (imported_funcs t + length t.funcs) (omega arith)
@@ -305,7 +293,7 @@ module _ (m : NamedModule) (a : IsAccepted m) where
     where
       one : (k : ℕ) → k < 2 ^ 64 → BodyAt m k → IsFormed (tree.Function (body_of t m.name k))
       one k less b =
-          let known = all_known m a functions_of (bodies_class m a) in
+          let known = all_known m a (functions_of m) (bodies_class m a) in
           let few : length (context_of t b.ty b.entry).locals ≤ 2 ^ 64 =
           subst (λ n. n ≤ 2 ^ 64) (sym (length-append b.ty.params (declared_locals b.entry.runs))) (few_locals m k b) in
           subst (λ (f : tree.Func). IsFormed (tree.Function f)) (sym b.is) (
@@ -337,7 +325,7 @@ module _ (m : NamedModule) (a : IsAccepted m) where
 
   kept_named : (test : Import → Bool) (k : ℕ) (i : Import) → slice_get (filter test t.imports) k ≡ Some i → IsName (import_symbol i)
   kept_named test k i e = all_at (λ (i : Import). IsName (import_symbol i)) (filter test t.imports) k i
-      (all_kept (λ (i : Import). IsName (import_symbol i)) test t.imports import_names) e
+      (all_filtered (λ (i : Import). IsName (import_symbol i)) test t.imports import_names) e
 
   pub callee_named : (index : ℕ) → is_none (slice_get (func_space t) index) ≡ false → IsNamedIfAny (callee m index)
   callee_named index out = by (slice_get (func_imports t) index) refl
@@ -346,7 +334,7 @@ module _ (m : NamedModule) (a : IsAccepted m) where
       less =
           let there = (first_there (func_space t) index out).1 in
           let whole = length-append (flat_map func_of_import t.imports) (map (λ f. f.type_index) t.funcs) in
-          let own = map_length (λ f. f.type_index) t.funcs in
+          let own = length-map t.funcs (λ f. f.type_index) in
           let counted = func_count t.imports in
           omega (arith, there, whole, own, counted, few_funcs m a)
 
@@ -367,7 +355,7 @@ module _ (m : NamedModule) (a : IsAccepted m) where
   global_low index out =
       let there = (first_there (global_space t) index out).1 in
       let whole = length-append {A = ValType × Bool} (imported_global_space t) (map (λ (g : GlobalEntry). (g.ty, g.mutable)) t.globals) in
-      let own = map_length {B = ValType × Bool} (λ (g : GlobalEntry). (g.ty, g.mutable)) t.globals in
+      let own = length-map {B = ValType × Bool} t.globals (λ (g : GlobalEntry). (g.ty, g.mutable)) in
       let counted = global_count t.imports in
       omega (arith, there, whole, own, counted, few_globals m a)
 

@@ -1,5 +1,6 @@
 -- The names of functions by their indexes.
-use Rattle.c_unit.proofs.Common.{◌≡◌, ℕ, List, map, slice_get, Some, None, Option, option_map, sym, refl, ap, ◌∙◌, slice_get-map, Import, Module, Name, func_name, func_imports, import_symbol, function_name}
+use Rattle.c_unit.proofs.Common.{◌≡◌, ℕ, List, map, slice_get, Some, None, Option, option_map, sym, refl, ap, ◌∙◌, slice_get-map, Import}
+use Rattle.c_unit.proofs.Common.{Module, Name, func_name, func_imports, import_symbol, function_name}
 
 pub named_import : (m : Module) (names : List Name) (index : ℕ) (name : Name) → names ≡ map import_symbol (func_imports m)
     → slice_get names index ≡ Some name → name ≡ function_name m index

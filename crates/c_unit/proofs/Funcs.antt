@@ -1,25 +1,23 @@
 -- A function's index: an import's, or that of a function which the module defines, with the type of each.
-use Rattle.std.proofs.Common.{zip}
-use Rattle.c_unit.proofs.Common.{◌≡◌, ℕ, zero, suc, ◌+◌, ◌-◌, ◌<◌, ◌≤◌, Bool, true, false, ◌⊎◌, List, [], ◌∷◌, ◌++◌, map, length, is_none, if◌then◌else◌, slice_get, Some, None, filter, Option, option_map, flat_map, sym, refl, ap, ◌∙◌, subst, inl, inr, arith, length-map, length-range_with_len, slice_get_past, slice_get_within, range_with_len, append_none, none_at, get_within, at_index, if_found, FuncType, defined_behind_imports, at_defined, func_of_import, func_space, func_type_in, imported_funcs, is_func_import, type_in, BodyEntry, FuncEntry, Import, ImportKind, ImportFunc, ImportGlobal, ImportMemory, ImportTable, Module, fault_if, unknown_types, IsValid, bodies_of, External, Instance, IsFunc, IsGlobal, IsMemory, IsTable, LinkedSet, ModuleFunc, NamedModule, as_func, func_at, import_at, instances, meaning_of, module_at, type_at, func_imports, get_behind, get_front, get_mapped, get_numbered, get_unmapped, IsDefined, defined_at, IsAccepted, IsAcceptedSet}
-use Rattle.wasm_valid.specs.ModuleFaults.{module_faults}
+use Rattle.c_body.proofs.Zipped.{zip_at}
+use Rattle.c_unit.proofs.Common.{◌≡◌, ℕ, zero, suc, ◌+◌, ◌-◌, ◌<◌, ◌≤◌, Bool, true, false, ◌⊎◌, List, [], ◌∷◌, ◌++◌, map, length, is_none}
+use Rattle.c_unit.proofs.Common.{if◌then◌else◌, slice_get, Some, None, filter, Option, option_map, flat_map, sym, refl, ap, ◌∙◌, subst, inl}
+use Rattle.c_unit.proofs.Common.{inr, arith, length-map, length-range_with_len, slice_get_past, slice_get_within, range_with_len}
+use Rattle.c_unit.proofs.Common.{append_none, none_at, get_within, at_index, if_found, FuncType, defined_behind_imports, at_defined}
+use Rattle.c_unit.proofs.Common.{func_of_import, func_space, func_type_in, imported_funcs, is_func_import, type_in, BodyEntry, FuncEntry}
+use Rattle.c_unit.proofs.Common.{Import, ImportKind, ImportFunc, ImportGlobal, ImportMemory, ImportTable, Module, fault_if, unknown_types}
+use Rattle.c_unit.proofs.Common.{IsValid, bodies_of, External, Instance, IsFunc, IsTable, LinkedSet, ModuleFunc, NamedModule, as_func}
+use Rattle.c_unit.proofs.Common.{func_at, import_at, instances, meaning_of, module_at, type_at, func_imports, get_behind, get_before}
+use Rattle.c_unit.proofs.Common.{get_mapped, get_numbered, get_unmapped, IsDefined, defined_at, IsAccepted, IsAcceptedSet, less_or_not}
 use Rattle.wasm_meaning.specs.LinkedSet.{FuncAddress, func_type}
 use Rattle.c_unit.proofs.Defined.{in_range}
 use Rattle.c_unit.proofs.Instances.{IsPlaced, placed, instance_at, earlier_is, spaces_at}
 use Rattle.c_unit.proofs.Linked.{accepted_at}
 use Rattle.c_unit.proofs.Usable.{type_at_is}
-use Rattle.c_unit.proofs.Small.{some_same, less_or_not, there_in, no_fault, there_is}
-use Rattle.wasm_valid.specs.declared.fault.ValidCause.TheVariants.{UnknownType}
+use Rattle.c_unit.proofs.Small.{some_same, there_in, no_fault, there_is}
 use Rattle.c_unit.proofs.AcceptedLimits.{accepted_limits}
-
--- ---- lists in pairs
-
-zip_at : {A B : Type 0} (xs : List A) (ys : List B) (i : ℕ) (a : A) (b : B) → slice_get xs i ≡ Some a → slice_get ys i ≡ Some b
-    → slice_get (zip xs ys) i ≡ Some (a, b)
-zip_at [] ys i a b at at' = absurd (cc)
-zip_at (x ∷ xs) [] i a b at at' = absurd (cc)
-zip_at (x ∷ xs) (y ∷ ys) zero a b at at' = let first : x ≡ a = cc in let second : y ≡ b = cc in ap (λ (q : _). Some (q, y)) first
-    ∙ ap (λ (q : _). Some (a, q)) second
-zip_at (x ∷ xs) (y ∷ ys) (suc i) a b at at' = zip_at xs ys i a b at at'
+use Rattle.wasm_typing.specs.ModuleFaults.{module_faults}
+use Rattle.wasm_typing.specs.declared.fault.ValidCause.TheVariants.{UnknownType}
 
 -- ---- imported functions
 
@@ -85,9 +83,7 @@ count_funcs (x ∷ imports) = by x.kind (count_funcs imports)
         → length (types_of_kind kind ++ flat_map func_of_import imports)
         ≡ length (if is_func_kind kind then x ∷ filter is_func_import imports else filter is_func_import imports)
     by (ImportFunc t) e = ap (λ n. suc n) e
-    by (ImportTable l) e = e
-    by (ImportMemory l) e = e
-    by (ImportGlobal t mutable) e = e
+    by _ e = e
 
 -- ---- the function with an index
 
@@ -105,8 +101,7 @@ pub as_func_is : (o : Option External) (f : FuncAddress) → if_found o as_func 
 as_func_is None f e = absurd (cc)
 as_func_is (Some (IsFunc g)) f e = let same : g ≡ f = cc in ap (λ (x : FuncAddress). Some (IsFunc x)) same
 as_func_is (Some (IsTable owner)) f e = absurd (cc)
-as_func_is (Some (IsMemory owner)) f e = absurd (cc)
-as_func_is (Some (IsGlobal g)) f e = absurd (cc)
+as_func_is (Some _) f e = absurd (cc)
 
 pub func_space_at : (s : LinkedSet) (u : ℕ) (m : NamedModule) (h : IsPlaced s.hosts (instances s) u m) (k : ℕ)
     → func_at s u k ≡ at_index (spaces_at s u m h).funcs k
@@ -131,7 +126,7 @@ func_case s u m is k f at = elim (less_or_not k (imported_funcs m.tree)) [
     of_import : k < imported_funcs m.tree → IsImport s u m k f
     of_import less =
         let i = get_unmapped (λ i. if_found (meaning_of s.hosts (placed s u m is).earlier i) as_func) (func_imports m.tree) k (Some f)
-        (sym (get_front _ _ k (omega (arith, less, count))) ∙ there) in
+        (sym (get_before _ _ k (omega (arith, less, count))) ∙ there) in
         record {
           one = i.0;
           is = i.1;

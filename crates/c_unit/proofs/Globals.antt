@@ -1,5 +1,10 @@
 -- The type of a global by its index is that of what the index stands for.
-use Rattle.c_unit.proofs.Common.{◌≡◌, ℕ, zero, suc, ◌+◌, Bool, true, false, List, [], ◌∷◌, ◌++◌, map, length, if◌then◌else◌, slice_get, Some, filter, Option, option_map, flat_map, sym, refl, ap, ◌∙◌, subst, arith, slice_get_within, get_within, at_index, if_found, ValType, global_of_import, global_type_in, is_global_import, GlobalEntry, Import, ImportKind, ImportFunc, ImportGlobal, ImportMemory, ImportTable, Module, GlobalAddress, IsGlobal, LinkedSet, NamedModule, global_type, instances, module_at, get_behind, get_front, get_mapped, ResolvesAs, IsAcceptedSet}
+use Rattle.c_unit.proofs.Common.{◌≡◌, ℕ, zero, suc, ◌+◌, Bool, true, false, List, [], ◌∷◌, ◌++◌, map, length, if◌then◌else◌, slice_get}
+use Rattle.c_unit.proofs.Common.{Some, filter, Option, option_map, flat_map, sym, refl, ap, ◌∙◌, subst, arith, slice_get_within, get_within}
+use Rattle.c_unit.proofs.Common.{at_index, if_found, ValType, global_of_import, global_type_in, is_global_import, GlobalEntry, Import}
+use Rattle.c_unit.proofs.Common.{ImportKind, ImportFunc, ImportGlobal, ImportMemory, ImportTable, Module, GlobalAddress, IsGlobal}
+use Rattle.c_unit.proofs.Common.{LinkedSet, NamedModule, global_type, instances, module_at, get_behind, get_before, get_mapped, ResolvesAs}
+use Rattle.c_unit.proofs.Common.{IsAcceptedSet}
 use Rattle.c_unit.proofs.Instances.{IsPlaced, spaces_at}
 use Rattle.c_unit.proofs.Usable.{import_resolves}
 use Rattle.c_unit.proofs.Pointers.{GlobalCase, ImportedGlobal, OwnGlobal, global_case}
@@ -30,8 +35,7 @@ imported_global (x ∷ imports) k i at =
     by (ImportGlobal t mutable) e zero at others = let same : x ≡ i = cc in ((t, mutable), ap (λ (y : Import). y.kind) (sym same) ∙ e, refl)
     by (ImportGlobal t mutable) e (suc k) at others = others k at
     by (ImportFunc t) e k at others = others k at
-    by (ImportTable l) e k at others = others k at
-    by (ImportMemory l) e k at others = others k at
+    by _ e k at others = others k at
 
 pub count_globals : (imports : List Import) → length (flat_map global_of_import imports) ≡ length (filter is_global_import imports)
 count_globals [] = refl
@@ -40,10 +44,8 @@ count_globals (x ∷ imports) = by x.kind (count_globals imports)
     by : (kind : ImportKind) → length (flat_map global_of_import imports) ≡ length (filter is_global_import imports)
         → length (globals_of_kind kind ++ flat_map global_of_import imports)
         ≡ length (if is_global_kind kind then x ∷ filter is_global_import imports else filter is_global_import imports)
-    by (ImportFunc t) e = e
-    by (ImportTable l) e = e
-    by (ImportMemory l) e = e
     by (ImportGlobal t mutable) e = ap (λ n. suc n) e
+    by _ e = e
 
 -- the type that both have
 pub record GlobalTyped (s : LinkedSet) (m : NamedModule) (k : ℕ) (g : GlobalAddress) : Type 0 where
@@ -65,7 +67,7 @@ global_typed s accepted v m is h k g at = go (global_case s v m h k g at)
         let global : r.0 ≡ g = cc in
         record {
           ty = f.0;
-          in_module = get_front (flat_map global_of_import m.tree.imports) _ k
+          in_module = get_before (flat_map global_of_import m.tree.imports) _ k
               (slice_get_within (flat_map global_of_import m.tree.imports) k f.0 f.2) ∙ f.2;
           in_set = ap (global_type s) (sym global) ∙ r.2;
         }

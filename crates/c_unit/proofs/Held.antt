@@ -1,6 +1,8 @@
 -- The type of what a variable holds, as the zero of that type. An assignment of a value of this type goes on, and
 -- keeps the types of all variables (C11, 6.5.16.1).
-use Rattle.c_unit.proofs.Common.{◌≡◌, Bool, true, false, [], ◌∷◌, is_some, if◌then◌else◌, Some, None, Option, option_map, bytes_eq, sym, refl, ap, ◌∙◌, same_Some, named, with_named, I32, I64, var_in, CValue, Machine, Number, ObjectAddress, Pointer, Vars, Step, put_in, zero_like, zeroed}
+use Rattle.c_unit.proofs.Common.{◌≡◌, Bool, true, false, [], ◌∷◌, is_some, if◌then◌else◌, Some, None, Option, option_map, bytes_eq, sym}
+use Rattle.c_unit.proofs.Common.{refl, ap, ◌∙◌, same_Some, named, with_named, I32, I64, var_in, CValue, Machine, Number, ObjectAddress}
+use Rattle.c_unit.proofs.Common.{Pointer, Vars, Step, put_in, zero_like, zeroed}
 use Rattle.c_meaning.specs.State.{Name, FuncPointer, of_one_type}
 
 abbrev pub held : Name → Vars → Option CValue
@@ -12,30 +14,16 @@ held_in m a = option_map zero_like (var_in m a)
 pub one_type_of_one_zero : (x v : CValue) → zero_like x ≡ zero_like v → of_one_type x v ≡ true
 one_type_of_one_zero (Number (I32 n)) (Number (I32 m)) e = refl
 one_type_of_one_zero (Number (I64 n)) (Number (I64 m)) e = refl
-one_type_of_one_zero (Number (I32 n)) (Number (I64 m)) e = absurd cc
-one_type_of_one_zero (Number (I64 n)) (Number (I32 m)) e = absurd cc
 one_type_of_one_zero (Pointer to) (Pointer other) e = refl
 one_type_of_one_zero (FuncPointer f) (FuncPointer g) e = refl
-one_type_of_one_zero (Number v) (Pointer to) e = absurd cc
-one_type_of_one_zero (Number v) (FuncPointer f) e = absurd cc
-one_type_of_one_zero (Pointer to) (Number v) e = absurd cc
-one_type_of_one_zero (Pointer to) (FuncPointer f) e = absurd cc
-one_type_of_one_zero (FuncPointer f) (Number v) e = absurd cc
-one_type_of_one_zero (FuncPointer f) (Pointer to) e = absurd cc
+one_type_of_one_zero _ _ e = absurd cc
 
 pub one_zero_of_one_type : (x v : CValue) → of_one_type x v ≡ true → zero_like x ≡ zero_like v
 one_zero_of_one_type (Number (I32 n)) (Number (I32 m)) e = refl
 one_zero_of_one_type (Number (I64 n)) (Number (I64 m)) e = refl
-one_zero_of_one_type (Number (I32 n)) (Number (I64 m)) e = absurd cc
-one_zero_of_one_type (Number (I64 n)) (Number (I32 m)) e = absurd cc
 one_zero_of_one_type (Pointer to) (Pointer other) e = refl
 one_zero_of_one_type (FuncPointer f) (FuncPointer g) e = refl
-one_zero_of_one_type (Number v) (Pointer to) e = absurd cc
-one_zero_of_one_type (Number v) (FuncPointer f) e = absurd cc
-one_zero_of_one_type (Pointer to) (Number v) e = absurd cc
-one_zero_of_one_type (Pointer to) (FuncPointer f) e = absurd cc
-one_zero_of_one_type (FuncPointer f) (Number v) e = absurd cc
-one_zero_of_one_type (FuncPointer f) (Pointer to) e = absurd cc
+one_zero_of_one_type _ _ e = absurd cc
 
 -- a value goes where one of its type is held
 pub put_where_held : (m : Machine) (found : Option CValue) (v : CValue) (does : Step) → option_map zero_like found ≡ Some (zero_like v)

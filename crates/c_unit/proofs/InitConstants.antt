@@ -1,5 +1,9 @@
 -- Initial and offset expressions (WebAssembly Core 1.0, 3.3.7): their values, and those of the expressions of C.
-use Rattle.c_unit.proofs.Common.{◌≡◌, ℕ, ◌+◌, ◌%◌, ◌^◌, ◌<◌, Bool, false, List, ℤ, pos, negsuc, slice_get, Some, None, Option, refl, ap, ◌∙◌, arith, if_found, IsNumber, number_of, type_of, ValType, Value, I32, I64, Code, GlobalGet, I32Const, I64Const, end_code, then_code, Module, Shape, constant, got, got_unknown, neither, shape_of, shape_of_global, LinkedSet, pattern_of, as_offset, constant_of, operate, evaluate, number_in, value_of, constant_expr, place_expr}
+use Rattle.c_unit.proofs.Common.{◌≡◌, ℕ, ◌+◌, ◌%◌, ◌^◌, ◌<◌, Bool, false, List, ℤ, pos, negsuc, slice_get, Some, None, Option, refl, ap}
+use Rattle.c_unit.proofs.Common.{◌∙◌, arith, if_found, IsNumber, number_of, type_of, ValType, Value, I32, I64, Code, GlobalGet, I32Const}
+use Rattle.c_unit.proofs.Common.{I64Const, end_code, then_code, Module, Shape, constant, got, got_unknown, neither, shape_of}
+use Rattle.c_unit.proofs.Common.{shape_of_global, LinkedSet, pattern_of, as_offset, constant_of, operate, evaluate, number_in, value_of}
+use Rattle.c_unit.proofs.Common.{constant_expr, place_expr}
 use Rattle.w2c_base.specs.declared.value.ValType.TheVariants as type
 use Rattle.wasm_meaning.specs.Store as store
 use Rattle.c_tree.specs.declared.tree.COp.TheVariants as op

@@ -1,8 +1,11 @@
 -- The init function ends by a return or by a trap.
-use Rattle.c_unit.proofs.Common.{◌≡◌, Bool, true, false, not, List, [], ◌∷◌, ◌++◌, map, filter, flat_map, refl, numbered, is_func_import, NamedModule, ends_well, bounds_label, init_stmts, limits_label, make_global, make_memory, make_table, start_stmts, takes_from, test_data, test_elements, tests_bounds, tests_limits, trap_if, write_data, write_elements}
+use Rattle.c_unit.proofs.Common.{◌≡◌, Bool, true, false, not, List, [], ◌∷◌, ◌++◌, map, filter, flat_map, refl, numbered, is_func_import}
+use Rattle.c_unit.proofs.Common.{NamedModule, ends_well, bounds_label, init_stmts, limits_label, make_global, make_memory, make_table}
+use Rattle.c_unit.proofs.Common.{start_stmts, takes_from, test_data, test_elements, tests_bounds, tests_limits, trap_if, write_data}
+use Rattle.c_unit.proofs.Common.{write_elements}
 use Rattle.w2c_base.specs.declared.trap.TrapKind.TheVariants as trap
 use Rattle.c_tree.specs.Tree as tree
-use Rattle.c_prelude.specs.Pieces as pieces
+use Rattle.c_tree.specs.Makers as makers
 
 -- some statements that end well
 abbrev Ends : List tree.Stmt → Type 0
@@ -20,7 +23,7 @@ whole [] e = absurd e
 whole (x ∷ stmts) e = e
 
 traps_end : (b c : Bool) → Ends (tree.ReturnNone ∷ [] ++
-    (trap_if b limits_label (pieces.trap trap.ImportLimits) ++ trap_if c bounds_label (pieces.trap trap.SegmentOut)))
+    (trap_if b limits_label (makers.trap trap.ImportLimits) ++ trap_if c bounds_label (makers.trap trap.SegmentOut)))
 traps_end true true = refl
 traps_end true false = refl
 traps_end false true = refl

@@ -1,7 +1,23 @@
 -- The statements of the init function keep the rules in a scope that knows what they name: those that take imports
 -- and make what the module defines.
-use Rattle.c_unit.proofs.Common.{◌≡◌, ℕ, zero, suc, ◌+◌, Bool, true, false, not, ◌||◌, List, [], ◌∷◌, ◌++◌, map, length, is_some, is_none, if◌then◌else◌, IsSome, nat_lt, slice_get, Some, None, codes, filter, Option, zip, filter_map, sym, refl, ap, ◌∙◌, subst, arith, or_left, or_right, AllByRecursion, list_any, range_with_len, all_append, at_index, named, FuncType, ValType, func_space, global_space, imported_global_space, imported_globals, is_func_import, is_global_import, is_memory_import, is_table_import, memory_space, table_space, type_in, Code, GlobalGet, I32Const, I64Const, end_code, then_code, GlobalEntry, Import, ImportKind, ImportFunc, ImportGlobal, ImportMemory, ImportTable, LimitsEntry, Module, shape_of, shape_of_global, is_runtime_name, is_void, labels_of, proper_types, primitives, HasType, Name, Scope, array_of, arrays, functions, is_among, is_object_type, pointed_by, variables, CType, NamedModule, c_type_of, global_name, memory_name, table_name, accessor_type, c_func_type, global_imports, import_symbol, import_type, is_usable, memory_imports, pointer_type, table_imports, get_left, IsArg, IsTyped, Passes, call_passes, call_passes_as, if_passes, n32_typed, n64_typed, name_typed, null_passes, op_typed, set_passes, star_typed, value_arg, wide_typed, Present, no_object, label_name, pointer_name, callee, function_name, global_value, memory_arg, table_arg, byte_name, constant_expr, has_bytes, has_test, init_stmts, limits_label, make_global, make_memory, make_table, max_number, n32, n64, place_expr, set_pointer, size_name, take_stmts, takes_from, test_max, test_min, tests_bounds, tests_limits, data_of}
+use Rattle.c_unit.proofs.Common.{◌≡◌, ℕ, zero, suc, ◌+◌, Bool, true, false, not, ◌||◌, List, [], ◌∷◌, ◌++◌, map, length, is_some, is_none}
+use Rattle.c_unit.proofs.Common.{if◌then◌else◌, IsSome, nat_lt, slice_get, Some, None, codes, filter, Option, zip, filter_map, sym, refl}
+use Rattle.c_unit.proofs.Common.{ap, ◌∙◌, subst, arith, or_left, or_right, AllByRecursion, list_any, range_with_len, all_append, at_index}
+use Rattle.c_unit.proofs.Common.{named, FuncType, ValType, func_space, global_space, imported_global_space, imported_globals}
+use Rattle.c_unit.proofs.Common.{is_func_import, is_global_import, is_memory_import, is_table_import, memory_space, table_space, type_in}
+use Rattle.c_unit.proofs.Common.{Code, GlobalGet, I32Const, I64Const, end_code, then_code, GlobalEntry, Import, ImportKind, ImportFunc}
+use Rattle.c_unit.proofs.Common.{ImportGlobal, ImportMemory, ImportTable, LimitsEntry, Module, shape_of, shape_of_global, is_runtime_name}
+use Rattle.c_unit.proofs.Common.{is_void, labels_of, proper_types, primitives, HasType, Name, Scope, array_of, arrays, functions, is_among}
+use Rattle.c_unit.proofs.Common.{is_object_type, variables, CType, NamedModule, c_type_of, global_name, memory_name, table_name}
+use Rattle.c_unit.proofs.Common.{accessor_type, c_func_type, global_imports, import_symbol, import_type, is_usable, memory_imports}
+use Rattle.c_unit.proofs.Common.{pointer_type, table_imports, get_front, IsArg, IsTyped, Passes, call_passes, call_passes_as, if_passes}
+use Rattle.c_unit.proofs.Common.{n32_typed, n64_typed, name_typed, null_passes, op_typed, set_passes, star_typed, value_arg, wide_typed}
+use Rattle.c_unit.proofs.Common.{Present, no_object, label_name, pointer_name, callee, function_name, global_value, memory_arg, table_arg}
+use Rattle.c_unit.proofs.Common.{byte_name, constant_expr, has_bytes, has_test, init_stmts, limits_label, make_global, make_memory}
+use Rattle.c_unit.proofs.Common.{make_table, max_number, n32, n64, place_expr, set_pointer, size_name, take_stmts, takes_from, test_max}
+use Rattle.c_unit.proofs.Common.{test_min, tests_bounds, tests_limits, data_of, pointer_points}
 use Rattle.w2c_base.specs.declared.value.ValType.TheVariants.{I32, I64}
+use Rattle.w2c_base.proofs.Numbers.{one_moves}
 use Rattle.c_tree.specs.declared.tree.CType.TheVariants as type
 use Rattle.c_tree.specs.declared.tree.COp.TheVariants as op
 use Rattle.c_tree.specs.Tree as tree
@@ -50,13 +66,10 @@ module _ (m : NamedModule) (s : Scope) (k : InitKnows m s) where
       → IsTyped s (global_value t index) (HasType (c_type_of g.0))
   global_value_typed index g e = by (is_some (slice_get (global_imports t) index)) refl
     where
-      pointed : (ty : ValType) → pointed_by (pointer_type ty) ≡ Some (c_type_of ty)
-      pointed I32 = refl
-      pointed I64 = refl
-
       by : (i : Bool) → is_some (slice_get (global_imports t) index) ≡ i
           → IsTyped s (if i then tree.Star (pointer_name (global_name index)) else tree.Name (global_name index)) (HasType (c_type_of g.0))
-      by true i = star_typed s (pointer_name (global_name index)) (pointer_type g.0) (c_type_of g.0) (k.pointed index g e i) (pointed g.0)
+      by true i =
+          star_typed s (pointer_name (global_name index)) (pointer_type g.0) (c_type_of g.0) (k.pointed index g e i) (pointer_points g.0)
       by false i = name_typed s (global_name index) (c_type_of g.0) (k.own_globals index g e i) (no_object g.0)
 
   got_typed : (globals : List (ValType × Bool)) (ty : ValType) (index : ℕ) → ShapeFits ty (shape_of_global (slice_get globals index))
@@ -158,7 +171,7 @@ module _ (m : NamedModule) (s : Scope) (k : InitKnows m s) where
       let found = imported_global t.imports number i at in
       let plain = no_pointer_object found.1 in
       pointer_passes i (global_name number) (pointer_type found.1) there (accessor_is t i found.1 found.0 found.3)
-      (k.pointed number (found.1, found.0) (get_left (imported_global_space t) _ number (found.1, found.0) found.2) (ap is_some at))
+      (k.pointed number (found.1, found.0) (get_front (imported_global_space t) _ number (found.1, found.0) found.2) (ap is_some at))
       plain.0 plain.1
     where
       no_pointer_object : (ty : ValType) → (is_object_type (pointer_type ty) ≡ false) × (is_void (pointer_type ty) ≡ false)
@@ -220,11 +233,8 @@ module _ (m : NamedModule) (s : Scope) (k : InitKnows m s) where
           let zero_on : number + 0 ≡ number = omega arith in (
             global_passes (of_kind i (ImportGlobal ty mutable)) number a
                 (ap (slice_get (global_imports t)) (sym zero_on) ∙ glob 0 (of_kind i (ImportGlobal ty mutable)) refl),
-            rest (suc number) (λ j x e. ap (slice_get (global_imports t)) (on number j) ∙ glob (suc j) x e),
+            rest (suc number) (λ j x e. ap (slice_get (global_imports t)) (one_moves number j) ∙ glob (suc j) x e),
           )
-        where
-          on : (a b : ℕ) → suc a + b ≡ a + suc b
-          on a b = omega arith
 
   -- ---- what the module defines
 
@@ -266,7 +276,7 @@ module _ (m : NamedModule) (s : Scope) (k : InitKnows m s) where
             (ap (λ j. slice_get (global_space t) (imported_globals t + j)) (sym back) ∙ at 0 g refl) (own n))
             (no_object g.ty)
             (value_arg s _ (c_type_of g.ty) (constant_typed (imported_global_space t) g.ty g.code fits.0
-            (λ index x e. get_left (imported_global_space t) _ index x e))),
+            (λ index x e. get_front (imported_global_space t) _ index x e))),
         globals_pass (n + 1) xs fits.1
             (λ j x e. ap (λ i. slice_get (global_space t) (imported_globals t + i)) (on n j) ∙ at (suc j) x e) own,
       )

@@ -1,7 +1,14 @@
 -- Where the labels of an init function lead: those of loops, and of the traps at its end.
-use Rattle.c_unit.proofs.Common.{◌≡◌, ℕ, zero, suc, ◌+◌, ◌^◌, ◌<◌, Bool, true, false, List, [], ◌∷◌, ◌++◌, map, length, if◌then◌else◌, Some, None, codes, Option, zip, flat_map, refl, ap, ◌∙◌, append_assoc, arith, range_with_len, ⊤, numbered, ImportLimits, SegmentOut, is_global_import, Import, ImportKind, ImportFunc, ImportGlobal, ImportMemory, ImportTable, Limits, LimitsEntry, SegmentEntry, Start, Module, Name, NamedModule, bytes_equal, after_label, global_name, memory_name, table_name, import_symbol, is_usable, label_name, pointer_name, callee, bounds_label, call_start, limits_label, loop_label, make_global, make_memory, make_table, set_pointer, start_stmts, take_stmts, takes_from, test_data, test_elements, test_limits, test_max, test_min, tests_bounds, tests_limits, trap_if, write_data, write_element, write_elements}
+use Rattle.c_unit.proofs.Common.{◌≡◌, ℕ, zero, suc, ◌+◌, ◌^◌, ◌<◌, Bool, true, false, List, [], ◌∷◌, ◌++◌, map, length, if◌then◌else◌, Some}
+use Rattle.c_unit.proofs.Common.{None, codes, Option, zip, flat_map, refl, ap, ◌∙◌, append_assoc, arith, range_with_len, ⊤, numbered}
+use Rattle.c_unit.proofs.Common.{ImportLimits, SegmentOut, is_global_import, Import, ImportKind, ImportFunc, ImportGlobal, ImportMemory}
+use Rattle.c_unit.proofs.Common.{ImportTable, Limits, LimitsEntry, SegmentEntry, Start, Module, Name, NamedModule, bytes_equal, after_label}
+use Rattle.c_unit.proofs.Common.{global_name, memory_name, table_name, import_symbol, is_usable, label_name, pointer_name, callee}
+use Rattle.c_unit.proofs.Common.{bounds_label, call_start, limits_label, loop_label, make_global, make_memory, make_table, set_pointer}
+use Rattle.c_unit.proofs.Common.{start_stmts, take_stmts, takes_from, test_data, test_elements, test_limits, test_max, test_min}
+use Rattle.c_unit.proofs.Common.{tests_bounds, tests_limits, trap_if, write_data, write_element, write_elements}
 use Rattle.c_tree.specs.Tree as c
-use Rattle.c_prelude.specs.Pieces as pieces
+use Rattle.c_tree.specs.Makers as makers
 use Rattle.c_unit.proofs.DataWrites.{labels_differ, past_segment}
 use Rattle.c_unit.proofs.MakeTasks.{stmts_making}
 use Rattle.c_unit.proofs.StartTasks.{stmts_writing, stmts_behind}
@@ -121,43 +128,43 @@ to_traps m rest l less few =
 -- ---- the traps
 
 abbrev pub traps : NamedModule → List c.Stmt
-traps m = trap_if (tests_limits m.tree) limits_label (pieces.trap ImportLimits) ++ trap_if (tests_bounds m.tree) bounds_label
-    (pieces.trap SegmentOut)
+traps m = trap_if (tests_limits m.tree) limits_label (makers.trap ImportLimits) ++ trap_if (tests_bounds m.tree) bounds_label
+    (makers.trap SegmentOut)
 
 limits_trap_found : (a b : Bool) → a ≡ true
     → (more : List c.Stmt) × (after_label (label_name limits_label)
-    (trap_if a limits_label (pieces.trap ImportLimits) ++ trap_if b bounds_label (pieces.trap SegmentOut))
-    ≡ Some (pieces.trap ImportLimits ∷ more))
+    (trap_if a limits_label (makers.trap ImportLimits) ++ trap_if b bounds_label (makers.trap SegmentOut))
+    ≡ Some (makers.trap ImportLimits ∷ more))
 limits_trap_found true b e =
-    let rest : List c.Stmt = trap_if b bounds_label (pieces.trap SegmentOut) in (
+    let rest : List c.Stmt = trap_if b bounds_label (makers.trap SegmentOut) in (
       rest,
-      ap (λ t. if t then Some (pieces.trap ImportLimits ∷ rest) else after_label (label_name limits_label) rest)
+      ap (λ t. if t then Some (makers.trap ImportLimits ∷ rest) else after_label (label_name limits_label) rest)
           (bytes_equal (label_name limits_label)),
     )
 limits_trap_found false b e = absurd cc
 
 bounds_alone : (b : Bool) → b ≡ true → (more : List c.Stmt) ×
-    (after_label (label_name bounds_label) (trap_if b bounds_label (pieces.trap SegmentOut)) ≡ Some (pieces.trap SegmentOut ∷ more))
-bounds_alone true e = ([], ap (λ t. if t then Some (pieces.trap SegmentOut ∷ []) else None) (bytes_equal (label_name bounds_label)))
+    (after_label (label_name bounds_label) (trap_if b bounds_label (makers.trap SegmentOut)) ≡ Some (makers.trap SegmentOut ∷ more))
+bounds_alone true e = ([], ap (λ t. if t then Some (makers.trap SegmentOut ∷ []) else None) (bytes_equal (label_name bounds_label)))
 bounds_alone false e = absurd cc
 
 bounds_trap_found : (a b : Bool) → b ≡ true
     → (more : List c.Stmt) × (after_label (label_name bounds_label)
-    (trap_if a limits_label (pieces.trap ImportLimits) ++ trap_if b bounds_label (pieces.trap SegmentOut))
-    ≡ Some (pieces.trap SegmentOut ∷ more))
+    (trap_if a limits_label (makers.trap ImportLimits) ++ trap_if b bounds_label (makers.trap SegmentOut))
+    ≡ Some (makers.trap SegmentOut ∷ more))
 bounds_trap_found false b e = bounds_alone b e
 bounds_trap_found true b e =
     let r = bounds_alone b e in
-    let rest : List c.Stmt = trap_if b bounds_label (pieces.trap SegmentOut) in (
+    let rest : List c.Stmt = trap_if b bounds_label (makers.trap SegmentOut) in (
       r.0,
-      ap (λ t. if t then Some (pieces.trap ImportLimits ∷ rest) else after_label (label_name bounds_label) rest)
+      ap (λ t. if t then Some (makers.trap ImportLimits ∷ rest) else after_label (label_name bounds_label) rest)
           (labels_differ limits_label bounds_label (omega arith) (omega arith) (omega arith)) ∙ r.1,
     )
 
 pub limits_found : (m : NamedModule) → tests_limits m.tree ≡ true
-    → (more : List c.Stmt) × (after_label (label_name limits_label) (traps m) ≡ Some (pieces.trap ImportLimits ∷ more))
+    → (more : List c.Stmt) × (after_label (label_name limits_label) (traps m) ≡ Some (makers.trap ImportLimits ∷ more))
 limits_found m e = limits_trap_found (tests_limits m.tree) (tests_bounds m.tree) e
 
 pub bounds_found : (m : NamedModule) → tests_bounds m.tree ≡ true
-    → (more : List c.Stmt) × (after_label (label_name bounds_label) (traps m) ≡ Some (pieces.trap SegmentOut ∷ more))
+    → (more : List c.Stmt) × (after_label (label_name bounds_label) (traps m) ≡ Some (makers.trap SegmentOut ∷ more))
 bounds_found m e = bounds_trap_found (tests_limits m.tree) (tests_bounds m.tree) e

@@ -1,8 +1,16 @@
 -- The labels of the init function differ: those of its traps, and one for each segment.
-use Rattle.c_unit.proofs.Common.{◌≡◌, ℕ, zero, suc, ◌+◌, ◌<◌, ◌≤◌, Bool, true, false, not, List, [], ◌∷◌, ◌++◌, map, length, if◌then◌else◌, Some, None, codes, filter, Option, zip, flat_map, refl, ap, ◌∙◌, arith, range_with_len, numbered, TrapKind, is_func_import, is_global_import, Import, ImportKind, ImportFunc, ImportGlobal, ImportMemory, ImportTable, Limits, SegmentEntry, Start, are_distinct, labels_of, Name, NamedModule, global_name, memory_name, table_name, import_symbol, is_usable, labels-append, Within, behind_one, downward, labels_differ, none, one, upward, wider, label_name, pointer_name, callee, bounds_label, call_start, init_stmts, limits_label, loop_label, make_global, make_memory, make_table, set_pointer, start_stmts, take_stmts, takes_from, test_data, test_elements, test_limits, test_max, test_min, tests_bounds, tests_limits, trap_if, write_data, write_element, write_elements, IsAccepted}
+use Rattle.c_unit.proofs.Common.{◌≡◌, ℕ, zero, suc, ◌+◌, ◌<◌, ◌≤◌, Bool, true, false, not, List, [], ◌∷◌, ◌++◌, map, length, if◌then◌else◌}
+use Rattle.c_unit.proofs.Common.{Some, None, codes, filter, Option, zip, flat_map, refl, ap, ◌∙◌, arith, range_with_len, numbered, TrapKind}
+use Rattle.c_unit.proofs.Common.{is_func_import, is_global_import, Import, ImportKind, ImportFunc, ImportGlobal, ImportMemory, ImportTable}
+use Rattle.c_unit.proofs.Common.{Limits, SegmentEntry, Start, are_distinct, labels_of, Name, NamedModule, global_name, memory_name}
+use Rattle.c_unit.proofs.Common.{table_name, import_symbol, is_usable, labels-append, Within, behind_one, downward, labels_differ, none}
+use Rattle.c_unit.proofs.Common.{one, upward, wider, label_name, pointer_name, callee, bounds_label, call_start, init_stmts, limits_label}
+use Rattle.c_unit.proofs.Common.{loop_label, make_global, make_memory, make_table, set_pointer, start_stmts, take_stmts, takes_from}
+use Rattle.c_unit.proofs.Common.{test_data, test_elements, test_limits, test_max, test_min, tests_bounds, tests_limits, trap_if, write_data}
+use Rattle.c_unit.proofs.Common.{write_element, write_elements, IsAccepted}
 use Rattle.w2c_base.specs.declared.trap.TrapKind.TheVariants as trap
 use Rattle.c_tree.specs.Tree as tree
-use Rattle.c_prelude.specs.Pieces as pieces
+use Rattle.c_tree.specs.Makers as makers
 use Rattle.c_unit.proofs.AcceptedLimits.{accepted_limits}
 
 skip : (l u : ℕ) (xs ys : List tree.Stmt) → labels_of xs ≡ [] → Within l u ys → Within l u (xs ++ ys)
@@ -95,17 +103,17 @@ segments_within m a (x ∷ xs) =
     (wider (a + 1 + 2) (a + 1 + length xs + 2) (a + 3) (a + suc (length xs) + 2)
     (flat_map (write_data m.tree) (zip (range_with_len (a + 1) (length xs)) xs)) (omega arith) (omega arith) (segments_within m (a + 1) xs))
 
-trap_within : (b : Bool) (l u n : ℕ) (kind : TrapKind) → l ≤ n → n < u → Within l u (trap_if b n (pieces.trap kind))
-trap_within true l u n kind le less = upward l u u (tree.Label (label_name n) ∷ []) (pieces.trap kind ∷ []) (omega (arith, le, less))
-    (omega arith) (one l u n le less) (none u u (pieces.trap kind ∷ []) refl)
+trap_within : (b : Bool) (l u n : ℕ) (kind : TrapKind) → l ≤ n → n < u → Within l u (trap_if b n (makers.trap kind))
+trap_within true l u n kind le less = upward l u u (tree.Label (label_name n) ∷ []) (makers.trap kind ∷ []) (omega (arith, le, less))
+    (omega arith) (one l u n le less) (none u u (makers.trap kind ∷ []) refl)
 trap_within false l u n kind le less = none l u [] refl
 
 pub init_within : (m : NamedModule) → Within 0 (length m.tree.segments + 2) (init_stmts m)
 init_within m =
     let u : ℕ = length m.tree.segments + 2 in
     let «data» : List tree.Stmt = flat_map (write_data m.tree) (numbered m.tree.segments) in
-    let limits : List tree.Stmt = trap_if (tests_limits m.tree) limits_label (pieces.trap trap.ImportLimits) in
-    let bounds : List tree.Stmt = trap_if (tests_bounds m.tree) bounds_label (pieces.trap trap.SegmentOut) in
+    let limits : List tree.Stmt = trap_if (tests_limits m.tree) limits_label (makers.trap trap.ImportLimits) in
+    let bounds : List tree.Stmt = trap_if (tests_bounds m.tree) bounds_label (makers.trap trap.SegmentOut) in
     skip 0 u (tree.Null ∷ []) _ refl
     (skip 0 u (takes_from m 0 (filter (λ i. not (is_func_import i)) m.tree.imports)) _
     (takes_none m 0 (filter (λ i. not (is_func_import i)) m.tree.imports))

@@ -1,6 +1,12 @@
 -- The tables, memories and globals that an init function reaches by their index (WebAssembly Core 1.0, 2.5.1),
 -- and the values of initial and offset expressions (3.3.7).
-use Rattle.c_unit.proofs.Common.{◌≡◌, ℕ, zero, suc, ◌+◌, ◌<◌, ◌≤◌, true, List, [], ◌∷◌, map, length, is_some, if◌then◌else◌, slice_get, Some, None, Option, sym, refl, ap, ◌∙◌, subst, none-some, same_Some, option_or, if_found, named, Trail, IsNumber, type_of, types_of, ValType, Value, imported_globals, GlobalEntry, Import, Module, GlobalAddress, LinkedSet, global_at, memory_at, module_at, table_at, as_object, number_in, first_global, global_name, memory_name, table_name, global_imports, memory_imports, table_imports, is_there, or_last, or_middle, value_of_type, global_object, global_seen, memory_object, table_object, Agrees, AreReady, PointersAreSet, PointsTo, pointer_name, global_value, memory_arg, table_arg}
+use Rattle.c_unit.proofs.Common.{◌≡◌, ℕ, zero, suc, ◌+◌, ◌<◌, ◌≤◌, true, List, [], ◌∷◌, map, length, is_some, if◌then◌else◌, slice_get}
+use Rattle.c_unit.proofs.Common.{Some, None, Option, sym, refl, ap, ◌∙◌, subst, none-some, same_Some, option_or, if_found, named, Trail}
+use Rattle.c_unit.proofs.Common.{IsNumber, type_of, types_of, ValType, Value, imported_globals, GlobalEntry, Import, Module, GlobalAddress}
+use Rattle.c_unit.proofs.Common.{LinkedSet, global_at, memory_at, module_at, table_at, as_object, number_in, first_global, global_name}
+use Rattle.c_unit.proofs.Common.{memory_name, table_name, global_imports, memory_imports, table_imports, is_there, or_last, or_middle}
+use Rattle.c_unit.proofs.Common.{value_of_type, global_object, global_seen, memory_object, table_object, Agrees, AreReady, PointersAreSet}
+use Rattle.c_unit.proofs.Common.{PointsTo, pointer_name, global_value, memory_arg, table_arg}
 use Rattle.wasm_meaning.specs.Store as store
 use Rattle.c_tree.specs.Tree as c
 use Rattle.c_meaning.specs.State as state

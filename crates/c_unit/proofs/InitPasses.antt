@@ -1,29 +1,52 @@
 -- The statements of the init function keep the rules in their unit: what they name is declared before them, or is a
 -- local variable where it is used.
-use Rattle.c_unit.proofs.Common.{◌≡◌, ℕ, zero, suc, ◌+◌, ◌-◌, ◌≤◌, Bool, true, false, not, ◌||◌, List, [], ◌∷◌, ◌++◌, map, length, is_some, is_none, if◌then◌else◌, slice_get, Some, None, codes, filter, Option, flat_map, filter_map, bytes_eq, sym, refl, ap, ◌∙◌, subst, append_assoc, arith, or_left, or_right, filter_map-append, list_any-append, AllByRecursion, list_any, all_append, named, numbered, export_symbol_of-parts, init_symbol_of-parts, func_space, global_space, imported_global_space, imported_globals, is_func_import, is_memory_import, is_table_import, memory_space, table_space, ElementEntry, FuncRef, GlobalEntry, Import, LimitsEntry, SegmentEntry, Module, Expression, constant_expected, duplicate_exports, expressions, fault_if, has_other_type, is_got_unknown, is_no_constant, is_no_first, is_out, min_above_max, shape_of, start_faults, too_many, too_many_pages, type_mismatch, unknown_elements, unknown_export, unknown_global, unknown_segments, unknown_types, is_runtime_name, labels_of, primitives, Name, Scope, array_of, func_type_of, functions, is_among, name_of, variables, CType, NamedModule, bytes_equal, func_name, global_name, memory_name, table_name, helper_of, accessor_type, declared_symbols, firsts, func_imports, global_imports, import_symbol, is_usable, memory_imports, symbol_type, table_imports, funcs_in, past_none, vars_in, class, all_behind, all_front, all_unmapped, all_weaker, get_mapped, named_in, IsArg, Passes, address_arg, function_arg, name_typed, null_passes, return_none_passes, value_arg, Present, first_present, left_present, right_present, global_count, label_name, pointer_name, helpers_of, function_name, pointers_of, export_func, bounds_label, byte_name, has_bytes, has_test, init_func, init_stmts, limits_label, local_if, make_global, make_memory, make_table, size_name, start_stmts, takes_from, test_data, test_elements, tests_bounds, tests_limits, trap_if, write_data, write_elements, bodies, data_of, declaration, objects_of, prototype, IsAccepted}
+use Rattle.c_unit.proofs.Common.{◌≡◌, ℕ, zero, suc, ◌+◌, ◌-◌, ◌≤◌, Bool, true, false, not, ◌||◌, List, [], ◌∷◌, ◌++◌, map, length, is_some}
+use Rattle.c_unit.proofs.Common.{is_none, if◌then◌else◌, slice_get, Some, None, codes, filter, Option, flat_map, filter_map, bytes_eq, sym}
+use Rattle.c_unit.proofs.Common.{refl, ap, ◌∙◌, subst, append_assoc, arith, or_left, or_right, filter_map-append, list_any-append}
+use Rattle.c_unit.proofs.Common.{AllByRecursion, list_any, all_append, named, numbered, export_symbol_of-parts, init_symbol_of-parts}
+use Rattle.c_unit.proofs.Common.{func_space, global_space, imported_global_space, imported_globals, is_func_import, is_memory_import}
+use Rattle.c_unit.proofs.Common.{is_table_import, memory_space, table_space, ElementEntry, FuncRef, GlobalEntry, Import, LimitsEntry}
+use Rattle.c_unit.proofs.Common.{SegmentEntry, Module, Expression, constant_expected, duplicate_exports, expressions, fault_if}
+use Rattle.c_unit.proofs.Common.{has_other_type, is_got_unknown, is_no_constant, is_no_first, is_out, min_above_max, shape_of, start_faults}
+use Rattle.c_unit.proofs.Common.{too_many, too_many_pages, type_mismatch, unknown_elements, unknown_export, unknown_global}
+use Rattle.c_unit.proofs.Common.{unknown_segments, unknown_types, is_runtime_name, labels_of, primitives, Name, Scope, array_of}
+use Rattle.c_unit.proofs.Common.{func_type_of, functions, is_among, name_of, variables, CType, NamedModule, bytes_equal, func_name}
+use Rattle.c_unit.proofs.Common.{global_name, memory_name, table_name, accessor_type, firsts, func_imports, global_imports, import_symbol}
+use Rattle.c_unit.proofs.Common.{is_usable, memory_imports, symbol_type, table_imports, funcs_in, past_none, vars_in, class, all_behind}
+use Rattle.c_unit.proofs.Common.{all_front, all_unmapped, all_weaker, get_mapped, named_in, IsArg, Passes, address_arg, function_arg}
+use Rattle.c_unit.proofs.Common.{name_typed, null_passes, return_none_passes, value_arg, Present, first_present, left_present}
+use Rattle.c_unit.proofs.Common.{right_present, global_count, label_name, pointer_name, function_name, export_func, bounds_label, byte_name}
+use Rattle.c_unit.proofs.Common.{has_bytes, has_test, init_stmts, limits_label, local_if, make_global, make_memory, make_table, size_name}
+use Rattle.c_unit.proofs.Common.{start_stmts, takes_from, test_data, test_elements, tests_bounds, tests_limits, trap_if, write_data}
+use Rattle.c_unit.proofs.Common.{write_elements, data_of, IsAccepted, zero-add}
 use Rattle.w2c_base.specs.declared.value.ValType.TheVariants.{I32}
 use Rattle.w2c_base.specs.declared.trap.TrapKind.TheVariants as trap
-use Rattle.wasm_valid.specs.declared.fault.ValidCause.TheVariants as cause
-use Rattle.wasm_valid.specs.ModuleFaults.{module_faults}
+use Rattle.wasm_typing.specs.declared.fault.ValidCause.TheVariants as cause
+use Rattle.wasm_typing.specs.ModuleFaults.{module_faults}
 use Rattle.c_tree.specs.declared.tree.CType.TheVariants as type
 use Rattle.c_tree.specs.Tree as tree
 use Rattle.c_tree.specs.Scope as scope
-use Rattle.c_prelude.specs.Pieces as pieces
+use Rattle.c_tree.specs.Makers as makers
 use Rattle.c_unit.proofs.KnownNames.{past_vars, in_vars, in_funcs, no_var, get_late}
 use Rattle.c_unit.proofs.KnownFuncs.{symbol_named, firsts_have}
 use Rattle.c_unit.proofs.Knowledge.{own_global, imported_global_is, own_memory_is, own_table_is, imported_memory_is, imported_table_is}
-use Rattle.c_unit.proofs.NeedsDeclared.{NoRuntime, other_classes, not_named, objects_no_runtime, declarations_no_runtime, past_objects, past_data}
-use Rattle.c_unit.proofs.Sections.{of_import, of_export, symbol_class, tabs_class, data_class, prototypes_class, helpers_class, bodies_class, export_name}
+use Rattle.c_unit.proofs.NeedsDeclared.{NoRuntime, other_classes, not_named, past_objects, past_data}
+use Rattle.c_unit.proofs.Sections.{of_import, of_export, symbol_class, tabs_class, helpers_class, bodies_class, export_name}
 use Rattle.c_unit.proofs.ExportFacts.{func_typed}
 use Rattle.c_unit.proofs.ExportTypes.{kept_among}
 use Rattle.c_unit.proofs.ExportSection.{Sees}
 use Rattle.c_unit.proofs.ExportsKeep.{front_sees, sees_more}
 use Rattle.c_unit.proofs.InitSection.{init_scope}
 use Rattle.c_unit.proofs.InitForms.{InitKnows, takes_pass, tables_pass, memories_pass, globals_pass}
-use Rattle.c_unit.proofs.InitSegments.{ElementIs, SegmentIs, element_tests_pass, data_tests_pass, elements_pass, data_pass, start_passes, trap_passes}
+use Rattle.c_unit.proofs.InitSegments.{ElementIs, SegmentIs, element_tests_pass, data_tests_pass, elements_pass, data_pass, start_passes}
+use Rattle.c_unit.proofs.InitSegments.{trap_passes}
 use Rattle.c_unit.proofs.Small.{no_left, no_right, no_fault, all_images}
 use Rattle.c_unit.proofs.InitConstants.{ShapeFits}
 use Rattle.c_unit.proofs.Instantiable.{fits_of, is_there}
+use Rattle.w2c_base.proofs.Conjunctions.{right_fails}
+use Rattle.c_unit.proofs.SectionLists.{before_declarations, before_exports, before_functions, before_helpers, before_prototypes}
+use Rattle.c_unit.proofs.SectionLists.{declarations, exports, functions_of, helpers, init, objects, prototypes}
+use Rattle.c_unit.proofs.BeforeSections.{no_runtime_before_helpers}
 
 -- ---- lists
 
@@ -61,10 +84,6 @@ get_out : {A : Type 0} (xs : List A) (k : ℕ) → length xs ≤ k → is_some (
 get_out [] k le = refl
 get_out (x ∷ xs) zero le = absurd (omega (arith, le))
 get_out (x ∷ xs) (suc k) le = get_out xs k (omega (arith, le))
-
-right_false : (a b : Bool) → a || b ≡ false → b ≡ false
-right_false true b e = absurd cc
-right_false false b e = e
 
 -- names of arrays stand in what follows, too
 pub self_among : (names : List Name) → AllByRecursion (λ n. is_among n names ≡ true) names
@@ -175,7 +194,7 @@ elements_are m [] fits tables funcs tested = tt
 elements_are m (e ∷ xs) fits tables funcs tested = (
   record {
     fits = fits.0;
-    has = is_there (slice_get (table_space m) 0) (right_false _ _
+    has = is_there (slice_get (table_space m) 0) (right_fails _ _
         (no_fault (is_no_first (table_space m) e.table) e.place cause.UnknownTable (no_left _ _ tables)));
     funcs = element_funcs m e.funcs (no_left _ _ funcs);
     tested = tested e xs refl;
@@ -195,7 +214,7 @@ segments_are m [] fits memories listed tested = tt
 segments_are m (d ∷ xs) fits memories listed tested = (
   record {
     fits = fits.0;
-    has = is_there (slice_get (memory_space m) 0) (right_false _ _
+    has = is_there (slice_get (memory_space m) 0) (right_fails _ _
         (no_fault (is_no_first (memory_space m) d.memory) d.place cause.UnknownMemory (no_left _ _ memories)));
     listed = listed.0;
     tested = tested d xs refl;
@@ -219,51 +238,23 @@ module _ (m : NamedModule) (a : IsAccepted m) where
   abbrev s : Scope
   s = init_scope m a
 
-  abbrev objects : List tree.Item
-  objects = objects_of t (pointers_of t)
-
-  abbrev declarations : List tree.Item
-  declarations = map declaration (declared_symbols m)
-
-  abbrev prototypes : List tree.Item
-  prototypes = map prototype (bodies m)
-
-  abbrev helpers : List tree.Item
-  helpers = map (λ which. tree.Function (helper_of which)) (helpers_of t)
-
-  abbrev functions_of : List tree.Item
-  functions_of = map tree.Function (bodies m)
-
-  abbrev exports : List tree.Item
-  exports = map (λ e. tree.Function (export_func m e)) t.exports
-
   abbrev front : List tree.Item
-  front = ((((objects ++ data_of t) ++ declarations) ++ prototypes) ++ helpers) ++ functions_of
-
-  abbrev last : List tree.Item
-  last = tree.Function (init_func m) ∷ []
+  front = before_exports m
 
   abbrev declared : List tree.Item
-  declared = (front ++ exports) ++ last
+  declared = (front ++ exports m) ++ init m
 
   sees : Sees m declared
-  sees = sees_more m a (front ++ exports) last (sees_more m a front exports (front_sees m a))
+  sees = sees_more m a (front ++ exports m) (init m) (sees_more m a front (exports m) (front_sees m a))
 
   no_runtime : NoRuntime declared
   no_runtime =
-      all_append (λ o. is_runtime_name (name_of o) ≡ false) (front ++ exports) last
-      (all_append (λ o. is_runtime_name (name_of o) ≡ false) front exports
-      (all_append (λ o. is_runtime_name (name_of o) ≡ false)
-      ((((objects ++ data_of t) ++ declarations) ++ prototypes) ++ helpers) functions_of
-      (all_append (λ o. is_runtime_name (name_of o) ≡ false) (((objects ++ data_of t) ++ declarations) ++ prototypes) helpers
-      (all_append (λ o. is_runtime_name (name_of o) ≡ false) ((objects ++ data_of t) ++ declarations) prototypes
-      (all_append (λ o. is_runtime_name (name_of o) ≡ false) (objects ++ data_of t) declarations
-      (all_append (λ o. is_runtime_name (name_of o) ≡ false) objects (data_of t) (objects_no_runtime m a functions_of (bodies_class m a))
-      (other_classes 5 (data_of t) (λ e. absurd (grind (arith, e))) (data_class m a)))
-      (declarations_no_runtime m a functions_of (bodies_class m a)))
-      (other_classes 7 prototypes (λ e. absurd (grind (arith, e))) (prototypes_class m a)))
-      (other_classes 8 helpers (λ e. absurd (grind (arith, e))) (helpers_class m a)))
-      (other_classes 7 functions_of (λ e. absurd (grind (arith, e))) (bodies_class m a)))
+      all_append (λ o. is_runtime_name (name_of o) ≡ false) (front ++ exports m) (init m)
+      (all_append (λ o. is_runtime_name (name_of o) ≡ false) front (exports m)
+      (all_append (λ o. is_runtime_name (name_of o) ≡ false) (before_functions m) (functions_of m)
+      (all_append (λ o. is_runtime_name (name_of o) ≡ false) (before_helpers m) (helpers m) (no_runtime_before_helpers m a)
+      (other_classes 8 (helpers m) (λ e. absurd (grind (arith, e))) (helpers_class m a)))
+      (other_classes 7 (functions_of m) (λ e. absurd (grind (arith, e))) (bodies_class m a)))
       (all_images (λ o. is_runtime_name (name_of o) ≡ false) (λ e. tree.Function (export_func m e)) t.exports
       (λ e. ap is_runtime_name (export_name m e) ∙ of_export (λ n. is_runtime_name n ≡ false) m
       (λ k n. ap is_runtime_name (export_symbol_of-parts m.name k n)) e)))
@@ -272,7 +263,7 @@ module _ (m : NamedModule) (a : IsAccepted m) where
   runtime_known : (q : Name) → is_runtime_name q ≡ true → named q (functions s) ≡ named q primitives
   runtime_known q r = past_none q (funcs_in declared) primitives (not_named q declared r no_runtime).0
 
-  in_scope : (q : Name) (ty : CType) → bytes_eq size_name q ≡ false → bytes_eq byte_name q ≡ false → named q (vars_in objects) ≡ Some ty
+  in_scope : (q : Name) (ty : CType) → bytes_eq size_name q ≡ false → bytes_eq byte_name q ≡ false → named q (vars_in (objects m)) ≡ Some ty
       → named q (variables s) ≡ Some ty
   in_scope q ty e f found =
       past_locals (tests_limits t || tests_bounds t) (list_any has_bytes t.segments) q
@@ -280,14 +271,14 @@ module _ (m : NamedModule) (a : IsAccepted m) where
       ∙ named_in q (vars_in declared) ((codes "w2c_depth", type.U32) ∷ []) ty (sees.objects q ty found)
 
   object_arg : (object : Name) (u p : CType) → scope.pointer_to u ≡ Some p → bytes_eq size_name object ≡ false
-      → bytes_eq byte_name object ≡ false → named object (vars_in objects) ≡ Some u
+      → bytes_eq byte_name object ≡ false → named object (vars_in (objects m)) ≡ Some u
       → IsArg s p (tree.Address object)
   object_arg object u p to e f found = address_arg s object u p (ap is_some (in_scope object u e f found)) (sees.objects object u found) to
 
   either_arg : (object : Name) (u p : CType) (imported : Bool) → scope.pointer_to u ≡ Some p → scope.is_object_type p ≡ false
       → bytes_eq size_name object ≡ false → bytes_eq byte_name object ≡ false
-      → (imported ≡ false → named object (vars_in objects) ≡ Some u)
-      → (imported ≡ true → named (pointer_name object) (vars_in objects) ≡ Some p)
+      → (imported ≡ false → named object (vars_in (objects m)) ≡ Some u)
+      → (imported ≡ true → named (pointer_name object) (vars_in (objects m)) ≡ Some p)
       → IsArg s p (if imported then tree.Value (tree.Name (pointer_name object)) else tree.Address object)
   either_arg object u p true to plain e f own imported = value_arg s _ p
       (name_typed s (pointer_name object) p (in_scope (pointer_name object) p refl refl (imported refl)) plain)
@@ -337,24 +328,24 @@ module _ (m : NamedModule) (a : IsAccepted m) where
           let here : is_among q (firsts [] (map import_symbol t.imports)) ≡ true =
           firsts_have q [] (map import_symbol t.imports) (kept_among import_symbol is_func_import t.imports index i e).0 refl in
           let found = symbol_named (λ name. typed_or (symbol_type m name)) q (firsts [] (map import_symbol t.imports)) here in
-          let whole = past_objects m a functions_of (bodies_class m a) q (data_of t ++ declarations) (omega (arith, c))
-          ∙ (past_data m a functions_of (bodies_class m a) q declarations (omega (arith, c)) ∙ found) in
+          let whole = past_objects m a (functions_of m) (bodies_class m a) q (data_of t ++ declarations m) (omega (arith, c))
+          ∙ (past_data m a (functions_of m) (bodies_class m a) q (declarations m) (omega (arith, c)) ∙ found) in
           let first = subst (λ items. named q (funcs_in items) ≡ Some (declared_type q))
-          (sym (append_assoc objects (data_of t) declarations)) whole in
+          (sym (append_assoc (objects m) (data_of t) (declarations m))) whole in
           let ty : tree.FuncType = declared_type q in
-          ap is_some (in_funcs q (front ++ exports) last ty
-          (in_funcs q front exports ty (in_funcs q ((((objects ++ data_of t) ++ declarations) ++ prototypes) ++ helpers) functions_of ty
-          (in_funcs q (((objects ++ data_of t) ++ declarations) ++ prototypes) helpers ty
-          (in_funcs q ((objects ++ data_of t) ++ declarations) prototypes ty first)))))
+          ap is_some (in_funcs q (front ++ exports m) (init m) ty
+          (in_funcs q front (exports m) ty (in_funcs q (before_functions m) (functions_of m) ty
+          (in_funcs q (before_helpers m) (helpers m) ty
+          (in_funcs q (before_prototypes m) (prototypes m) ty first)))))
 
   arrays_known : AllByRecursion (λ n. is_among n (names_in declared) ≡ true) (names_in (data_of t))
   arrays_known =
       let ns : List Name = names_in (data_of t) in
-      more_arrays (front ++ exports) last ns (more_arrays front exports ns
-      (more_arrays ((((objects ++ data_of t) ++ declarations) ++ prototypes) ++ helpers) functions_of ns
-      (more_arrays (((objects ++ data_of t) ++ declarations) ++ prototypes) helpers ns
-      (more_arrays ((objects ++ data_of t) ++ declarations) prototypes ns
-      (more_arrays (objects ++ data_of t) declarations ns (behind_arrays objects (data_of t) ns (self_among ns)))))))
+      more_arrays (front ++ exports m) (init m) ns (more_arrays front (exports m) ns
+      (more_arrays (before_functions m) (functions_of m) ns
+      (more_arrays (before_helpers m) (helpers m) ns
+      (more_arrays (before_prototypes m) (prototypes m) ns
+      (more_arrays (before_declarations m) (declarations m) ns (behind_arrays (objects m) (data_of t) ns (self_among ns)))))))
 
   knows : InitKnows m s
   knows = record {
@@ -442,8 +433,8 @@ module _ (m : NamedModule) (a : IsAccepted m) where
   own_takes = takes_from m 0 (filter (λ i. not (is_func_import i)) t.imports)
 
   abbrev ending : List tree.Stmt
-  ending = trap_if (tests_limits t) limits_label (pieces.trap trap.ImportLimits) ++ trap_if (tests_bounds t) bounds_label
-      (pieces.trap trap.SegmentOut)
+  ending = trap_if (tests_limits t) limits_label (makers.trap trap.ImportLimits) ++ trap_if (tests_bounds t) bounds_label
+      (makers.trap trap.SegmentOut)
 
   abbrev behind_data : List tree.Stmt
   behind_data = start_stmts m t.start ++ (tree.ReturnNone ∷ [] ++ ending)
@@ -494,14 +485,14 @@ module _ (m : NamedModule) (a : IsAccepted m) where
   trap_present false n trap e p = absurd cc
 
   limits_label_there : tests_limits t ≡ true → is_among (label_name limits_label) (labels_of s.body.stmts) ≡ true
-  limits_label_there e = trap_present (tests_limits t) limits_label (pieces.trap trap.ImportLimits) e
-      (left_present s.body.stmts (trap_if (tests_limits t) limits_label (pieces.trap trap.ImportLimits))
-      (trap_if (tests_bounds t) bounds_label (pieces.trap trap.SegmentOut)) end_present)
+  limits_label_there e = trap_present (tests_limits t) limits_label (makers.trap trap.ImportLimits) e
+      (left_present s.body.stmts (trap_if (tests_limits t) limits_label (makers.trap trap.ImportLimits))
+      (trap_if (tests_bounds t) bounds_label (makers.trap trap.SegmentOut)) end_present)
 
   bounds_label_there : tests_bounds t ≡ true → is_among (label_name bounds_label) (labels_of s.body.stmts) ≡ true
-  bounds_label_there e = trap_present (tests_bounds t) bounds_label (pieces.trap trap.SegmentOut) e
-      (right_present s.body.stmts (trap_if (tests_limits t) limits_label (pieces.trap trap.ImportLimits))
-      (trap_if (tests_bounds t) bounds_label (pieces.trap trap.SegmentOut)) end_present)
+  bounds_label_there e = trap_present (tests_bounds t) bounds_label (makers.trap trap.SegmentOut) e
+      (right_present s.body.stmts (trap_if (tests_limits t) limits_label (makers.trap trap.ImportLimits))
+      (trap_if (tests_bounds t) bounds_label (makers.trap trap.SegmentOut)) end_present)
 
   pub init_passes : AllByRecursion (Passes s) (init_stmts m)
   init_passes = (
@@ -509,7 +500,7 @@ module _ (m : NamedModule) (a : IsAccepted m) where
     all_append (Passes s) own_takes from_tables
         (takes_pass m s knows t.imports 0 limits_label_there (each_among import_symbol t.imports) (each_any has_test t.imports)
         (each_first is_memory_import t.imports) (each_first is_table_import t.imports)
-        (λ j i e. ap (slice_get (global_imports t)) (from_zero j) ∙ e))
+        (λ j i e. ap (slice_get (global_imports t)) (zero-add j) ∙ e))
         (all_append (Passes s) (map (λ x. make_table x.limits) t.tables) _ (tables_pass m s knows t.tables knows.made_table)
         (all_append (Passes s) (map (λ x. make_memory x.limits) t.memories) _ (memories_pass m s knows t.memories knows.made_memory)
         (all_append (Passes s) (map (make_global t) (numbered t.globals)) _
@@ -526,11 +517,8 @@ module _ (m : NamedModule) (a : IsAccepted m) where
         (left_present s.body.stmts (flat_map (write_data t) (numbered t.segments)) behind_data data_present))
         (all_append (Passes s) (start_stmts m t.start) _ (start_passes m s knows a.valid.no_faults t.start no_faults.start) (
           return_none_passes s refl,
-          all_append (Passes s) (trap_if (tests_limits t) limits_label (pieces.trap trap.ImportLimits)) _
+          all_append (Passes s) (trap_if (tests_limits t) limits_label (makers.trap trap.ImportLimits)) _
               (trap_passes m s knows (tests_limits t) limits_label trap.ImportLimits)
               (trap_passes m s knows (tests_bounds t) bounds_label trap.SegmentOut),
         ))))))))),
   )
-    where
-      from_zero : (j : ℕ) → 0 + j ≡ j
-      from_zero j = omega arith

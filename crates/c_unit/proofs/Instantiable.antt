@@ -1,12 +1,22 @@
 -- What instantiation rests on, from a module's validity (WebAssembly Core 1.0, 3.4) and its limits.
-use Rattle.c_unit.proofs.Common.{◌≡◌, ℕ, zero, suc, ◌^◌, ◌<◌, ◌≤◌, Bool, true, false, not, ◌&&◌, ◌||◌, List, [], ◌∷◌, ◌++◌, map, length, is_none, IsSome, ◌==◌, slice_get, Some, None, filter, Option, flat_map, sym, refl, ap, ◌∙◌, subst, arith, nat_tests, same_Some, AllByRecursion, equal_type, FuncType, ValType, func_space, func_type_in, global_space, imported_global_space, is_global_import, memory_of_import, memory_space, table_of_import, table_space, ElementEntry, FuncRef, GlobalEntry, Limits, LimitsEntry, SegmentEntry, Start, Module, IsMaximum, Expression, Shape, constant, constant_expected, duplicate_exports, expressions, fault_if, got, got_unknown, has_other_type, is_got_unknown, is_no_constant, is_no_first, is_other_than_start, is_out, min_above_max, neither, shape_of, start_faults, too_many, too_many_pages, type_mismatch, unknown_elements, unknown_export, unknown_global, unknown_segments, unknown_types, all_behind, all_front, all_unmapped, all_weaker, filter_few, max_number}
+use Rattle.c_unit.proofs.Common.{◌≡◌, ℕ, zero, suc, ◌^◌, ◌<◌, ◌≤◌, Bool, true, false, not, ◌&&◌, ◌||◌, List, [], ◌∷◌, ◌++◌, map, length}
+use Rattle.c_unit.proofs.Common.{is_none, IsSome, ◌==◌, slice_get, Some, None, filter, Option, flat_map, sym, refl, ap, ◌∙◌, subst, arith}
+use Rattle.c_unit.proofs.Common.{nat_tests, same_Some, AllByRecursion, equal_type, FuncType, ValType, func_space, func_type_in}
+use Rattle.c_unit.proofs.Common.{global_space, imported_global_space, is_global_import, memory_of_import, memory_space, table_of_import}
+use Rattle.c_unit.proofs.Common.{table_space, ElementEntry, FuncRef, GlobalEntry, Limits, LimitsEntry, SegmentEntry, Start, Module}
+use Rattle.c_unit.proofs.Common.{IsMaximum, Expression, Shape, constant, constant_expected, duplicate_exports, expressions, fault_if, got}
+use Rattle.c_unit.proofs.Common.{got_unknown, has_other_type, is_got_unknown, is_no_constant, is_no_first, is_other_than_start, is_out}
+use Rattle.c_unit.proofs.Common.{min_above_max, neither, shape_of, start_faults, too_many, too_many_pages, type_mismatch, unknown_elements}
+use Rattle.c_unit.proofs.Common.{unknown_export, unknown_global, unknown_segments, unknown_types, all_behind, all_front, all_unmapped}
+use Rattle.c_unit.proofs.Common.{all_weaker, filter_few, max_number}
 use Rattle.w2c_base.specs.declared.value.ValType.TheVariants as type
-use Rattle.wasm_valid.specs.declared.fault.ValidCause.TheVariants as cause
-use Rattle.wasm_valid.specs.ModuleFaults.{module_faults}
+use Rattle.w2c_base.proofs.Conjunctions.{right_fails}
 use Rattle.c_unit.proofs.InitConstants.{ShapeFits}
 use Rattle.c_unit.proofs.Surroundings.{ElementIsValid, DataIsValid, StartIsValid}
 use Rattle.c_unit.proofs.Tasks.{ModulesAreInstantiable}
 use Rattle.c_unit.proofs.Small.{no_left, no_right, no_fault, each_none, few}
+use Rattle.wasm_typing.specs.declared.fault.ValidCause.TheVariants as cause
+use Rattle.wasm_typing.specs.ModuleFaults.{module_faults}
 
 -- ---- no faults
 
@@ -94,10 +104,6 @@ or_first : (a b : Bool) → (a || b) ≡ false → a ≡ false
 or_first false b e = refl
 or_first true b e = e
 
-or_second : (a b : Bool) → (a || b) ≡ false → b ≡ false
-or_second false b e = e
-or_second true b e = absurd cc
-
 pub is_there : {A : Type 0} (o : Option A) → is_none o ≡ false → IsSome o
 is_there None e = absurd cc
 is_there (Some a) e = refl
@@ -155,7 +161,7 @@ modules_are_instantiable m valid w = record {
       (ElementIsValid m) m.elements
       (λ e a b d f. let first = no_fault (is_no_first (table_space m) e.table) e.place cause.UnknownTable a in record {
         table_is = is_zero e.table (or_first (not (e.table == 0)) (is_out (table_space m) 0) first);
-        there = is_there (slice_get (table_space m) 0) (or_second (not (e.table == 0)) (is_out (table_space m) 0) first);
+        there = is_there (slice_get (table_space m) 0) (right_fails (not (e.table == 0)) (is_out (table_space m) 0) first);
         offset = b;
         few = d;
         funcs = all_weaker (λ (f : FuncRef). fault_if (is_out (func_space m) f.index) f.place cause.UnknownFunction ≡ [])
@@ -177,7 +183,7 @@ modules_are_instantiable m valid w = record {
       (DataIsValid m) m.segments
       (λ s a b d f. let first = no_fault (is_no_first (memory_space m) s.memory) s.place cause.UnknownMemory a in record {
         memory_is = is_zero s.memory (or_first (not (s.memory == 0)) (is_out (memory_space m) 0) first);
-        there = is_there (slice_get (memory_space m) 0) (or_second (not (s.memory == 0)) (is_out (memory_space m) 0) first);
+        there = is_there (slice_get (memory_space m) 0) (right_fails (not (s.memory == 0)) (is_out (memory_space m) 0) first);
         offset = b;
         few = d;
         are_bytes = f;

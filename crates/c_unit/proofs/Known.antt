@@ -1,12 +1,20 @@
 -- What the tasks of an instantiation rest on, from what is shown of the units' functions: that the init function
 -- is defined, that functions are reached by their names, and that imports' symbols give pointers.
-use Rattle.c_unit.proofs.Common.{◌≡◌, ℕ, suc, ◌+◌, ◌^◌, ◌<◌, ◌≤◌, Bool, true, false, cond, not, List, [], ◌∷◌, ◌++◌, map, length, if◌then◌else◌, slice_get, Some, filter, flat_map, sym, refl, ap, ◌∙◌, subst, arith, slice_get_within, AllByRecursion, all_at, func_space, is_func_import, is_global_import, is_memory_import, is_table_import, memory_of_import, memory_space, table_of_import, table_space, Import, ImportKind, ImportFunc, ImportGlobal, ImportMemory, ImportTable, LimitsEntry, External, IsGlobal, IsMemory, IsTable, LinkedSet, NamedModule, import_at, global_imports, memory_imports, table_imports, global_object, memory_object, table_object, BodiesFollow, Defines, init_func, UnitsAreInstantiatedAlike, IsAccepted, IsAcceptedSet, UnitsServe, program_of}
+use Rattle.c_unit.proofs.Common.{◌≡◌, ℕ, suc, ◌+◌, ◌^◌, ◌<◌, ◌≤◌, Bool, true, false, cond, not, List, [], ◌∷◌, ◌++◌, map, length}
+use Rattle.c_unit.proofs.Common.{if◌then◌else◌, slice_get, Some, filter, flat_map, sym, refl, ap, ◌∙◌, subst, arith, slice_get_within}
+use Rattle.c_unit.proofs.Common.{AllByRecursion, all_at, func_space, is_func_import, is_global_import, is_memory_import, is_table_import}
+use Rattle.c_unit.proofs.Common.{memory_of_import, memory_space, table_of_import, table_space, Import, ImportKind, ImportFunc, ImportGlobal}
+use Rattle.c_unit.proofs.Common.{ImportMemory, ImportTable, LimitsEntry, External, IsGlobal, IsMemory, IsTable, LinkedSet, NamedModule}
+use Rattle.c_unit.proofs.Common.{import_at, global_imports, memory_imports, table_imports, global_object, memory_object, table_object}
+use Rattle.c_unit.proofs.Common.{BodiesFollow, Defines, init_func, UnitsAreInstantiatedAlike, IsAccepted, IsAcceptedSet, UnitsServe}
+use Rattle.c_unit.proofs.Common.{program_of}
 use Rattle.c_meaning.specs.State as state
 use Rattle.c_unit.proofs.Surroundings.{FuncIsReached, IsInstantiable}
 use Rattle.c_unit.proofs.TakeTasks.{GivesPointer, IsTakenAs, AreTaken}
 use Rattle.c_unit.proofs.AllTaken.{is_taken}
 use Rattle.c_unit.proofs.Declared.{units_declare, arrays_are_found}
-use Rattle.c_unit.proofs.Owners.{imported_table, imported_memory, global_by_import, table_owned, memory_owned, global_owned, early_global_owned, count_tables, count_memories}
+use Rattle.c_unit.proofs.Owners.{imported_table, imported_memory, global_by_import, table_owned, memory_owned, global_owned}
+use Rattle.c_unit.proofs.Owners.{early_global_owned, count_tables, count_memories}
 use Rattle.c_unit.proofs.Tasks.{UnitsAreKnown, instantiated_alike}
 use Rattle.c_unit.proofs.Instantiable.{modules_are_instantiable}
 use Rattle.c_unit.proofs.Small.{is_func, is_table, is_memory, is_global}

@@ -1,6 +1,10 @@
 -- What a unit declares for its bodies: every name that they use is found with its type.
-use Rattle.c_unit.proofs.Common.{◌≡◌, ℕ, zero, suc, ◌+◌, ◌-◌, ◌<◌, ◌≤◌, Bool, true, false, ◌&&◌, ◌≢◌, List, [], ◌∷◌, ◌++◌, map, length, is_some, if◌then◌else◌, ◌==◌, slice_get, Some, None, filter, zip, flat_map, bytes_eq, sym, refl, ap, ◌∙◌, subst, arith, filter_map-append, same_Some, slice_get_within, range_with_len, named, ValType, global_of_import, is_global_import, Import, ImportKind, ImportFunc, ImportGlobal, ImportMemory, ImportTable, same_func_type, same_type, same_types, Name, function_of, variable_of, CType, bytes_equal, funcs_in, past_none, vars_in, class, classes_differ, named_in}
-use Rattle.c_tree.specs.declared.tree.CType.TheVariants as type
+use Rattle.c_unit.proofs.Common.{◌≡◌, ℕ, zero, suc, ◌+◌, ◌-◌, ◌<◌, ◌≤◌, Bool, false, ◌&&◌, ◌≢◌, List, [], ◌∷◌, ◌++◌, map, length, is_some}
+use Rattle.c_unit.proofs.Common.{if◌then◌else◌, ◌==◌, slice_get, Some, None, filter, zip, flat_map, bytes_eq, sym, refl, ap, ◌∙◌, subst}
+use Rattle.c_unit.proofs.Common.{arith, filter_map-append, same_Some, slice_get_within, range_with_len, named, ValType, global_of_import}
+use Rattle.c_unit.proofs.Common.{is_global_import, Import, ImportKind, ImportFunc, ImportGlobal, ImportMemory, ImportTable, Name}
+use Rattle.c_unit.proofs.Common.{function_of, variable_of, CType, bytes_equal, funcs_in, past_none, vars_in, class, classes_differ}
+use Rattle.c_unit.proofs.Common.{named_in, add-zero}
 use Rattle.c_tree.specs.Tree as tree
 use Rattle.c_unit.proofs.Sections.{AllClass}
 use Rattle.c_unit.proofs.Small.{some_same}
@@ -52,10 +56,7 @@ pub numbered_var : {A : Type 0} (ty : A → CType) (name : ℕ → Name) (u k i 
     ≡ Some (ty x)
 numbered_var ty name u k i [] x gives e few = absurd cc
 numbered_var ty name u k zero (y ∷ xs) x gives e few =
-    rw (ap (bytes_eq (name k)) (ap name (none k)) ∙ bytes_equal (name k)) (ap (λ z. Some (ty z)) (same_Some y x e))
-  where
-    none : (k : ℕ) → k + 0 ≡ k
-    none k = omega arith
+    rw (ap (bytes_eq (name k)) (ap name (add-zero k)) ∙ bytes_equal (name k)) (ap (λ z. Some (ty z)) (same_Some y x e))
 numbered_var ty name u k (suc i) (y ∷ xs) x gives e few =
     let low = slice_get_within xs i x e in
     rw (gives k (k + suc i) (omega (arith, few)) (omega (arith, few, low)) (λ f. absurd (omega (arith, f))))
@@ -112,68 +113,3 @@ get_late (x ∷ xs) ys (suc k) le = get_late xs ys k (omega arith) ∙ ap (slice
   where
     down : (k n : ℕ) → k - n ≡ suc k - suc n
     down k n = omega arith
-
--- ---- types that the test finds equal
-
-abbrev number_of : CType → ℕ
-number_of type.Void = 0
-number_of type.U32 = 1
-number_of type.U64 = 2
-number_of type.PtrU32 = 3
-number_of type.PtrU64 = 4
-number_of type.Mem = 5
-number_of type.PtrMem = 6
-number_of type.Tab = 7
-number_of type.PtrTab = 8
-number_of type.FnPtr = 9
-
-abbrev type_at : ℕ → CType
-type_at n =
-    if n == 0 then type.Void
-    else (if n == 1 then type.U32
-    else (if n == 2 then type.U64
-    else (if n == 3 then type.PtrU32
-    else (if n == 4 then type.PtrU64
-    else (if n == 5 then type.Mem
-    else (if n == 6 then type.PtrMem
-    else (if n == 7 then type.Tab
-    else (if n == 8 then type.PtrTab else type.FnPtr))))))))
-
-pub type_same : (t u : CType) → same_type t u ≡ true → t ≡ u
-type_same t u e = sym (back t) ∙ (ap type_at (same (number_of t) (number_of u) (tested t u e)) ∙ back u)
-  where
-    back : (t : CType) → type_at (number_of t) ≡ t
-    back type.Void = refl
-    back type.U32 = refl
-    back type.U64 = refl
-    back type.PtrU32 = refl
-    back type.PtrU64 = refl
-    back type.Mem = refl
-    back type.PtrMem = refl
-    back type.Tab = refl
-    back type.PtrTab = refl
-    back type.FnPtr = refl
-
-    same : (n m : ℕ) → n == m ≡ true → n ≡ m
-    same n m e = grind arith
-
-    tested : (t u : CType) → same_type t u ≡ true → number_of t == number_of u ≡ true
-    tested t u e = e
-
-pub types_same : (ts us : List CType) → same_types ts us ≡ true → ts ≡ us
-types_same [] [] e = refl
-types_same [] (u ∷ us) e = absurd cc
-types_same (t ∷ ts) [] e = absurd cc
-types_same (t ∷ ts) (u ∷ us) e = by (same_type t u) refl e (types_same ts us)
-  where
-    by : (b : Bool) → same_type t u ≡ b → b && same_types ts us ≡ true → (same_types ts us ≡ true → ts ≡ us) → t ∷ ts ≡ u ∷ us
-    by true f g rest = ap (λ w. w ∷ ts) (type_same t u f) ∙ ap (λ w. u ∷ w) (rest g)
-    by false f g rest = absurd cc
-
-pub func_types_same : (f g : tree.FuncType) → same_func_type f g ≡ true → f ≡ g
-func_types_same f g e = by (same_types f.params g.params) refl e
-  where
-    by : (b : Bool) → same_types f.params g.params ≡ b → b && same_type f.result g.result ≡ true → f ≡ g
-    by true h k = ap (λ ps. record { params = ps; result = f.result }) (types_same f.params g.params h)
-        ∙ ap (λ r. record { params = g.params; result = r }) (type_same f.result g.result k)
-    by false h k = absurd cc

@@ -1,6 +1,10 @@
 -- In a linked set names tell modules and hosts apart, and an export that is found is the first of its name
 -- of the one module of that name.
-use Rattle.c_unit.proofs.Common.{◌≡◌, ℕ, zero, suc, ◌+◌, ◌<◌, ◌≢◌, ◌⊎◌, List, [], ◌∷◌, ◌++◌, map, length, take, slice_get, Some, None, Option, find, bytes_eq, sym, refl, ap, ◌∙◌, inl, inr, arith, length-append, slice_get_within, bytes_eq-Decides, all_at, get_within, AreDistinct, if_found, named, Host, External, Instance, IsLinked, LinkedSet, NamedModule, exported, instance_of, instances, instances_behind, get_behind, get_front, get_mapped, IsAccepted, IsAcceptedSet}
+use Rattle.c_unit.proofs.Common.{◌≡◌, ℕ, zero, suc, ◌+◌, ◌<◌, ◌≢◌, ◌⊎◌, List, [], ◌∷◌, ◌++◌, map, length, take, slice_get, Some, None}
+use Rattle.c_unit.proofs.Common.{Option, find, bytes_eq, sym, refl, ap, ◌∙◌, inl, inr, arith, length-append, slice_get_within}
+use Rattle.c_unit.proofs.Common.{bytes_eq-Decides, all_at, get_within, AreDistinct, if_found, named, Host, External, Instance, IsLinked}
+use Rattle.c_unit.proofs.Common.{LinkedSet, NamedModule, exported, instance_of, instances, instances_behind, get_behind, get_before}
+use Rattle.c_unit.proofs.Common.{get_mapped, IsAccepted, IsAcceptedSet}
 use Rattle.c_unit.proofs.Found.{FirstAt, found_first}
 use Rattle.c_unit.proofs.Instances.{IsPlaced, IsExported, placed, instance_at, spaces_at, export_named, earlier_is}
 use Rattle.c_unit.proofs.Small.{some_same}
@@ -38,9 +42,9 @@ modules_differ s linked u v m n is is' differ =
     let names : List (List ℕ) = map module_name s.modules in
     let hosts : List (List ℕ) = map host_name s.hosts in
     distinct_at (names ++ hosts) u v m.name n.name linked.names_differ
-    (get_front names hosts u (slice_get_within names u m.name (get_mapped module_name s.modules u m is))
+    (get_before names hosts u (slice_get_within names u m.name (get_mapped module_name s.modules u m is))
     ∙ get_mapped module_name s.modules u m is)
-    (get_front names hosts v (slice_get_within names v n.name (get_mapped module_name s.modules v n is'))
+    (get_before names hosts v (slice_get_within names v n.name (get_mapped module_name s.modules v n is'))
     ∙ get_mapped module_name s.modules v n is')
     differ
 
@@ -51,7 +55,7 @@ module_is_no_host s linked u h m host is is' =
     let hosts : List (List ℕ) = map host_name s.hosts in
     let within = slice_get_within names u m.name (get_mapped module_name s.modules u m is) in
     distinct_at (names ++ hosts) u (length names + h) m.name host.name linked.names_differ
-    (get_front names hosts u within ∙ get_mapped module_name s.modules u m is)
+    (get_before names hosts u within ∙ get_mapped module_name s.modules u m is)
     (get_behind names hosts h ∙ get_mapped host_name s.hosts h host is')
     (λ e. absurd (omega (arith, within, e)))
 
@@ -130,7 +134,7 @@ exported_before s u m is module_name name o found =
     let at : IsPlaced s.hosts (instances s) u m = placed s u m is in
     let h = exported_among s at.earlier module_name name o
     (λ v i there. ap (λ (all : List Instance). slice_get all v) at.whole
-    ∙ get_front at.earlier _ v (slice_get_within at.earlier v i there) ∙ there)
+    ∙ get_before at.earlier _ v (slice_get_within at.earlier v i there) ∙ there)
     (ap (λ (l : List Instance). exported l module_name name) (sym (earlier_is s u m at)) ∙ found) in
     record {
       owner = h.owner;

@@ -1,5 +1,18 @@
 -- The statements that make a table, a memory and globals against their tasks (WebAssembly Core 1.0, 4.5.4).
-use Rattle.c_unit.proofs.Common.{◌≡◌, ℕ, zero, suc, ◌+◌, ◌*◌, ◌^◌, ◌<◌, ◌≤◌, Bool, true, false, ◌||◌, ◌≢◌, List, [], ◌∷◌, ◌++◌, map, length, replicate, is_some, if◌then◌else◌, IsSome, nat_lt, slice_get, slice_set, Some, None, codes, Option, option_map, zip, sym, refl, ap, ◌∙◌, subst, inl, inr, append_assoc, append-nil, arith, length-replicate, same_Some, slice_get_within, AllByRecursion, range_with_len, all_push, if_found, named, numbered, with_named, Trail, IsNumber, type_of, types_of, value, ValType, Value, I32, I64, imported_global_space, imported_globals, GlobalEntry, Limits, LimitsEntry, Module, shape_of, of_type, LinkedSet, NamedModule, MakeGlobal, MakeMemory, MakeTable, Task, done, wasm_first, with_found, named-with_another, named-with_named, Program, Effect, Gives, IsUndefined, NoEffect, mem_new, tab_new, Reaches, GlobalsAlike, first_global, global_name, memory_name, table_name, sides, get_behind, global_at_another_place, global_is_no_pointer, or_last, or_middle, module_is, machine_is, memory_object, objects_at, pointers_kept, store_is, table_object, with_unit, ElementsAgree, IsCallableIfAny, MemoriesAgree, ObjectsAgree, PointersAreSet, TablesAgree, Together, pointer_name, constant_expr, make_global, make_memory, make_table, max_number, n32, n64, zero_like}
+use Rattle.c_unit.proofs.Common.{◌≡◌, ℕ, zero, suc, ◌+◌, ◌*◌, ◌^◌, ◌<◌, ◌≤◌, Bool, true, false, ◌||◌, ◌≢◌, List, [], ◌∷◌, ◌++◌, map, length}
+use Rattle.c_unit.proofs.Common.{replicate, is_some, if◌then◌else◌, IsSome, nat_lt, slice_get, slice_set, Some, None, codes, Option}
+use Rattle.c_unit.proofs.Common.{option_map, zip, sym, refl, ap, ◌∙◌, subst, inl, inr, append_assoc, append-nil, arith, length-replicate}
+use Rattle.c_unit.proofs.Common.{same_Some, slice_get_within, AllByRecursion, range_with_len, all_push, if_found, named, numbered}
+use Rattle.c_unit.proofs.Common.{with_named, Trail, IsNumber, type_of, types_of, value, ValType, Value, I32, I64, imported_global_space}
+use Rattle.c_unit.proofs.Common.{imported_globals, GlobalEntry, Limits, LimitsEntry, Module, shape_of, of_type, LinkedSet, NamedModule}
+use Rattle.c_unit.proofs.Common.{MakeGlobal, MakeMemory, MakeTable, Task, done, wasm_first, with_found, named-with_another}
+use Rattle.c_unit.proofs.Common.{named-with_named, Program, Effect, Gives, IsUndefined, NoEffect, mem_new, tab_new, Reaches, GlobalsAlike}
+use Rattle.c_unit.proofs.Common.{first_global, global_name, memory_name, table_name, sides, get_behind, global_at_another_place}
+use Rattle.c_unit.proofs.Common.{global_is_no_pointer, or_last, or_middle, module_is, machine_is, memory_object, objects_at, pointers_kept}
+use Rattle.c_unit.proofs.Common.{store_is, table_object, with_unit, ElementsAgree, IsCallableIfAny, MemoriesAgree, ObjectsAgree}
+use Rattle.c_unit.proofs.Common.{PointersAreSet, TablesAgree, Together, pointer_name, constant_expr, make_global, make_memory, make_table}
+use Rattle.c_unit.proofs.Common.{max_number, n32, n64, zero_like, set_there}
+use Rattle.w2c_base.proofs.Types.{types_push}
 use Rattle.wasm_meaning.specs.Store as store
 use Rattle.wasm_meaning.proofs.Typed.{of_its_type}
 use Rattle.c_tree.specs.Tree as c
@@ -13,7 +26,7 @@ use Rattle.c_unit.proofs.InitConstants.{ShapeFits, ConstantFound, constant_found
 use Rattle.c_unit.proofs.InitTests.{HasLocals}
 use Rattle.c_unit.proofs.InitObjects.{address_gets, global_found}
 use Rattle.c_unit.proofs.Surroundings.{Surroundings, IsFilled}
-use Rattle.c_unit.proofs.OwnObjects.{set_gets, own_kept, more_ready}
+use Rattle.c_unit.proofs.OwnObjects.{own_kept, more_ready}
 
 -- pointers are set; the table and the memory are made or not, and so many globals
 pub record IsMaking (s : LinkedSet) (g : Seat) (m : NamedModule) (has_table has_memory : Bool) (front : List GlobalEntry)
@@ -52,7 +65,7 @@ module _ (s : LinkedSet) (g : Seat) (m : NamedModule) (has_table has_memory : Bo
       → PointersAreSet s g.unit m.tree (with_unit mach g.unit other)
   own_pointers other same = pointers_kept s g.unit m.tree mach (with_unit mach g.unit other)
       (λ object. ap (λ (found : Option state.Objects). if_found found (λ o. named (pointer_name object) o.vars))
-      (set_gets mach.units g.unit here.x other here.x_is)
+      (set_there mach.units g.unit here.x other here.x_is)
       ∙ same object
       ∙ sym (ap (λ (found : Option state.Objects). if_found found (λ o. named (pointer_name object) o.vars)) here.x_is))
       here.pointers
@@ -98,9 +111,9 @@ table_follows s g m has_memory front l rest some few mach made trail vars here =
     locals = here.locals;
     pointers = own_pointers s g m false has_memory front mach made trail vars here x' (λ object. refl);
     o = o';
-    o_is = set_gets made g.unit here.o o' here.o_is;
+    o_is = set_there made g.unit here.o o' here.o_is;
     x = x';
-    x_is = set_gets mach.units g.unit here.x x' here.x_is;
+    x_is = set_there mach.units g.unit here.x x' here.x_is;
     table_made = λ is some. refl;
     table_new = λ is some. absurd cc;
     memory_made = here.memory_made;
@@ -200,9 +213,9 @@ memory_follows s g m has_table front l rest some few low mach made trail vars he
     locals = here.locals;
     pointers = own_pointers s g m has_table false front mach made trail vars here x' (λ object. refl);
     o = o';
-    o_is = set_gets made g.unit here.o o' here.o_is;
+    o_is = set_there made g.unit here.o o' here.o_is;
     x = x';
-    x_is = set_gets mach.units g.unit here.x x' here.x_is;
+    x_is = set_there mach.units g.unit here.x x' here.x_is;
     table_made = here.table_made;
     table_new = here.table_new;
     memory_made = λ is some. refl;
@@ -294,10 +307,6 @@ globals_push k j (x ∷ globals) v vars at few there alike =
       globals_push (suc k) j globals v vars (omega (arith, at)) few there alike.1,
     )
 
-types_push : (globals : List Value) (v : Value) → types_of (globals ++ v ∷ []) ≡ types_of globals ++ type_of v ∷ []
-types_push [] v = refl
-types_push (x ∷ globals) v = ap (λ ts. type_of x ∷ ts) (types_push globals v)
-
 map_push : (front : List GlobalEntry) (e : GlobalEntry) → map (λ (e : GlobalEntry). e.ty) (front ++ e ∷ []) ≡ map
     (λ (e : GlobalEntry). e.ty) front ++ e.ty ∷ []
 map_push [] e = refl
@@ -334,9 +343,9 @@ global_follows s g m front k e rest a at is fits mach made trail vars here = inl
         (λ object. named-with_another (pointer_name object) (global_name j) (state.Number found.value) here.x.vars
         (λ e. global_is_no_pointer j object (sym e)));
     o = o';
-    o_is = set_gets made g.unit here.o o' here.o_is;
+    o_is = set_there made g.unit here.o o' here.o_is;
     x = x';
-    x_is = set_gets mach.units g.unit here.x x' here.x_is;
+    x_is = set_there mach.units g.unit here.x x' here.x_is;
     table_made = here.table_made;
     table_new = λ is some. absurd cc;
     memory_made = here.memory_made;

@@ -1,11 +1,24 @@
 -- What a module's bodies need is declared by the unit's first five sections, whatever functions follow.
-use Rattle.c_unit.proofs.Common.{◌≡◌, ℕ, zero, suc, ◌+◌, ◌-◌, ◌<◌, ◌≤◌, Bool, true, false, ◌&&◌, ◌≢◌, List, [], ◌∷◌, ◌++◌, map, length, is_some, if◌then◌else◌, ◌==◌, slice_get, Some, None, filter, Option, flat_map, bytes_eq, sym, refl, ap, ◌∙◌, subst, arith, or_left, or_right, slice_get_within, bytes_eq-Decides, AllByRecursion, list_any, all_append, all_map, at_index, if_found, named, numbered, FuncType, export_symbol_of-parts, export_symbol_of, SymbolKind, func_of_import, func_space, imported_funcs, imported_globals, is_func_import, type_in, BodyEntry, FuncEntry, GlobalEntry, Import, ImportKind, ImportFunc, ImportGlobal, ImportMemory, ImportTable, LimitsEntry, Module, is_runtime_name, same_func_type, Name, func_type_of, is_among, name_of, CType, NamedModule, bytes_equal, c_result_of, c_type_of, func_name, global_name, memory_name, table_name, helper_type, helper_of, Helper, Typed, accessor_type, c_func_type, c_func_type_if, declared_symbols, firsts, func_imports, import_symbol, import_type, is_usable, symbol_type, FileKnows, funcs_in, vars_in, class, class_lettered, get_left, get_unmapped, func_count, body_of, any_in, calls_helper, helpers_of, callee, pointers_of, bodies, data_of, declaration, objects_of, prototype, IsAccepted}
+use Rattle.c_unit.proofs.Common.{◌≡◌, ℕ, zero, suc, ◌+◌, ◌-◌, ◌<◌, ◌≤◌, Bool, true, false, ◌&&◌, ◌≢◌, List, [], ◌∷◌, ◌++◌, map, length}
+use Rattle.c_unit.proofs.Common.{is_some, if◌then◌else◌, ◌==◌, slice_get, Some, None, filter, Option, flat_map, bytes_eq, sym, refl, ap}
+use Rattle.c_unit.proofs.Common.{◌∙◌, subst, arith, or_left, or_right, slice_get_within, bytes_eq-Decides, AllByRecursion, list_any}
+use Rattle.c_unit.proofs.Common.{all_append, all_map, at_index, if_found, named, FuncType, export_symbol_of-parts, export_symbol_of}
+use Rattle.c_unit.proofs.Common.{SymbolKind, func_of_import, func_space, imported_funcs, imported_globals, is_func_import, type_in}
+use Rattle.c_unit.proofs.Common.{BodyEntry, FuncEntry, Import, ImportKind, ImportFunc, ImportGlobal, ImportMemory, ImportTable, Module}
+use Rattle.c_unit.proofs.Common.{is_runtime_name, same_func_type, Name, func_type_of, is_among, name_of, NamedModule, bytes_equal}
+use Rattle.c_unit.proofs.Common.{c_result_of, func_name, helper_type, helper_of, Helper, Typed, accessor_type, c_func_type, c_func_type_if}
+use Rattle.c_unit.proofs.Common.{declared_symbols, firsts, func_imports, import_symbol, import_type, is_usable, symbol_type, FileKnows}
+use Rattle.c_unit.proofs.Common.{funcs_in, vars_in, class, class_lettered, get_front, get_unmapped, func_count, body_of, any_in}
+use Rattle.c_unit.proofs.Common.{calls_helper, callee, bodies, data_of, declaration, IsAccepted}
 use Rattle.c_tree.specs.declared.tree.CType.TheVariants as type
 use Rattle.c_tree.specs.Tree as tree
+use Rattle.c_tree.proofs.SameTypes.{func_types_same}
+use Rattle.c_unit.proofs.SectionLists.{declarations, globals, helpers, mems, objects, pointers, prototypes, tabs}
 use Rattle.c_unit.proofs.Pairs.{firsts_all}
 use Rattle.c_unit.proofs.BodiesAt.{BodyAt, body_at}
-use Rattle.c_unit.proofs.Sections.{AllClass, of_import, symbol_class, tabs_class, mems_class, globals_class, pointers_class, data_class, declared_class, prototypes_class, helper_class, helpers_class, body_name, few_funcs}
-use Rattle.c_unit.proofs.KnownNames.{past_funcs, in_vars, in_funcs, no_func, get_late, get_past, func_types_same}
+use Rattle.c_unit.proofs.Sections.{AllClass, of_import, symbol_class, tabs_class, mems_class, globals_class, pointers_class, data_class}
+use Rattle.c_unit.proofs.Sections.{declared_class, prototypes_class, helper_class, helpers_class, body_name, few_funcs}
+use Rattle.c_unit.proofs.KnownNames.{past_funcs, in_vars, in_funcs, no_func, get_late, get_past}
 use Rattle.c_unit.proofs.KnownFuncs.{prototype_types, proto_named, helper_known, symbol_named, firsts_have, params_back}
 use Rattle.c_unit.proofs.Knowledge.{own_global, imported_global_is, own_memory_is, own_table_is, imported_memory_is, imported_table_is}
 use Rattle.c_unit.proofs.Small.{some_same, all_images}
@@ -133,29 +146,17 @@ module _ (m : NamedModule) (a : IsAccepted m) (rest : List tree.Item) (rest_is :
   abbrev t : Module
   t = m.tree
 
-  abbrev objects : List tree.Item
-  objects = objects_of t (pointers_of t)
-
-  abbrev declarations : List tree.Item
-  declarations = map declaration (declared_symbols m)
-
-  abbrev prototypes : List tree.Item
-  prototypes = map prototype (bodies m)
-
-  abbrev helpers : List tree.Item
-  helpers = map (λ which. tree.Function (helper_of which)) (helpers_of t)
-
   abbrev all : List tree.Item
-  all = objects ++ (data_of t ++ (declarations ++ (prototypes ++ (helpers ++ rest))))
+  all = objects m ++ (data_of t ++ (declarations m ++ (prototypes m ++ (helpers m ++ rest))))
 
-  pub objects_no_runtime : NoRuntime objects
+  pub objects_no_runtime : NoRuntime (objects m)
   objects_no_runtime =
       all_append (λ o. is_runtime_name (name_of o) ≡ false) _ _ (other_classes 1 _ (λ e. absurd (grind (arith, e))) (tabs_class m a))
       (all_append (λ o. is_runtime_name (name_of o) ≡ false) _ _ (other_classes 2 _ (λ e. absurd (grind (arith, e))) (mems_class m a))
       (all_append (λ o. is_runtime_name (name_of o) ≡ false) _ _ (other_classes 3 _ (λ e. absurd (grind (arith, e))) (globals_class m a))
       (other_classes 4 _ (λ e. absurd (grind (arith, e))) (pointers_class m a))))
 
-  pub declarations_no_runtime : NoRuntime declarations
+  pub declarations_no_runtime : NoRuntime (declarations m)
   declarations_no_runtime = all_map (λ o. is_runtime_name (name_of o) ≡ false) declaration (declared_symbols m)
       (all_map (λ (s : Typed). is_runtime_name s.0 ≡ false) _ (firsts [] (map import_symbol t.imports))
       (firsts_all (λ n. is_runtime_name n ≡ false) [] (map import_symbol t.imports)
@@ -163,35 +164,24 @@ module _ (m : NamedModule) (a : IsAccepted m) (rest : List tree.Item) (rest_is :
 
   all_no_runtime : NoRuntime all
   all_no_runtime =
-      all_append (λ o. is_runtime_name (name_of o) ≡ false) objects _ objects_no_runtime
+      all_append (λ o. is_runtime_name (name_of o) ≡ false) (objects m) _ objects_no_runtime
       (all_append (λ o. is_runtime_name (name_of o) ≡ false) (data_of t) _
       (other_classes 5 _ (λ e. absurd (grind (arith, e))) (data_class m a))
-      (all_append (λ o. is_runtime_name (name_of o) ≡ false) declarations _ declarations_no_runtime
-      (all_append (λ o. is_runtime_name (name_of o) ≡ false) prototypes _
+      (all_append (λ o. is_runtime_name (name_of o) ≡ false) (declarations m) _ declarations_no_runtime
+      (all_append (λ o. is_runtime_name (name_of o) ≡ false) (prototypes m) _
       (other_classes 7 _ (λ e. absurd (grind (arith, e))) (prototypes_class m a))
-      (all_append (λ o. is_runtime_name (name_of o) ≡ false) helpers rest
+      (all_append (λ o. is_runtime_name (name_of o) ≡ false) (helpers m) rest
       (other_classes 8 _ (λ e. absurd (grind (arith, e))) (helpers_class m a))
       (other_classes 7 rest (λ e. absurd (grind (arith, e))) rest_is)))))
 
-  abbrev tabs : List tree.Item
-  tabs = map (λ (x : LimitsEntry). tree.Var type.Tab table_name None) t.tables
-
-  abbrev mems : List tree.Item
-  mems = map (λ (x : LimitsEntry). tree.Var type.Mem memory_name None) t.memories
-
-  abbrev globals : List tree.Item
-  globals = map (λ (g : ℕ × GlobalEntry). tree.Var (c_type_of g.1.ty) (global_name (imported_globals t + g.0)) None) (numbered t.globals)
-
-  abbrev pointers : List tree.Item
-  pointers = map (λ (p : CType × Name). tree.Var p.0 p.1 None) (pointers_of t)
-
   -- no function among the objects and the data has a name of a class above 5
-  pub past_objects : (q : Name) (ys : List tree.Item) → 6 ≤ class q → named q (funcs_in (objects ++ ys)) ≡ named q (funcs_in ys)
-  past_objects q ys c = past_funcs q objects ys
-      (past_funcs q tabs (mems ++ (globals ++ pointers)) (no_func q 1 tabs (tabs_class m a) (λ e. absurd (omega (arith, e, c))))
-      ∙ (past_funcs q mems (globals ++ pointers) (no_func q 2 mems (mems_class m a) (λ e. absurd (omega (arith, e, c))))
-      ∙ (past_funcs q globals pointers (no_func q 3 globals (globals_class m a) (λ e. absurd (omega (arith, e, c))))
-      ∙ no_func q 4 pointers (pointers_class m a) (λ e. absurd (omega (arith, e, c))))))
+  pub past_objects : (q : Name) (ys : List tree.Item) → 6 ≤ class q → named q (funcs_in (objects m ++ ys)) ≡ named q (funcs_in ys)
+  past_objects q ys c = past_funcs q (objects m) ys
+      (past_funcs q (tabs m) (mems m ++ (globals m ++ pointers m))
+      (no_func q 1 (tabs m) (tabs_class m a) (λ e. absurd (omega (arith, e, c))))
+      ∙ (past_funcs q (mems m) (globals m ++ pointers m) (no_func q 2 (mems m) (mems_class m a) (λ e. absurd (omega (arith, e, c))))
+      ∙ (past_funcs q (globals m) (pointers m) (no_func q 3 (globals m) (globals_class m a) (λ e. absurd (omega (arith, e, c))))
+      ∙ no_func q 4 (pointers m) (pointers_class m a) (λ e. absurd (omega (arith, e, c))))))
 
   pub past_data : (q : Name) (ys : List tree.Item) → 6 ≤ class q → named q (funcs_in (data_of t ++ ys)) ≡ named q (funcs_in ys)
   past_data q ys c = past_funcs q (data_of t) ys (no_func q 5 _ (data_class m a) (λ e. absurd (omega (arith, e, c))))
@@ -202,9 +192,9 @@ module _ (m : NamedModule) (a : IsAccepted m) (rest : List tree.Item) (rest_is :
       let q : Name = (helper_of which).name in
       let c : class q ≡ 8 = helper_class which in
       past_objects q _ (omega (arith, c)) ∙ (past_data q _ (omega (arith, c))
-      ∙ (past_funcs q declarations _ (no_func q 6 _ (declared_class m a) (λ f. absurd (omega (arith, f, c))))
-      ∙ (past_funcs q prototypes _ (no_func q 7 _ (prototypes_class m a) (λ f. absurd (omega (arith, f, c))))
-      ∙ in_funcs q helpers rest (helper_type which) (helper_known t which e))))
+      ∙ (past_funcs q (declarations m) _ (no_func q 6 _ (declared_class m a) (λ f. absurd (omega (arith, f, c))))
+      ∙ (past_funcs q (prototypes m) _ (no_func q 7 _ (prototypes_class m a) (λ f. absurd (omega (arith, f, c))))
+      ∙ in_funcs q (helpers m) rest (helper_type which) (helper_known t which e))))
 
   own_callee : (k : ℕ) (ty : FuncType) → at_index (map (type_in t) (func_space t)) k ≡ Some ty
       → is_some (slice_get (func_imports t) k) ≡ false
@@ -225,8 +215,8 @@ module _ (m : NamedModule) (a : IsAccepted m) (rest : List tree.Item) (rest_is :
       (ap (λ (g : FuncEntry). type_in t g.type_index) same_func ∙ (ap (type_in t) f.2 ∙ x.2))) in
       let c : class (func_name k) ≡ 7 = class_lettered 102 k (omega (arith, few_funcs m a, low, late)) refl in
       past_objects (func_name k) _ (omega (arith, c)) ∙ (past_data (func_name k) _ (omega (arith, c))
-      ∙ (past_funcs (func_name k) declarations _ (no_func (func_name k) 6 _ (declared_class m a) (λ f. absurd (omega (arith, f, c))))
-      ∙ in_funcs (func_name k) prototypes _ (c_func_type ty)
+      ∙ (past_funcs (func_name k) (declarations m) _ (no_func (func_name k) 6 _ (declared_class m a) (λ f. absurd (omega (arith, f, c))))
+      ∙ in_funcs (func_name k) (prototypes m) _ (c_func_type ty)
       (proto_named (λ (x : tree.Func). record {
         is_static = x.is_static;
         result = x.result;
@@ -256,14 +246,14 @@ module _ (m : NamedModule) (a : IsAccepted m) (rest : List tree.Item) (rest_is :
   imported_callee k ty i e at usable =
       let found = imported_func t.imports k i at in
       let x = get_unmapped (type_in t) (func_space t) k (Some ty) (at_is (map (type_in t) (func_space t)) k ty e) in
-      let same_index : x.0 ≡ found.0 = some_same (sym x.1 ∙ get_left (flat_map func_of_import t.imports) _ k found.0 found.1) in
+      let same_index : x.0 ≡ found.0 = some_same (sym x.1 ∙ get_front (flat_map func_of_import t.imports) _ k found.0 found.1) in
       let type_is : import_type t i ≡ c_func_type ty = import_is i found.0 found.2 (ap (type_in t) (sym same_index) ∙ x.2) in
       let q : Name = import_symbol i in
       let c : class q ≡ 6 = of_import (λ n. class n ≡ 6) symbol_class i in
       let here : is_among q (firsts [] (map import_symbol t.imports)) ≡ true =
       firsts_have q [] (map import_symbol t.imports) found.3 refl in
       past_objects q _ (omega (arith, c)) ∙ (past_data q _ (omega (arith, c))
-      ∙ in_funcs q declarations _ (c_func_type ty)
+      ∙ in_funcs q (declarations m) _ (c_func_type ty)
       (symbol_named (λ name. typed_or (symbol_type m name)) q (firsts [] (map import_symbol t.imports)) here
       ∙ ap Some (ap (λ ps. record { params = ps; result = (typed_or (symbol_type m q)).result })
       (params_back (typed_or (symbol_type m q)).params) ∙ (usable_type (symbol_type m q) usable ∙ type_is))))
@@ -293,12 +283,12 @@ module _ (m : NamedModule) (a : IsAccepted m) (rest : List tree.Item) (rest_is :
 
   pub all_known : FileKnows m all
   all_known = record {
-    own_globals = λ k g e i. in_vars _ objects _ _ (own_global m a k g e i);
-    imported_globals = λ k g e i. in_vars _ objects _ _ (imported_global_is m a k g e i);
-    own_memory = λ ty body has i. in_vars _ objects _ _ (own_memory_is m a has i);
-    imported_memory = λ i. in_vars _ objects _ _ (imported_memory_is m a i);
-    own_table = λ ty body has i. in_vars _ objects _ _ (own_table_is m a has i);
-    imported_table = λ i. in_vars _ objects _ _ (imported_table_is m a i);
+    own_globals = λ k g e i. in_vars _ (objects m) _ _ (own_global m a k g e i);
+    imported_globals = λ k g e i. in_vars _ (objects m) _ _ (imported_global_is m a k g e i);
+    own_memory = λ ty body has i. in_vars _ (objects m) _ _ (own_memory_is m a has i);
+    imported_memory = λ i. in_vars _ (objects m) _ _ (imported_memory_is m a i);
+    own_table = λ ty body has i. in_vars _ (objects m) _ _ (own_table_is m a has i);
+    imported_table = λ i. in_vars _ (objects m) _ _ (imported_table_is m a i);
     callees = callee_known;
     helpers = helpers_known;
     no_runtime = λ name r. not_named name all r all_no_runtime;

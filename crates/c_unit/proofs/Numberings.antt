@@ -1,5 +1,7 @@
 -- Passes over items with their numbers.
-use Rattle.c_unit.proofs.Common.{◌≡◌, ℕ, zero, suc, ◌+◌, ◌<◌, ◌≤◌, List, [], ◌∷◌, ◌++◌, map, length, get_or, drop, zip, flat_map, sym, ap, ◌∙◌, append_assoc, append-nil, arith, map_push, range_with_len, numbered_past, numbered, at_front, read_again}
+use Rattle.c_unit.proofs.Common.{◌≡◌, ℕ, zero, suc, ◌+◌, ◌<◌, ◌≤◌, List, [], ◌∷◌, ◌++◌, map, length, get_or, drop, zip, flat_map, sym, ap}
+use Rattle.c_unit.proofs.Common.{◌∙◌, append_assoc, append-nil, arith, map_push, range_with_len, numbered_past, numbered, at_front}
+use Rattle.c_unit.proofs.Common.{read_again}
 
 -- numbered items from one on
 numbered_from : {A : Type 0} (k : ℕ) (xs : List A) (i : ℕ) (x : A) → i < length xs → x ≡ get_or xs i x

@@ -1,5 +1,10 @@
 -- What gives a pointer to an exported table, memory or global: its body returns the object's address, or what the import's symbol gives.
-use Rattle.c_unit.proofs.Common.{◌≡◌, Bool, true, false, [], ◌∷◌, if◌then◌else◌, slice_get, Some, None, Option, sym, refl, ap, ◌∙◌, subst, ValType, global_type_in, Export, ExportKind, ExportFunc, ExportGlobal, ExportMemory, ExportTable, Import, same_func_type, Name, CType, Plain, NamedModule, global_name, memory_name, table_name, accessor_type, global_accessor_type, global_imports, import_symbol, import_type, is_usable, memory_imports, symbol_type, table_imports, same_c_func_type, accessor, export_func, passes_on, result_name, usable_symbol, GivesExport, GivesObject}
+use Rattle.c_unit.proofs.Common.{◌≡◌, Bool, true, false, [], ◌∷◌, if◌then◌else◌, slice_get, Some, None, Option, sym, refl, ap, ◌∙◌, subst}
+use Rattle.c_unit.proofs.Common.{ValType, global_type_in, Export, ExportKind, ExportFunc, ExportGlobal, ExportMemory, ExportTable, Import}
+use Rattle.c_unit.proofs.Common.{same_func_type, Name, CType, Plain, NamedModule, global_name, memory_name, table_name, accessor_type}
+use Rattle.c_unit.proofs.Common.{global_accessor_type, global_imports, import_symbol, import_type, is_usable, memory_imports, symbol_type}
+use Rattle.c_unit.proofs.Common.{table_imports, same_c_func_type, accessor, export_func, passes_on, result_name, usable_symbol, GivesExport}
+use Rattle.c_unit.proofs.Common.{GivesObject}
 use Rattle.w2c_base.specs.declared.value.ValType.TheVariants as val
 use Rattle.c_tree.specs.declared.tree.CType.TheVariants as type
 use Rattle.c_tree.specs.Tree as tree

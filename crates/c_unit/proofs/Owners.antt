@@ -1,6 +1,14 @@
 -- Whose the tables, memories and globals of a module are (WebAssembly Core 1.0, 2.5.1 and 4.5.4): its own, or
 -- those of earlier modules.
-use Rattle.c_unit.proofs.Common.{◌≡◌, ℕ, zero, suc, ◌+◌, ◌<◌, Bool, true, false, cond, ◌⊎◌, List, [], ◌∷◌, ◌++◌, map, length, replicate, IsSome, slice_get, Some, None, filter, Option, option_map, flat_map, sym, refl, ap, ◌∙◌, subst, inl, inr, arith, none-some, same_Some, slice_get_within, AllByRecursion, range_with_len, all_at, if_found, ValType, global_of_import, global_space, imported_global_space, is_global_import, is_memory_import, is_table_import, memory_of_import, memory_space, table_of_import, table_space, GlobalEntry, Import, ImportKind, ImportFunc, ImportGlobal, ImportMemory, ImportTable, Limits, LimitsEntry, Module, External, GlobalAddress, IsGlobal, IsLinked, IsMemory, IsTable, LinkedSet, NamedModule, Resolves, as_global, as_memory, as_table, global_type, import_at, module_at, global_imports, memory_imports, table_imports, get_joined, get_mapped, get_numbered, get_unmapped, ResolvesAs}
+use Rattle.c_unit.proofs.Common.{◌≡◌, ℕ, zero, suc, ◌+◌, ◌<◌, Bool, true, false, cond, ◌⊎◌, List, [], ◌∷◌, ◌++◌, map, length, replicate}
+use Rattle.c_unit.proofs.Common.{IsSome, slice_get, Some, None, filter, Option, option_map, flat_map, sym, refl, ap, ◌∙◌, subst, inl, inr}
+use Rattle.c_unit.proofs.Common.{arith, none-some, same_Some, slice_get_within, AllByRecursion, range_with_len, all_at, if_found, ValType}
+use Rattle.c_unit.proofs.Common.{global_of_import, global_space, imported_global_space, is_global_import, is_memory_import, is_table_import}
+use Rattle.c_unit.proofs.Common.{memory_of_import, memory_space, table_of_import, table_space, GlobalEntry, Import, ImportKind, ImportFunc}
+use Rattle.c_unit.proofs.Common.{ImportGlobal, ImportMemory, ImportTable, Limits, LimitsEntry, Module, External, GlobalAddress, IsGlobal}
+use Rattle.c_unit.proofs.Common.{IsLinked, IsMemory, IsTable, LinkedSet, NamedModule, Resolves, as_global, as_memory, as_table, global_type}
+use Rattle.c_unit.proofs.Common.{import_at, module_at, global_imports, memory_imports, table_imports, get_joined, get_mapped, get_numbered}
+use Rattle.c_unit.proofs.Common.{get_unmapped, ResolvesAs, get_replicated, length-append, length-map}
 use Rattle.c_body.proofs.Spaces.{IfAny, IsEarlier, HasObject, looked_up, import_fits, first_fit, module_is as tree_at}
 use Rattle.c_unit.proofs.InitObjects.{TableOwner, MemoryOwner, GlobalOwner}
 use Rattle.c_unit.proofs.Small.{is_table, is_memory, is_global}
@@ -45,20 +53,16 @@ resolved_table : (s : LinkedSet) (p : ℕ) (i : Import) → Resolves s p i → i
 resolved_table s p i h is = go i.kind h is
   where
     go : (kind : ImportKind) → ResolvesAs s p i kind → is_table kind ≡ true → (owner : ℕ) × (import_at s p i ≡ Some (IsTable owner))
-    go (ImportFunc t) h e = absurd cc
     go (ImportTable l) h e = h
-    go (ImportMemory l) h e = absurd cc
-    go (ImportGlobal t mutable) h e = absurd cc
+    go _ h e = absurd cc
 
 resolved_memory : (s : LinkedSet) (p : ℕ) (i : Import) → Resolves s p i → is_memory_import i ≡ true
     → (owner : ℕ) × (import_at s p i ≡ Some (IsMemory owner))
 resolved_memory s p i h is = go i.kind h is
   where
     go : (kind : ImportKind) → ResolvesAs s p i kind → is_memory kind ≡ true → (owner : ℕ) × (import_at s p i ≡ Some (IsMemory owner))
-    go (ImportFunc t) h e = absurd cc
-    go (ImportTable l) h e = absurd cc
     go (ImportMemory l) h e = h
-    go (ImportGlobal t mutable) h e = absurd cc
+    go _ h e = absurd cc
 
 pub resolved_global : (s : LinkedSet) (p : ℕ) (i : Import) (t : ValType) (mutable : Bool) → Resolves s p i → i.kind ≡ ImportGlobal t mutable
     → (g : GlobalAddress) × (import_at s p i ≡ Some (IsGlobal g)) × (global_type s g ≡ Some (t, mutable))
@@ -80,10 +84,8 @@ count_tables (i ∷ imports) = go i.kind (count_tables imports)
     go : (kind : ImportKind) → length (flat_map table_of_import imports) ≡ length (filter is_table_import imports)
         → length (tables_of kind ++ flat_map table_of_import imports)
         ≡ length (cond (is_table kind) (i ∷ filter is_table_import imports) (filter is_table_import imports))
-    go (ImportFunc t) e = e
     go (ImportTable l) e = ap suc e
-    go (ImportMemory l) e = e
-    go (ImportGlobal t mutable) e = e
+    go _ e = e
 
 pub count_memories : (imports : List Import) → length (flat_map memory_of_import imports) ≡ length (filter is_memory_import imports)
 count_memories [] = refl
@@ -92,10 +94,8 @@ count_memories (i ∷ imports) = go i.kind (count_memories imports)
     go : (kind : ImportKind) → length (flat_map memory_of_import imports) ≡ length (filter is_memory_import imports)
         → length (memories_of kind ++ flat_map memory_of_import imports)
         ≡ length (cond (is_memory kind) (i ∷ filter is_memory_import imports) (filter is_memory_import imports))
-    go (ImportFunc t) e = e
-    go (ImportTable l) e = e
     go (ImportMemory l) e = ap suc e
-    go (ImportGlobal t mutable) e = e
+    go _ e = e
 
 -- the import of an imported global
 global_import_at : (imports : List Import) (k : ℕ) (g : ValType × Bool) → slice_get (flat_map global_of_import imports) k ≡ Some g
@@ -178,17 +178,9 @@ module _ (s : LinkedSet) (u : ℕ) (m : NamedModule) (module_is : slice_get s.mo
         r.1,
       )
 
-  replicate_gets : (n k : ℕ) (x : Option ℕ) → k < n → slice_get (replicate n x) k ≡ Some x
-  replicate_gets zero k x less = absurd (omega (arith, less))
-  replicate_gets (suc n) zero x less = refl
-  replicate_gets (suc n) (suc k) x less = replicate_gets n k x (omega (arith, less))
-
   length_joined : (xs : List Limits) (ts : List LimitsEntry) → length (xs ++ map (λ (t : LimitsEntry). t.limits) ts) ≡ length xs + length ts
-  length_joined [] [] = omega arith
-  length_joined [] (t ∷ ts) = let e : length (map (λ (t : LimitsEntry). t.limits) ts) ≡ 0 + length ts = length_joined [] ts in
-      omega (arith, e)
-  length_joined (x ∷ xs) ts = let e : length (xs ++ map (λ (t : LimitsEntry). t.limits) ts) ≡ length xs + length ts = length_joined xs ts in
-      omega (arith, e)
+  length_joined xs ts = length-append xs (map (λ (t : LimitsEntry). t.limits) ts)
+      ∙ ap (λ n. length xs + n) (length-map ts (λ (t : LimitsEntry). t.limits))
 
   pub table_owned : IsSome (slice_get (table_space m.tree) 0) → TableOwner s u m.tree
   table_owned some = go (slice_get (table_imports m.tree) 0) refl
@@ -207,7 +199,7 @@ module _ (s : LinkedSet) (u : ℕ) (m : NamedModule) (module_is : slice_get s.mo
                 ∙ ap (λ found. if_found found (λ entry. entry))
                 (behind_gets (λ i. if_found (import_at s u i) as_table) (table_imports m.tree)
                 (replicate (length m.tree.tables) (Some u)) 0 0 (omega (arith, empty))
-                ∙ replicate_gets (length m.tree.tables) 0 (Some u) has);
+                ∙ get_replicated (length m.tree.tables) 0 (Some u) has);
             early = omega arith;
             owner_tree = m.tree;
             owner_tree_is = tree_at s u m module_is;
@@ -236,7 +228,7 @@ module _ (s : LinkedSet) (u : ℕ) (m : NamedModule) (module_is : slice_get s.mo
                 ∙ ap (λ found. if_found found (λ entry. entry))
                 (behind_gets (λ i. if_found (import_at s u i) as_memory) (memory_imports m.tree)
                 (replicate (length m.tree.memories) (Some u)) 0 0 (omega (arith, empty))
-                ∙ replicate_gets (length m.tree.memories) 0 (Some u) has);
+                ∙ get_replicated (length m.tree.memories) 0 (Some u) has);
             early = omega arith;
             owner_tree = m.tree;
             owner_tree_is = tree_at s u m module_is;

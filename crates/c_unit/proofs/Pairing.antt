@@ -1,5 +1,14 @@
 -- The pairing of a set's run with its units' run, from how instantiation and calls are followed.
-use Rattle.c_unit.proofs.Common.{◌≡◌, ℕ, zero, suc, ◌+◌, ◌*◌, ◌≤◌, true, ◌≢◌, ◌⊎◌, List, [], ◌∷◌, ◌++◌, map, length, drop, replicate, slice_get, Some, None, Option, sym, refl, ap, ◌∙◌, subst, inl, inr, arith, AllByRecursion, Call, Init, Phase, Reply, Trail, asks_in, call_ended, values_in, IsNumber, is_result, FuncType, Value, init_symbol_of, enough, join, stays, Definition, Program, definition_at, fresh, Reaches, CRun, Entry, IsGoing, Over, Pending, Progress, after, begin_entry, begun, c_run, c_start, go_on, over, told_end, Stops, begin, first_vars, next, Alike, AllElementsAlike, MemoriesAlike, OutcomesAlike, StoresAlike, TablesAlike, callable_later, ElementsAgree, MemoriesAgree, StoresAgree, TablesAgree, BodiesFollow, CallFollows, CallsFollow, EndsAlike, GoesOn, SameStop, StopsAlike, Together, call_spare, called, given, InitFollows, IsUntouched, UnitsAreInstantiatedAlike, do_tasks, object_types, Forward, IsAcceptedSet, IsListing, NeverStops, Paired, Pairing, UnitsArePaired, UnitsDoTheSame, UnitsServe, c_run_of, program_of, symbol_call}
+use Rattle.c_unit.proofs.Common.{◌≡◌, ℕ, zero, suc, ◌+◌, ◌*◌, ◌≤◌, true, ◌≢◌, ◌⊎◌, List, [], ◌∷◌, ◌++◌, map, length, drop, replicate}
+use Rattle.c_unit.proofs.Common.{slice_get, Some, None, Option, sym, refl, ap, ◌∙◌, subst, inl, inr, arith, AllByRecursion, Call, Init}
+use Rattle.c_unit.proofs.Common.{Phase, Reply, Trail, asks_in, call_ended, values_in, IsNumber, is_result, FuncType, Value, init_symbol_of}
+use Rattle.c_unit.proofs.Common.{enough, join, stays, Definition, Program, definition_at, fresh, Reaches, CRun, Entry, IsGoing, Over}
+use Rattle.c_unit.proofs.Common.{Pending, Progress, after, begin_entry, begun, c_run, c_start, go_on, over, told_end, Stops, begin}
+use Rattle.c_unit.proofs.Common.{first_vars, next, Alike, AllElementsAlike, MemoriesAlike, OutcomesAlike, StoresAlike, TablesAlike}
+use Rattle.c_unit.proofs.Common.{callable_later, ElementsAgree, MemoriesAgree, StoresAgree, TablesAgree, BodiesFollow, CallFollows}
+use Rattle.c_unit.proofs.Common.{CallsFollow, EndsAlike, GoesOn, SameStop, StopsAlike, Together, call_spare, called, given, InitFollows}
+use Rattle.c_unit.proofs.Common.{IsUntouched, UnitsAreInstantiatedAlike, do_tasks, object_types, Forward, IsAcceptedSet, IsListing}
+use Rattle.c_unit.proofs.Common.{NeverStops, Paired, Pairing, UnitsArePaired, UnitsDoTheSame, UnitsServe, c_run_of, program_of, symbol_call}
 use Rattle.wasm_meaning.specs.LinkedSet as link
 use Rattle.wasm_meaning.specs.Store as store
 use Rattle.wasm_meaning.specs.Execution as exec
@@ -30,11 +39,7 @@ elements_alike : (p : Program) (s : link.LinkedSet) (fs : List (Option link.Func
 elements_alike p s [] [] h = tt
 elements_alike p s (None ∷ fs) (None ∷ es) h = (tt, elements_alike p s fs es h)
 elements_alike p s (Some f ∷ fs) (Some e ∷ es) h = (h.0.same, elements_alike p s fs es h.1)
-elements_alike p s [] (e ∷ es) h = absurd h
-elements_alike p s (None ∷ fs) [] h = absurd h
-elements_alike p s (Some f ∷ fs) [] h = absurd h
-elements_alike p s (None ∷ fs) (Some e ∷ es) h = absurd h
-elements_alike p s (Some f ∷ fs) (None ∷ es) h = absurd h
+elements_alike p s _ _ h = absurd h
 
 tables_alike : (p : Program) (s : link.LinkedSet) (table : Option store.Table) (other : Option state.Table) → TablesAgree p s table other
     → TablesAlike s table other
@@ -451,21 +456,16 @@ units_are_paired instantiated bodies serve wrapped inits s accepted calls replie
 no_undefined : (o : wasm.Outcome) (kind : ℕ) (place : state.Place) → OutcomesAlike o (c.Stopped (state.Undefined kind place)) → ⊥
 no_undefined wasm.Ended kind place h = h
 no_undefined (wasm.Stopped (exec.Trapped k)) kind place h = h
-no_undefined (wasm.Stopped exec.Asks) kind place h = h
-no_undefined (wasm.Stopped exec.OutOfSteps) kind place h = h
-no_undefined (wasm.Stopped exec.Stuck) kind place h = h
+no_undefined (wasm.Stopped _) kind place h = h
 
 no_stuck : (o : wasm.Outcome) → OutcomesAlike o (c.Stopped state.Stuck) → ⊥
 no_stuck wasm.Ended h = h
 no_stuck (wasm.Stopped (exec.Trapped k)) h = h
-no_stuck (wasm.Stopped exec.Asks) h = h
-no_stuck (wasm.Stopped exec.OutOfSteps) h = h
-no_stuck (wasm.Stopped exec.Stuck) h = h
+no_stuck (wasm.Stopped _) h = h
 
 no_stuck_module : (o : c.Outcome) → OutcomesAlike (wasm.Stopped exec.Stuck) o → ⊥
 no_stuck_module c.Ended h = h
-no_stuck_module (c.Stopped why) h = h
-no_stuck_module c.OutOfSteps h = h
+no_stuck_module _ h = h
 
 forward : (s : link.LinkedSet) → Pairing s → Forward (program_of s) s
 forward s paired calls replies n listing over = go (paired calls replies n listing)

@@ -1,5 +1,6 @@
 -- The parameters of a function that passes a call on.
-use Rattle.c_unit.proofs.Common.{◌≡◌, ℕ, zero, suc, ◌+◌, ◌<◌, List, [], ◌∷◌, ◌++◌, map, length, get_or, drop, sym, refl, ap, ◌∙◌, append_assoc, add-one, arith, map_push, ValType, at_front, c_type_of, args_from, param_name}
+use Rattle.c_unit.proofs.Common.{◌≡◌, ℕ, zero, suc, ◌+◌, ◌<◌, List, [], ◌∷◌, ◌++◌, map, length, get_or, drop, sym, refl, ap, ◌∙◌}
+use Rattle.c_unit.proofs.Common.{append_assoc, add-one, arith, map_push, ValType, at_front, c_type_of, args_from, param_name}
 use Rattle.c_tree.specs.Tree as tree
 
 pub args_next : (types : List ValType) (k : ℕ) → k < length types

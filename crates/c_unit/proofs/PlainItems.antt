@@ -1,12 +1,24 @@
 -- The items of a unit that have no body keep the rules: objects, pointers, data, declarations and prototypes.
-use Rattle.c_unit.proofs.Common.{◌≡◌, ℕ, ◌+◌, Bool, true, false, ◌&&◌, ◌≢◌, List, [], ◌∷◌, ◌++◌, map, length, if◌then◌else◌, Some, None, Option, zip, bytes_eq, sym, refl, ◌∙◌, subst, arith, AllByRecursion, list_all, range_with_len, all_append, all_map, named, numbered, FuncType, ValType, func_type_in, global_type_in, imported_globals, is_global_import, type_in, Export, ExportKind, ExportFunc, ExportGlobal, ExportMemory, ExportTable, GlobalEntry, Import, ImportKind, ImportFunc, ImportGlobal, ImportMemory, ImportTable, LimitsEntry, SegmentEntry, Module, is_own_name, is_result_type, is_symbol, is_value_type, is_void, proper_params, proper_types, Name, name_of, param_variables, CType, NamedModule, c_params_of, c_result_of, c_type_of, global_name, memory_name, table_name, Typed, accessor_type, c_func_type_if, declared_symbols, export_symbol, export_type, exported_symbols, firsts, global_accessor_type, global_imports, import_symbol, import_type, imported_symbols, memory_imports, symbol_type, table_imports, class, value_types, no_void, pointer_name, pointers_of, data_name, data_of, declaration, items, IsAccepted}
+use Rattle.c_unit.proofs.Common.{◌≡◌, ℕ, ◌+◌, Bool, true, false, ◌&&◌, ◌≢◌, List, [], ◌∷◌, ◌++◌, map, length, if◌then◌else◌, Some, None}
+use Rattle.c_unit.proofs.Common.{Option, zip, bytes_eq, sym, refl, ◌∙◌, subst, arith, AllByRecursion, list_all, range_with_len, all_append}
+use Rattle.c_unit.proofs.Common.{all_map, named, numbered, FuncType, ValType, func_type_in, global_type_in, imported_globals}
+use Rattle.c_unit.proofs.Common.{is_global_import, type_in, Export, ExportKind, ExportFunc, ExportGlobal, Import, ImportKind, ImportFunc}
+use Rattle.c_unit.proofs.Common.{ImportGlobal, LimitsEntry, SegmentEntry, Module, is_own_name, is_result_type, is_symbol, is_value_type}
+use Rattle.c_unit.proofs.Common.{is_void, proper_params, proper_types, Name, name_of, param_variables, CType, NamedModule, c_params_of}
+use Rattle.c_unit.proofs.Common.{c_type_of, global_name, memory_name, table_name, Typed, accessor_type, c_func_type_if, declared_symbols}
+use Rattle.c_unit.proofs.Common.{export_symbol, export_type, exported_symbols, firsts, global_accessor_type, global_imports, import_symbol}
+use Rattle.c_unit.proofs.Common.{import_type, imported_symbols, memory_imports, symbol_type, table_imports, class, value_types, no_void}
+use Rattle.c_unit.proofs.Common.{pointer_name, pointers_of, data_name, data_of, declaration, items, IsAccepted, result_type, both_hold}
 use Rattle.w2c_base.specs.declared.value.ValType.TheVariants.{I32, I64}
 use Rattle.c_tree.specs.declared.tree.CType.TheVariants as type
 use Rattle.c_tree.specs.Tree as tree
 use Rattle.c_body.proofs.RulesOfFunctions.{all_at}
+use Rattle.c_unit.proofs.SectionLists.{global_item}
 use Rattle.c_unit.proofs.Pairs.{AllPairs, pairs_at, all_flat, firsts_all, firsts_differ}
-use Rattle.c_unit.proofs.ItemRules.{AllShow, Keeps, Apart, apart_joined, apart_classes, apart_names, variable_keeps, array_keeps, declared_func, declaration_keeps}
-use Rattle.c_unit.proofs.Sections.{AllClass, of_import, symbol_is, tabs_class, mems_class, globals_class, pointers_class, data_class, tabs_pairs, mems_pairs, globals_pairs, pointers_pairs, data_pairs, declared_class}
+use Rattle.c_unit.proofs.ItemRules.{AllShow, Keeps, Apart, apart_joined, apart_classes, apart_names, variable_keeps, array_keeps}
+use Rattle.c_unit.proofs.ItemRules.{declared_func, declaration_keeps}
+use Rattle.c_unit.proofs.Sections.{AllClass, of_import, symbol_is, tabs_class, mems_class, globals_class, pointers_class, data_class}
+use Rattle.c_unit.proofs.Sections.{tabs_pairs, mems_pairs, globals_pairs, pointers_pairs, data_pairs, declared_class}
 use Rattle.c_unit.proofs.Small.{all_pass, all_images}
 
 -- an item that keeps the rules wherever nothing before it clashes
@@ -45,13 +57,8 @@ pub record IsProper (ty : tree.FuncType) : Type 0 where
 
 pub func_proper : (o : Option FuncType) → IsProper (c_func_type_if o)
 func_proper None = record { result = refl; params = refl }
-func_proper (Some ty) = record { result = result_is ty.result; params = params_are ty.params }
+func_proper (Some ty) = record { result = result_type ty.result; params = params_are ty.params }
   where
-    result_is : (r : Option ValType) → is_result_type (c_result_of r) ≡ true
-    result_is None = refl
-    result_is (Some I32) = refl
-    result_is (Some I64) = refl
-
     params_are : (params : List ValType) → list_all is_value_type (proper_types (c_params_of params)) ≡ true
     params_are [] = refl
     params_are (I32 ∷ params) = value_types params
@@ -67,10 +74,9 @@ import_proper m i = by i.kind
   where
     by : (kind : ImportKind) → IsProper (import_type m (record { «module» = i.«module»; field = i.field; kind = kind; place = i.place }))
     by (ImportFunc x) = func_proper (type_in m x)
-    by (ImportTable x) = record { result = refl; params = refl }
-    by (ImportMemory x) = record { result = refl; params = refl }
     by (ImportGlobal I32 mutable) = record { result = refl; params = refl }
     by (ImportGlobal I64 mutable) = record { result = refl; params = refl }
+    by _ = record { result = refl; params = refl }
 
 pub export_proper : (m : Module) (e : Export) → IsProper (export_type m e)
 export_proper m e = by e.kind
@@ -78,9 +84,8 @@ export_proper m e = by e.kind
     by : (kind : ExportKind) → IsProper (export_type m
         (record { name = e.name; kind = kind; index = e.index; name_place = e.name_place; index_place = e.index_place }))
     by ExportFunc = func_proper (func_type_in m e.index)
-    by ExportTable = record { result = refl; params = refl }
-    by ExportMemory = record { result = refl; params = refl }
     by ExportGlobal = global_proper (global_type_in m e.index)
+    by _ = record { result = refl; params = refl }
 
 found_proper : (name : Name) (symbols : List Typed) (ty : tree.FuncType) → AllByRecursion (λ (s : Typed). IsProper s.1) symbols
     → named name symbols ≡ Some ty → IsProper ty
@@ -105,35 +110,16 @@ nameless_params : (static : Bool) (result : CType) (name : Name) (types : List C
 nameless_params static result name [] = refl
 nameless_params static result name (t ∷ types) = nameless_params static result name types
 
+all_values : (types : List CType) → list_all is_value_type types ≡ true
+    → list_all (λ (q : tree.Param). is_value_type q.0) (map (λ t. (t, None)) types) ≡ true
+all_values [] h = refl
+all_values (t ∷ types) h = let k = both_hold (is_value_type t) (list_all is_value_type types) h in rw k.0 (all_values types k.1)
+
 proper_of : (types : List CType) → list_all is_value_type (proper_types types) ≡ true
     → list_all (λ (q : tree.Param). is_value_type q.0) (proper_params (map (λ t. (t, None)) types)) ≡ true
-proper_of types h = by types h
-  where
-    each : (types : List CType) → list_all is_value_type types ≡ true
-        → list_all (λ (q : tree.Param). is_value_type q.0) (map (λ t. (t, None)) types) ≡ true
-    each [] h = refl
-    each (t ∷ types) h = here (is_value_type t) h (each types)
-      where
-        here : (b : Bool) → b && list_all is_value_type types ≡ true
-            → (list_all is_value_type types ≡ true → list_all (λ (q : tree.Param). is_value_type q.0) (map (λ t. (t, None)) types) ≡ true)
-            → b && list_all (λ (q : tree.Param). is_value_type q.0) (map (λ t. (t, None)) types) ≡ true
-        here true h f = f h
-        here false h f = absurd cc
-
-    by : (types : List CType) → list_all is_value_type (proper_types types) ≡ true
-        → list_all (λ (q : tree.Param). is_value_type q.0) (proper_params (map (λ t. (t, None)) types)) ≡ true
-    by [] h = refl
-    by (type.Void ∷ []) h = refl
-    by (type.Void ∷ u ∷ types) h = each (type.Void ∷ u ∷ types) h
-    by (type.U32 ∷ types) h = each (type.U32 ∷ types) h
-    by (type.U64 ∷ types) h = each (type.U64 ∷ types) h
-    by (type.PtrU32 ∷ types) h = each (type.PtrU32 ∷ types) h
-    by (type.PtrU64 ∷ types) h = each (type.PtrU64 ∷ types) h
-    by (type.Mem ∷ types) h = each (type.Mem ∷ types) h
-    by (type.PtrMem ∷ types) h = each (type.PtrMem ∷ types) h
-    by (type.Tab ∷ types) h = each (type.Tab ∷ types) h
-    by (type.PtrTab ∷ types) h = each (type.PtrTab ∷ types) h
-    by (type.FnPtr ∷ types) h = each (type.FnPtr ∷ types) h
+proper_of [] h = refl
+proper_of (type.Void ∷ []) h = refl
+proper_of (t ∷ types) h = all_values (t ∷ types) h
 
 abbrev typed_or : Option tree.FuncType → tree.FuncType
 typed_or None = accessor_type type.Void
@@ -161,11 +147,9 @@ pointer_no_void m i = by i.kind
   where
     by : (kind : ImportKind) → is_global_import (record { «module» = i.«module»; field = i.field; kind = kind; place = i.place }) ≡ true
         → is_void (import_type m (record { «module» = i.«module»; field = i.field; kind = kind; place = i.place })).result ≡ false
-    by (ImportFunc x) e = absurd cc
-    by (ImportTable x) e = absurd cc
-    by (ImportMemory x) e = absurd cc
     by (ImportGlobal I32 mutable) e = refl
     by (ImportGlobal I64 mutable) e = refl
+    by _ e = absurd cc
 
 -- ---- the sections
 
@@ -188,12 +172,9 @@ module _ (m : NamedModule) (a : IsAccepted m) where
       (all_images (ItemKeeps back) (λ (x : LimitsEntry). variable type.Mem memory_name) t.memories
       (λ x. var_keeps back type.Mem memory_name refl refl))
 
-  abbrev global_item : ℕ × GlobalEntry → tree.Item
-  global_item g = variable (c_type_of g.1.ty) (global_name (imported_globals t + g.0))
-
-  pub globals_keep : (front back : List tree.Item) → NoClass 3 front → AllShow Keeps front (map global_item (numbered t.globals)) back
+  pub globals_keep : (front back : List tree.Item) → NoClass 3 front → AllShow Keeps front (map (global_item m) (numbered t.globals)) back
   globals_keep front back none = section_keeps 3 front _ back none (globals_class m a) (globals_pairs m a)
-      (all_images (ItemKeeps back) global_item (numbered t.globals)
+      (all_images (ItemKeeps back) (global_item m) (numbered t.globals)
       (λ g. var_keeps back (c_type_of g.1.ty) (global_name (imported_globals t + g.0)) refl (no_void g.1.ty)))
 
   abbrev pointer_var : CType × Name → tree.Item

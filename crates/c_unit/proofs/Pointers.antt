@@ -1,8 +1,15 @@
 -- What an export or an import of a table, a memory or a global stands for: its function gives a pointer to the
 -- owner's object.
-use Rattle.c_unit.proofs.Common.{◌≡◌, ℕ, zero, suc, ◌+◌, ◌-◌, ◌<◌, ◌≤◌, Bool, true, false, List, [], ◌∷◌, ◌++◌, map, length, replicate, if◌then◌else◌, slice_get, Some, None, filter, Option, sym, refl, ap, ◌∙◌, inl, inr, arith, length-map, length-range_with_len, slice_get_past, slice_get_within, range_with_len, at_index, if_found, imported_globals, is_global_import, is_memory_import, is_table_import, Import, External, GlobalAddress, Instance, IsFunc, IsGlobal, IsMemory, IsTable, LinkedSet, NamedModule, as_global, as_memory, as_table, import_at, instances, meaning_of, ObjectAddress, first_global, global_name, memory_name, table_name, global_imports, memory_imports, table_imports, get_behind, get_front, get_numbered, get_unmapped}
+use Rattle.c_unit.proofs.Common.{◌≡◌, ℕ, zero, suc, ◌+◌, ◌-◌, ◌<◌, ◌≤◌, Bool, true, false, List, [], ◌∷◌, ◌++◌, map, length, replicate}
+use Rattle.c_unit.proofs.Common.{if◌then◌else◌, slice_get, Some, None, filter, Option, sym, refl, ap, ◌∙◌, inl, inr, arith, length-map}
+use Rattle.c_unit.proofs.Common.{length-range_with_len, slice_get_past, slice_get_within, range_with_len, at_index, if_found}
+use Rattle.c_unit.proofs.Common.{imported_globals, is_global_import, is_memory_import, is_table_import, Import, External, GlobalAddress}
+use Rattle.c_unit.proofs.Common.{Instance, IsFunc, IsGlobal, IsMemory, IsTable, LinkedSet, NamedModule, as_global, as_memory, as_table}
+use Rattle.c_unit.proofs.Common.{import_at, instances, meaning_of, ObjectAddress, first_global, global_name, memory_name, table_name}
+use Rattle.c_unit.proofs.Common.{global_imports, memory_imports, table_imports, get_behind, get_before, get_numbered, get_unmapped}
+use Rattle.c_unit.proofs.Common.{less_or_not}
 use Rattle.c_unit.proofs.Instances.{IsPlaced, earlier_is, spaces_at}
-use Rattle.c_unit.proofs.Small.{some_same, less_or_not, there_in}
+use Rattle.c_unit.proofs.Small.{some_same, there_in}
 
 -- the object that something stands for
 abbrev pub target_of : LinkedSet → External → Option ObjectAddress
@@ -43,7 +50,7 @@ space_case {A} imports stands own k x at = elim (less_or_not k (length imports))
     front : k < length imports → SpaceCase imports stands own k x
     front less =
         let i = get_unmapped stands imports k (Some x)
-        (sym (get_front (map stands imports) own k (omega (arith, less, length-map imports stands))) ∙ there) in
+        (sym (get_before (map stands imports) own k (omega (arith, less, length-map imports stands))) ∙ there) in
         AnImport i.0 i.1 i.2
 
     back : length imports ≤ k → SpaceCase imports stands own k x
@@ -62,15 +69,13 @@ pub as_table_is : (o : Option External) (owner : ℕ) → if_found o as_table �
 as_table_is None w e = absurd (cc)
 as_table_is (Some (IsFunc g)) w e = absurd (cc)
 as_table_is (Some (IsTable v)) w e = let same : v ≡ w = cc in ap (λ x. Some (IsTable x)) same
-as_table_is (Some (IsMemory v)) w e = absurd (cc)
-as_table_is (Some (IsGlobal g)) w e = absurd (cc)
+as_table_is (Some _) w e = absurd (cc)
 
 pub as_memory_is : (o : Option External) (owner : ℕ) → if_found o as_memory ≡ Some owner → o ≡ Some (IsMemory owner)
 as_memory_is None w e = absurd (cc)
 as_memory_is (Some (IsFunc g)) w e = absurd (cc)
-as_memory_is (Some (IsTable v)) w e = absurd (cc)
 as_memory_is (Some (IsMemory v)) w e = let same : v ≡ w = cc in ap (λ x. Some (IsMemory x)) same
-as_memory_is (Some (IsGlobal g)) w e = absurd (cc)
+as_memory_is (Some _) w e = absurd (cc)
 
 pub as_global_is : (o : Option External) (g : GlobalAddress) → if_found o as_global ≡ Some g → o ≡ Some (IsGlobal g)
 as_global_is None w e = absurd (cc)
@@ -93,6 +98,10 @@ by_import s v m h p k i o at stands =
     let f = filter_at p m.tree.imports k i at in
     record { place = f.0; is = f.1; stands = ap (λ (l : List Instance). meaning_of s.hosts l i) (earlier_is s v m h) ∙ stands }
 
+some_there : {A : Type 0} (count j : ℕ) (x y : A) → slice_get (replicate count x) j ≡ Some y → 0 < count
+some_there zero j x y e = absurd (cc)
+some_there (suc count) j x y e = omega arith
+
 pub data TableCase (s : LinkedSet) (v : ℕ) (m : NamedModule) (k : ℕ) (owner : ℕ) : Type 0 where
   ImportedTable : (i : Import) → (at : slice_get (table_imports m.tree) k ≡ Some i) → ByImport s v m i (IsTable owner)
       → TableCase s v m k owner
@@ -104,16 +113,12 @@ pub table_case : (s : LinkedSet) (v : ℕ) (m : NamedModule) (h : IsPlaced s.hos
 table_case s v m h k owner at = go (space_case (table_imports m.tree) (λ i. if_found (meaning_of s.hosts h.earlier i) as_table)
     (replicate (length m.tree.tables) (Some (length h.earlier))) k owner at)
   where
-    some_there : (count : ℕ) (j : ℕ) → slice_get (replicate count (Some (length h.earlier))) j ≡ Some (Some owner) → 0 < count
-    some_there zero j e = absurd (cc)
-    some_there (suc count) j e = omega arith
-
     go : SpaceCase (table_imports m.tree) (λ i. if_found (meaning_of s.hosts h.earlier i) as_table)
         (replicate (length m.tree.tables) (Some (length h.earlier))) k owner → TableCase s v m k owner
     go (AnImport i at is) = ImportedTable i at (by_import s v m h is_table_import k i (IsTable owner) at
         (as_table_is (meaning_of s.hosts h.earlier i) owner is))
     go (AnOwn none j number is) = OwnTable none (sym (replicated (length m.tree.tables) (length h.earlier) owner j is) ∙ h.number)
-        (some_there (length m.tree.tables) j is)
+        (some_there (length m.tree.tables) j (Some (length h.earlier)) (Some owner) is)
 
 pub data MemoryCase (s : LinkedSet) (v : ℕ) (m : NamedModule) (k : ℕ) (owner : ℕ) : Type 0 where
   ImportedMemory : (i : Import) → (at : slice_get (memory_imports m.tree) k ≡ Some i) → ByImport s v m i (IsMemory owner)
@@ -126,16 +131,12 @@ pub memory_case : (s : LinkedSet) (v : ℕ) (m : NamedModule) (h : IsPlaced s.ho
 memory_case s v m h k owner at = go (space_case (memory_imports m.tree) (λ i. if_found (meaning_of s.hosts h.earlier i) as_memory)
     (replicate (length m.tree.memories) (Some (length h.earlier))) k owner at)
   where
-    some_there : (count : ℕ) (j : ℕ) → slice_get (replicate count (Some (length h.earlier))) j ≡ Some (Some owner) → 0 < count
-    some_there zero j e = absurd (cc)
-    some_there (suc count) j e = omega arith
-
     go : SpaceCase (memory_imports m.tree) (λ i. if_found (meaning_of s.hosts h.earlier i) as_memory)
         (replicate (length m.tree.memories) (Some (length h.earlier))) k owner → MemoryCase s v m k owner
     go (AnImport i at is) = ImportedMemory i at (by_import s v m h is_memory_import k i (IsMemory owner) at
         (as_memory_is (meaning_of s.hosts h.earlier i) owner is))
     go (AnOwn none j number is) = OwnMemory none (sym (replicated (length m.tree.memories) (length h.earlier) owner j is) ∙ h.number)
-        (some_there (length m.tree.memories) j is)
+        (some_there (length m.tree.memories) j (Some (length h.earlier)) (Some owner) is)
 
 pub data GlobalCase (s : LinkedSet) (v : ℕ) (m : NamedModule) (k : ℕ) (g : GlobalAddress) : Type 0 where
   ImportedGlobal : (i : Import) → (at : slice_get (global_imports m.tree) k ≡ Some i) → ByImport s v m i (IsGlobal g) → GlobalCase s v m k g

@@ -1,5 +1,11 @@
 -- The units of a linked set serve its modules' bodies, and a listed call begins a wrapper.
-use Rattle.c_unit.proofs.Common.{◌≡◌, ℕ, suc, ◌*◌, ◌≤◌, List, map, length, is_some, slice_get, Some, Contains, Option, option_map, sym, refl, ap, ◌∙◌, subst, arith, slice_get_within, position_from, if_found, types_of, FuncType, export_symbol_of, Func, Import, ImportFunc, Name, External, Instance, IsFunc, LinkedSet, NamedModule, as_func, exported, func_at, import_at, instances, meaning_of, defined, defined_for_all, definition_at, func_type, primitive, UnitFunc, helper_of, Helper, export_symbol, func_imports, get_front, get_mapped, ResolvesAs, callable_later, IsDefined, body_of, helpers_of, Defines, Reached, IsAcceptedSet, UnitsServe, program_of, symbol_call}
+use Rattle.c_unit.proofs.Common.{◌≡◌, ℕ, suc, ◌*◌, ◌≤◌, List, map, length, is_some, slice_get, Some, Contains, Option, option_map, sym}
+use Rattle.c_unit.proofs.Common.{refl, ap, ◌∙◌, subst, arith, slice_get_within, position_from, if_found, types_of, FuncType}
+use Rattle.c_unit.proofs.Common.{export_symbol_of, Func, Import, ImportFunc, Name, External, Instance, IsFunc, LinkedSet, NamedModule}
+use Rattle.c_unit.proofs.Common.{as_func, exported, func_at, import_at, instances, meaning_of, defined, defined_for_all, definition_at}
+use Rattle.c_unit.proofs.Common.{func_type, primitive, UnitFunc, helper_of, Helper, export_symbol, func_imports, get_before, get_mapped}
+use Rattle.c_unit.proofs.Common.{ResolvesAs, callable_later, IsDefined, body_of, helpers_of, Defines, Reached, IsAcceptedSet, UnitsServe}
+use Rattle.c_unit.proofs.Common.{program_of, symbol_call}
 use Rattle.wasm_meaning.specs.LinkedSet as link
 use Rattle.c_tree.specs.Tree as tree
 use Rattle.c_unit.proofs.Defined.{helper_defined, helper_typed, helper_is_no_primitive, func_is_no_primitive, export_is_no_primitive}
@@ -54,7 +60,7 @@ import_index s u m is k i at f stands =
     ∙ ap (λ (o : Option External). Some (if_found o as_func)) here in
     func_space_at s u m h k
     ∙ ap (λ (o : Option (Option link.FuncAddress)). if_found o (λ e. e))
-    (get_front (map g (func_imports m.tree)) _ k (slice_get_within (map g (func_imports m.tree)) k (Some f) front) ∙ front)
+    (get_before (map g (func_imports m.tree)) _ k (slice_get_within (map g (func_imports m.tree)) k (Some f) front) ∙ front)
 
 import_found : (s : LinkedSet) → IsAcceptedSet s → (u : ℕ) (m : NamedModule) → slice_get s.modules u ≡ Some m → (k : ℕ) (i : Import)
     → slice_get (func_imports m.tree) k ≡ Some i → Reached (program_of s) s u m k i
@@ -79,7 +85,7 @@ units_serve s accepted = record {
   linked = accepted.linked;
   hosts = refl;
   valid = λ u m is. (accepted_at s accepted u m is).valid;
-  formed = λ u m is. (accepted_at s accepted u m is).formed;
+  within = λ u m is. (accepted_at s accepted u m is).within;
   serve = λ u m is. record {
     bodies = λ k there. body_found s accepted u m is k there;
     helpers = λ which there. helper_found s u m is which there;

@@ -1,6 +1,12 @@
 -- What instantiation rests on of the units' functions: the init function is defined, each function index is
 -- reached by its name, and each import of an object by its symbol.
-use Rattle.c_unit.proofs.Common.{◌≡◌, ℕ, ◌+◌, ◌-◌, ◌*◌, ◌<◌, ◌≤◌, Bool, true, false, List, ◌++◌, map, length, if◌then◌else◌, slice_get, Some, None, Option, flat_map, sym, refl, ap, ◌∙◌, subst, inl, inr, arith, length-append, length-map, slice_get_within, range_with_len, get_within, at_index, if_found, init_symbol_of, func_of_import, func_space, imported_funcs, Import, ImportFunc, Name, External, IsFunc, IsGlobal, IsMemory, IsTable, LinkedSet, ModuleFunc, NamedModule, as_func, func_at, meaning_of, defined, func_named, primitive, ObjectAddress, func_name, func_imports, import_symbol, is_usable, get_behind, get_mapped, get_numbered, ResolvesAs, callee, function_name, init_func, items, IsAcceptedSet, program_of}
+use Rattle.c_unit.proofs.Common.{◌≡◌, ℕ, ◌+◌, ◌-◌, ◌*◌, ◌<◌, ◌≤◌, Bool, true, false, List, ◌++◌, map, length, if◌then◌else◌, slice_get}
+use Rattle.c_unit.proofs.Common.{Some, None, Option, flat_map, sym, refl, ap, ◌∙◌, subst, inl, inr, arith, length-append, length-map}
+use Rattle.c_unit.proofs.Common.{slice_get_within, range_with_len, get_within, at_index, if_found, init_symbol_of, func_of_import}
+use Rattle.c_unit.proofs.Common.{func_space, imported_funcs, Import, ImportFunc, Name, External, IsFunc, LinkedSet, ModuleFunc, NamedModule}
+use Rattle.c_unit.proofs.Common.{as_func, func_at, meaning_of, defined, func_named, primitive, ObjectAddress, func_name, func_imports}
+use Rattle.c_unit.proofs.Common.{import_symbol, is_usable, get_behind, get_mapped, get_numbered, ResolvesAs, callee, function_name}
+use Rattle.c_unit.proofs.Common.{init_func, items, IsAcceptedSet, program_of, less_or_not}
 use Rattle.wasm_meaning.specs.LinkedSet.{FuncAddress}
 use Rattle.c_tree.specs.Tree as tree
 use Rattle.c_unit.proofs.Defined.{init_defined, typed_outside}
@@ -14,7 +20,6 @@ use Rattle.c_unit.proofs.Program.{import_index, few_modules}
 use Rattle.c_unit.proofs.Pointers.{target_of}
 use Rattle.c_unit.proofs.Accessors.{ImportGives, imports_give}
 use Rattle.c_unit.proofs.Known.{InitsAreDefined, FuncsAreReached, ImportsGivePointers}
-use Rattle.c_unit.proofs.Small.{less_or_not}
 
 pub inits_are_defined : InitsAreDefined
 inits_are_defined s accepted u m is =
@@ -32,9 +37,7 @@ inits_are_defined s accepted u m is =
 
 same_target : (s : LinkedSet) (x : External) (object : ObjectAddress) → target_of s x ≡ Some object → target_of s x ≡ Some object
 same_target s (IsFunc f) object e = e
-same_target s (IsTable owner) object e = e
-same_target s (IsMemory owner) object e = e
-same_target s (IsGlobal g) object e = e
+same_target s _ object e = e
 
 pub imports_give_pointers : ImportsGivePointers
 imports_give_pointers s accepted u m is k i at x object stands target =

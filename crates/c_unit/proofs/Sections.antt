@@ -1,20 +1,33 @@
 -- The sections of a module's unit: the classes of their names, and that no two of their items clash.
-use Rattle.c_unit.proofs.Common.{◌≡◌, ℕ, ◌+◌, ◌-◌, ◌^◌, ◌<◌, ◌≤◌, Bool, true, false, ◌≢◌, List, [], ◌∷◌, ◌++◌, map, length, slice_get, Some, None, Option, flat_map, bytes_eq, sym, refl, ap, ◌∙◌, subst, arith, length-append, map-append, AllByRecursion, all_append, all_map, numbered, ValType, export_symbol_of-parts, init_symbol_of-parts, export_symbol_of, init_symbol_of, SymbolKind, global_type_in, imported_funcs, imported_globals, is_func_import, is_global_import, memory_of_import, memory_space, table_of_import, table_space, Export, ExportKind, ExportFunc, ExportGlobal, ExportMemory, ExportTable, GlobalEntry, Import, ImportKind, ImportFunc, ImportGlobal, ImportMemory, ImportTable, LimitsEntry, SegmentEntry, LoadOp, StoreOp, Module, too_many, unknown_types, is_symbol, Name, name_of, CType, NamedModule, c_type_of, func_name, global_name, memory_name, table_name, helper_of, Helper, NumOp, Typed, declared_symbols, export_symbol, export_type, firsts, global_imports, global_kind, global_symbol, import_symbol, import_type, memory_imports, table_imports, class, class_lettered, class_pointer, filter_few, lettered, memory_count, table_count, body_of, pointer_name, helpers_of, callee, pointers_of, accessor, export_func, passes_on, usable_symbol, data_name, bodies, data_of, declaration, items, prototype, IsAccepted}
+use Rattle.c_unit.proofs.Common.{◌≡◌, ℕ, ◌+◌, ◌-◌, ◌^◌, ◌<◌, ◌≤◌, Bool, true, false, ◌≢◌, List, [], ◌∷◌, ◌++◌, map, length, slice_get, Some}
+use Rattle.c_unit.proofs.Common.{None, Option, flat_map, bytes_eq, sym, refl, ap, ◌∙◌, subst, arith, length-append, map-append}
+use Rattle.c_unit.proofs.Common.{AllByRecursion, all_append, all_map, numbered, ValType, export_symbol_of-parts, init_symbol_of-parts}
+use Rattle.c_unit.proofs.Common.{export_symbol_of, init_symbol_of, SymbolKind, global_type_in, imported_funcs, imported_globals}
+use Rattle.c_unit.proofs.Common.{is_func_import, is_global_import, memory_of_import, memory_space, table_of_import, table_space, Export}
+use Rattle.c_unit.proofs.Common.{ExportKind, ExportFunc, ExportGlobal, ExportMemory, ExportTable, Import, ImportKind, ImportFunc}
+use Rattle.c_unit.proofs.Common.{ImportGlobal, ImportMemory, ImportTable, LimitsEntry, SegmentEntry, LoadOp, StoreOp, Module, too_many}
+use Rattle.c_unit.proofs.Common.{unknown_types, is_symbol, Name, name_of, CType, NamedModule, func_name, global_name, memory_name}
+use Rattle.c_unit.proofs.Common.{table_name, helper_of, Helper, NumOp, Typed, declared_symbols, export_symbol, export_type, firsts}
+use Rattle.c_unit.proofs.Common.{global_imports, global_kind, global_symbol, import_symbol, import_type, memory_imports, table_imports}
+use Rattle.c_unit.proofs.Common.{class, class_lettered, class_pointer, filter_few, lettered, memory_count, table_count, body_of}
+use Rattle.c_unit.proofs.Common.{pointer_name, helpers_of, callee, accessor, export_func, passes_on, usable_symbol, data_name, bodies}
+use Rattle.c_unit.proofs.Common.{data_of, declaration, items, prototype, IsAccepted, length-map}
 use Rattle.w2c_mangle.specs.declared.symbol.SymbolKind.TheVariants as symbol
-use Rattle.wasm_valid.specs.declared.fault.ValidCause.TheVariants as cause
-use Rattle.wasm_valid.specs.ModuleFaults.{module_faults}
+use Rattle.wasm_typing.specs.declared.fault.ValidCause.TheVariants as cause
+use Rattle.wasm_typing.specs.ModuleFaults.{module_faults}
 use Rattle.c_tree.specs.declared.tree.CType.TheVariants as type
 use Rattle.c_tree.specs.Tree as tree
 use Rattle.c_prelude.specs.declared.operation.Helper.TheVariants as helper
 use Rattle.c_prelude.specs.declared.operation.NumOp.TheVariants as num
 use Rattle.wasm_tree.specs.declared.operators.LoadOp.TheVariants as load
 use Rattle.wasm_tree.specs.declared.operators.StoreOp.TheVariants as store
+use Rattle.c_unit.proofs.SectionLists.{global_item, global_pointers, globals, memory_pointers, mems, pointer_item, pointers, table_pointers}
+use Rattle.c_unit.proofs.SectionLists.{tabs}
 use Rattle.c_unit.proofs.BodiesAt.{body_at}
 use Rattle.c_unit.proofs.Pairs.{AllPairs, all_zip, pairs_zip, all_flat, pairs_flat, all_range, pairs_joined, firsts_all}
 use Rattle.c_unit.proofs.Small.{no_left, no_right, few, all_images}
 use Rattle.c_unit.proofs.AcceptedLimits.{accepted_limits}
 use Rattle.c_unit.proofs.Wholes.{map_twice}
-use Rattle.c_unit.proofs.Counts.{map_length}
 
 -- ---- classes
 
@@ -75,10 +88,7 @@ pub helper_class : (which : Helper) → class (helper_of which).name ≡ 8
 helper_class (helper.Num o) = number_class o
 helper_class (helper.Load o) = load_class o
 helper_class (helper.Store o) = store_class o
-helper_class helper.Size = refl
-helper_class helper.Element = refl
-helper_class helper.Copy = refl
-helper_class helper.Fill = refl
+helper_class _ = refl
 
 abbrev variable : CType → Name → tree.Item
 variable t name = tree.Var t name None
@@ -113,15 +123,7 @@ passes_name ty n o = by ty.result
   where
     by : (r : CType) → (passes_on (record { params = ty.params; result = r }) n o).name ≡ n
     by type.Void = refl
-    by type.U32 = refl
-    by type.U64 = refl
-    by type.PtrU32 = refl
-    by type.PtrU64 = refl
-    by type.Mem = refl
-    by type.PtrMem = refl
-    by type.Tab = refl
-    by type.PtrTab = refl
-    by type.FnPtr = refl
+    by _ = refl
 
 accessor_name : (m : NamedModule) (ty : tree.FuncType) (n : Name) (i : Option Import) (object : Name) → (accessor m ty n i object).name ≡ n
 accessor_name m ty n None object = refl
@@ -156,73 +158,48 @@ module _ (m : NamedModule) (a : IsAccepted m) where
   few_funcs = let i = filter_few is_func_import t.imports in omega (arith, i, (accepted_limits a).imports, (accepted_limits a).funcs)
 
   -- objects
-  abbrev tabs : List tree.Item
-  tabs = map (λ (x : LimitsEntry). variable type.Tab table_name) t.tables
 
-  abbrev mems : List tree.Item
-  mems = map (λ (x : LimitsEntry). variable type.Mem memory_name) t.memories
-
-  abbrev global_item : ℕ × GlobalEntry → tree.Item
-  global_item g = variable (c_type_of g.1.ty) (global_name (imported_globals t + g.0))
-
-  abbrev globals : List tree.Item
-  globals = map global_item (numbered t.globals)
-
-  abbrev pointers : List tree.Item
-  pointers = map (λ (p : CType × Name). variable p.0 p.1) (pointers_of t)
-
-  pub tabs_class : AllClass 1 tabs
+  pub tabs_class : AllClass 1 (tabs m)
   tabs_class = all_images (λ o. class (name_of o) ≡ 1) (λ (x : LimitsEntry). variable type.Tab table_name) t.tables (λ x. refl)
 
-  pub mems_class : AllClass 2 mems
+  pub mems_class : AllClass 2 (mems m)
   mems_class = all_images (λ o. class (name_of o) ≡ 2) (λ (x : LimitsEntry). variable type.Mem memory_name) t.memories (λ x. refl)
 
-  pub globals_class : AllClass 3 globals
-  globals_class = all_zip (λ o. class (name_of o) ≡ 3) global_item 0 (length t.globals) t.globals (omega arith)
+  pub globals_class : AllClass 3 (globals m)
+  globals_class = all_zip (λ o. class (name_of o) ≡ 3) (global_item m) 0 (length t.globals) t.globals (omega arith)
       (λ j g low high. class_lettered 103 (imported_globals t + j) (omega (arith, high, few_globals)) refl)
 
-  pub tabs_pairs : AllPairs NotSame tabs
+  pub tabs_pairs : AllPairs NotSame (tabs m)
   tabs_pairs = one_pairs NotSame (λ (x : LimitsEntry). variable type.Tab table_name) t.tables
       (let l = few_tables t a.valid.no_faults in let n = length-append (flat_map table_of_import t.imports)
-      (map (λ (x : LimitsEntry). x.limits) t.tables) in let q = map_length (λ (x : LimitsEntry). x.limits) t.tables in
+      (map (λ (x : LimitsEntry). x.limits) t.tables) in let q = length-map t.tables (λ (x : LimitsEntry). x.limits) in
       omega (arith, l, n, q))
 
-  pub mems_pairs : AllPairs NotSame mems
+  pub mems_pairs : AllPairs NotSame (mems m)
   mems_pairs = one_pairs NotSame (λ (x : LimitsEntry). variable type.Mem memory_name) t.memories
       (let l = few_memories t a.valid.no_faults in let n = length-append (flat_map memory_of_import t.imports)
-      (map (λ (x : LimitsEntry). x.limits) t.memories) in let q = map_length (λ (x : LimitsEntry). x.limits) t.memories in
+      (map (λ (x : LimitsEntry). x.limits) t.memories) in let q = length-map t.memories (λ (x : LimitsEntry). x.limits) in
       omega (arith, l, n, q))
 
-  pub globals_pairs : AllPairs NotSame globals
-  globals_pairs = pairs_zip NotSame global_item 0 (length t.globals) t.globals (omega arith)
+  pub globals_pairs : AllPairs NotSame (globals m)
+  globals_pairs = pairs_zip NotSame (global_item m) 0 (length t.globals) t.globals (omega arith)
       (λ i j x y less high. lettered 103 (imported_globals t + i) (imported_globals t + j) (omega (arith, less, high, few_globals))
       (omega (arith, high, few_globals)) (λ e. absurd (omega (arith, e, less))))
 
   -- pointers
-  abbrev pointer_item : ℕ × Import → tree.Item
-  pointer_item i = variable (import_type t i.1).result (pointer_name (global_name i.0))
 
   pub few_imports : length (global_imports t) ≤ 2 ^ 64
   few_imports = let i = filter_few is_global_import t.imports in omega (arith, i, (accepted_limits a).imports)
 
-  abbrev memory_pointers : List tree.Item
-  memory_pointers = map (λ (i : Import). variable type.PtrMem (pointer_name memory_name)) (memory_imports t)
-
-  abbrev table_pointers : List tree.Item
-  table_pointers = map (λ (i : Import). variable type.PtrTab (pointer_name table_name)) (table_imports t)
-
-  abbrev global_pointers : List tree.Item
-  global_pointers = map pointer_item (numbered (global_imports t))
-
-  pub pointers_are : pointers ≡ memory_pointers ++ (table_pointers ++ global_pointers)
+  pub pointers_are : pointers m ≡ memory_pointers m ++ (table_pointers m ++ global_pointers m)
   pointers_are =
       map-append item (map (λ (i : Import). (type.PtrMem, pointer_name memory_name)) (memory_imports t)) _
       ∙ (ap (λ o. o ++ map item (map (λ (i : Import). (type.PtrTab, pointer_name table_name)) (table_imports t) ++ map global
       (numbered (global_imports t)))) (map_twice item (λ (i : Import). (type.PtrMem, pointer_name memory_name)) (memory_imports t))
-      ∙ ap (λ o. memory_pointers ++ o) (map-append item (map (λ (i : Import). (type.PtrTab, pointer_name table_name)) (table_imports t)) _
+      ∙ ap (λ o. memory_pointers m ++ o) (map-append item (map (λ (i : Import). (type.PtrTab, pointer_name table_name)) (table_imports t)) _
       ∙ (ap (λ o. o ++ map item (map global (numbered (global_imports t))))
       (map_twice item (λ (i : Import). (type.PtrTab, pointer_name table_name)) (table_imports t))
-      ∙ ap (λ o. table_pointers ++ o) (map_twice item global (numbered (global_imports t))))))
+      ∙ ap (λ o. table_pointers m ++ o) (map_twice item global (numbered (global_imports t))))))
     where
       item : CType × Name → tree.Item
       item p = variable p.0 p.1
@@ -230,36 +207,36 @@ module _ (m : NamedModule) (a : IsAccepted m) where
       global : ℕ × Import → CType × Name
       global i = ((import_type t i.1).result, pointer_name (global_name i.0))
 
-  pub pointers_class : AllClass 4 pointers
+  pub pointers_class : AllClass 4 (pointers m)
   pointers_class = subst (AllClass 4) (sym pointers_are)
-      (all_append (λ o. class (name_of o) ≡ 4) memory_pointers _
+      (all_append (λ o. class (name_of o) ≡ 4) (memory_pointers m) _
       (all_images (λ o. class (name_of o) ≡ 4) (λ (i : Import). variable type.PtrMem (pointer_name memory_name)) (memory_imports t)
       (λ i. refl))
-      (all_append (λ o. class (name_of o) ≡ 4) table_pointers _
+      (all_append (λ o. class (name_of o) ≡ 4) (table_pointers m) _
       (all_images (λ o. class (name_of o) ≡ 4) (λ (i : Import). variable type.PtrTab (pointer_name table_name)) (table_imports t)
       (λ i. refl))
-      (all_zip (λ o. class (name_of o) ≡ 4) pointer_item 0 (length (global_imports t)) (global_imports t) (omega arith)
+      (all_zip (λ o. class (name_of o) ≡ 4) (pointer_item m) 0 (length (global_imports t)) (global_imports t) (omega arith)
       (λ j i low high. class_pointer 112 103 j (omega (arith, high, few_imports)) refl))))
 
-  pub pointers_pairs : AllPairs NotSame pointers
+  pub pointers_pairs : AllPairs NotSame (pointers m)
   pointers_pairs = subst (AllPairs NotSame) (sym pointers_are)
-      (pairs_joined NotSame memory_pointers _
-      (all_images (λ o. AllByRecursion (NotSame o) (table_pointers ++ global_pointers))
+      (pairs_joined NotSame (memory_pointers m) _
+      (all_images (λ o. AllByRecursion (NotSame o) (table_pointers m ++ global_pointers m))
       (λ (i : Import). variable type.PtrMem (pointer_name memory_name)) (memory_imports t)
-      (λ i. all_append (NotSame (variable type.PtrMem (pointer_name memory_name))) table_pointers global_pointers
+      (λ i. all_append (NotSame (variable type.PtrMem (pointer_name memory_name))) (table_pointers m) (global_pointers m)
       (all_images _ (λ (i : Import). variable type.PtrTab (pointer_name table_name)) (table_imports t) (λ x. refl))
-      (all_zip _ pointer_item 0 (length (global_imports t)) (global_imports t) (omega arith) (λ j x low high. refl))))
+      (all_zip _ (pointer_item m) 0 (length (global_imports t)) (global_imports t) (omega arith) (λ j x low high. refl))))
       (one_pairs NotSame (λ (i : Import). variable type.PtrMem (pointer_name memory_name)) (memory_imports t)
       (let l = few_memories t a.valid.no_faults in let n = length-append (flat_map memory_of_import t.imports)
       (map (λ (x : LimitsEntry). x.limits) t.memories) in let q = memory_count t.imports in omega (arith, l, n, q)))
-      (pairs_joined NotSame table_pointers _
-      (all_images (λ o. AllByRecursion (NotSame o) global_pointers) (λ (i : Import). variable type.PtrTab (pointer_name table_name))
+      (pairs_joined NotSame (table_pointers m) _
+      (all_images (λ o. AllByRecursion (NotSame o) (global_pointers m)) (λ (i : Import). variable type.PtrTab (pointer_name table_name))
       (table_imports t)
-      (λ i. all_zip _ pointer_item 0 (length (global_imports t)) (global_imports t) (omega arith) (λ j x low high. refl)))
+      (λ i. all_zip _ (pointer_item m) 0 (length (global_imports t)) (global_imports t) (omega arith) (λ j x low high. refl)))
       (one_pairs NotSame (λ (i : Import). variable type.PtrTab (pointer_name table_name)) (table_imports t)
       (let l = few_tables t a.valid.no_faults in let n = length-append (flat_map table_of_import t.imports)
       (map (λ (x : LimitsEntry). x.limits) t.tables) in let q = table_count t.imports in omega (arith, l, n, q)))
-      (pairs_zip NotSame pointer_item 0 (length (global_imports t)) (global_imports t) (omega arith)
+      (pairs_zip NotSame (pointer_item m) 0 (length (global_imports t)) (global_imports t) (omega arith)
       (λ i j x y less high. lettered 103 i j (omega (arith, less, high, few_imports)) (omega (arith, high, few_imports))
       (λ e. absurd (omega (arith, e, less)))))))
 

@@ -1,7 +1,9 @@
 -- Names that are put each once, where they come first.
-use Rattle.c_unit.proofs.Common.{◌≡◌, ℕ, ◌+◌, ◌<◌, ◌≤◌, Bool, true, false, not, ◌&&◌, ◌||◌, List, [], ◌∷◌, ◌++◌, map, length, get_or, drop, is_some, if◌then◌else◌, Some, None, bytes_eq, sym, refl, ap, ◌∙◌, append_assoc, append-nil, arith, drop_all, map_push, option_or, named, Import, at_front, Name, is_among, NamedModule, pair_of, Typed, declared_symbols, firsts, import_symbol, Symbol}
-use Rattle.std.proofs.Math.Bool.{or-false}
-use Rattle.name_table.proofs.NameTables.{either_way}
+use Rattle.c_unit.proofs.Common.{◌≡◌, ℕ, ◌+◌, ◌<◌, ◌≤◌, Bool, true, false, not, ◌&&◌, ◌||◌, List, [], ◌∷◌, ◌++◌, map, length, get_or, drop}
+use Rattle.c_unit.proofs.Common.{is_some, if◌then◌else◌, Some, None, bytes_eq, sym, refl, ap, ◌∙◌, append_assoc, append-nil, arith}
+use Rattle.c_unit.proofs.Common.{drop_all, map_push, option_or, named, Import, at_front, Name, is_among, NamedModule, pair_of, Typed}
+use Rattle.c_unit.proofs.Common.{declared_symbols, firsts, import_symbol, Symbol, bytes_eq-sym}
+use Rattle.std.proofs.Math.Bool.{or-false, or_comm}
 use Rattle.c_unit.specs.Seen.{PutsFirst, SeesMore, typed}
 use Rattle.w2c_base.proofs.Options.{some_or_if}
 
@@ -14,27 +16,18 @@ Declares m table made left before =
 abbrev pub DeclaresSoFar : {A : Type 0} → NamedModule → List (Name × A) → List Typed → List Import → Type 0
 DeclaresSoFar m table made left = (before : List Name) × Declares m table made left before
 
-pub declares_none : {A : Type 0} (m : NamedModule) (table : List (Name × A)) → table ≡ [] → DeclaresSoFar m table [] m.tree.imports
-declares_none m table none = ([], (λ q. ap (λ t. is_some (named q t)) none, refl))
-
 pub entered : {A : Type 0} (after before : List (Name × A)) (name : Name) (of : A) (seen : Bool) → seen ≡ false
     → ((q : Name) → named q after ≡ option_or (named q before) (if bytes_eq name q then Some of else None))
     → SeesMore after before seen name
 entered {A} after before name of seen new grown q =
     ap is_some (grown q)
     ∙ (some_or_if of (named q before) (bytes_eq name q)
-    ∙ (ap (λ b. is_some (named q before) || b) (either_way name q)
+    ∙ (ap (λ b. is_some (named q before) || b) (bytes_eq-sym name q)
     ∙ ap (λ b. is_some (named q before) || (not b && bytes_eq q name)) (sym new)))
 
 pub not_entered : {A : Type 0} (table : List (Name × A)) (name : Name) (seen : Bool) → seen ≡ true → SeesMore table table seen name
 not_entered table name seen was q =
     sym (or-false (is_some (named q table))) ∙ ap (λ b. is_some (named q table) || (not b && bytes_eq q name)) (sym was)
-
-or_swapped : (a b : Bool) → (a || b) ≡ (b || a)
-or_swapped true true = refl
-or_swapped true false = refl
-or_swapped false true = refl
-or_swapped false false = refl
 
 module _ {A : Type 0} (m : NamedModule) (table after : List (Name × A)) (made grown : List Typed) (imports items : List Import)
     (i : ℕ) (x : Import)
@@ -77,7 +70,7 @@ module _ {A : Type 0} (m : NamedModule) (table after : List (Name × A)) (made g
         name ∷ before,
         (
           λ q. sees q ∙ (ap (λ b. is_some (named q table) || (not b && bytes_eq q name)) was
-              ∙ (or_swapped (is_some (named q table)) (bytes_eq q name) ∙ ap (λ b. bytes_eq q name || b) (knows q))),
+              ∙ (or_comm (is_some (named q table)) (bytes_eq q name) ∙ ap (λ b. bytes_eq q name || b) (knows q))),
           ap (λ ys. ys ++ map (typed m) (firsts (name ∷ before) rest)) (put ∙ ap (λ b. made ++ (if b then [] else typed m name ∷ [])) was)
               ∙ (append_assoc made (typed m name ∷ []) (map (typed m) (firsts (name ∷ before) rest))
               ∙ (ap (λ b. made ++ map (typed m) (if b then firsts before rest else name ∷ firsts (name ∷ before) rest)) (sym among)

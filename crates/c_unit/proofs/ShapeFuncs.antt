@@ -1,5 +1,11 @@
 -- What the functions of a module's unit stand for: those of bodies by their index, of exports and init by their symbol.
-use Rattle.c_unit.proofs.Common.{◌≡◌, ℕ, zero, suc, ◌-◌, ◌<◌, true, false, ◌≢◌, List, [], ◌∷◌, map, length, slice_get, Some, None, flat_map, bytes_eq, sym, refl, ap, ◌∙◌, subst, arith, AllByRecursion, all_at, all_from, if_found, ValType, init_symbol_of, func_of_import, func_type_in, imported_funcs, type_in, Export, FuncEntry, Module, context_of, Name, func_type_of, NamedModule, bytes_equal, Definition, c_params_of, c_result_of, defined, defined_for_all, func_name, c_func_type_if, export_symbol, export_type, get_mapped, body_locals, func_count, IsDefined, body_of, func_of, params_of, stmts_of, export_func, init_func, items, IsAccepted, DefinesExternal, GivesExport}
+use Rattle.c_unit.proofs.Common.{◌≡◌, ℕ, zero, suc, ◌-◌, ◌<◌, true, false, ◌≢◌, List, [], ◌∷◌, map, length, slice_get, Some, None, flat_map}
+use Rattle.c_unit.proofs.Common.{bytes_eq, sym, refl, ap, ◌∙◌, subst, arith, AllByRecursion, all_at, all_from, if_found, ValType}
+use Rattle.c_unit.proofs.Common.{init_symbol_of, func_of_import, func_type_in, imported_funcs, type_in, Export, FuncEntry, Module}
+use Rattle.c_unit.proofs.Common.{context_of, Name, func_type_of, NamedModule, bytes_equal, Definition, c_params_of, c_result_of, defined}
+use Rattle.c_unit.proofs.Common.{defined_for_all, func_name, c_func_type_if, export_symbol, export_type, get_mapped, body_locals}
+use Rattle.c_unit.proofs.Common.{func_count, IsDefined, body_of, func_of, params_of, stmts_of, export_func, init_func, items, IsAccepted}
+use Rattle.c_unit.proofs.Common.{DefinesExternal, GivesExport}
 use Rattle.c_tree.specs.declared.tree.CType.TheVariants as type
 use Rattle.c_tree.specs.Tree as tree
 use Rattle.c_unit.proofs.BodiesAt.{BodyAt}

@@ -1,9 +1,21 @@
 -- What a module's unit shows to other units, and its objects, as lists.
-use Rattle.c_unit.proofs.Common.{◌≡◌, ℕ, ◌+◌, Bool, true, false, ◌||◌, ◌⊎◌, ◌↔◌, List, [], ◌∷◌, ◌++◌, map, length, is_some, if◌then◌else◌, Some, None, Contains, filter, Option, filter_map, bytes_eq, sym, refl, ap, ◌∙◌, subst, inl, inr, Contains-append_cases, Contains-append_left, Contains-append_right, filter_map-append, bytes_eq-Decides, AllByRecursion, range_with_len, all_append, all_flat, all_map, of_contained, named, numbered, ValType, init_symbol_of, imported_funcs, imported_globals, is_global_import, Export, GlobalEntry, Import, ImportKind, ImportFunc, ImportGlobal, ImportMemory, ImportTable, LimitsEntry, SegmentEntry, Module, Name, func_type_of, is_among, CType, NamedModule, bytes_equal, c_type_of, external_functions, global_name, memory_name, table_name, made_static, helper_of, Typed, accessor_type, declared_symbols, export_symbol, export_type, exported_symbols, firsts, global_imports, import_symbol, import_type, imported_symbols, memory_imports, symbol_type, table_imports, all_of, all_weaker, name_differs, body_of, pointer_name, helpers_of, pointers_of, export_func, data_name, init_func, bodies, data_of, declaration, items, objects_of, prototype, IsAccepted, HaveSame, declared_names, defined_names, module_objects, own_symbols, unit_objects}
+use Rattle.c_unit.proofs.Common.{◌≡◌, ℕ, ◌+◌, Bool, true, false, ◌||◌, ◌⊎◌, ◌↔◌, List, [], ◌∷◌, ◌++◌, map, length, is_some, if◌then◌else◌}
+use Rattle.c_unit.proofs.Common.{Some, None, Contains, filter, Option, filter_map, bytes_eq, sym, refl, ap, ◌∙◌, subst, inl, inr}
+use Rattle.c_unit.proofs.Common.{Contains-append_cases, Contains-append_left, Contains-append_right, filter_map-append, bytes_eq-Decides}
+use Rattle.c_unit.proofs.Common.{AllByRecursion, range_with_len, all_append, all_flat, all_map, of_contained, named, numbered, ValType}
+use Rattle.c_unit.proofs.Common.{init_symbol_of, imported_funcs, imported_globals, is_global_import, Export, GlobalEntry, Import}
+use Rattle.c_unit.proofs.Common.{ImportKind, ImportGlobal, LimitsEntry, SegmentEntry, Module, Name, func_type_of, is_among, CType}
+use Rattle.c_unit.proofs.Common.{NamedModule, bytes_equal, c_type_of, external_functions, global_name, memory_name, table_name, made_static}
+use Rattle.c_unit.proofs.Common.{helper_of, Typed, accessor_type, declared_symbols, export_symbol, export_type, exported_symbols, firsts}
+use Rattle.c_unit.proofs.Common.{global_imports, import_symbol, import_type, imported_symbols, memory_imports, symbol_type, table_imports}
+use Rattle.c_unit.proofs.Common.{all_of, all_weaker, unlike_back, body_of, pointer_name, helpers_of, pointers_of, export_func, data_name}
+use Rattle.c_unit.proofs.Common.{init_func, bodies, data_of, declaration, items, prototype, IsAccepted, HaveSame, declared_names}
+use Rattle.c_unit.proofs.Common.{defined_names, module_objects, own_symbols, unit_objects}
 use Rattle.std.proofs.lemmas.Map.Views.{Contains-from_any}
 use Rattle.w2c_base.specs.declared.value.ValType.TheVariants.{I32, I64}
 use Rattle.c_tree.specs.declared.tree.CType.TheVariants as type
 use Rattle.c_tree.specs.Tree as tree
+use Rattle.c_unit.proofs.SectionLists.{declarations, exports, functions_of, helpers, init, objects, prototypes}
 use Rattle.c_unit.proofs.Defined.{body_is, export_external}
 use Rattle.c_unit.proofs.ExportFacts.{symbol_types}
 use Rattle.c_unit.proofs.ExportsKeep.{export_shape}
@@ -79,7 +91,7 @@ names_back name f (x ∷ xs) = ap (λ ns. name x ∷ ns) (names_back name f xs)
 
 none_among : (q : Name) (names : List Name) → AllByRecursion (λ n. bytes_eq n q ≡ false) names → is_among q names ≡ false
 none_among q [] h = refl
-none_among q (n ∷ names) h = rw (name_differs n q h.0) (none_among q names h.1)
+none_among q (n ∷ names) h = rw (unlike_back n q h.0) (none_among q names h.1)
 
 -- ---- items that other units do not see, and objects
 
@@ -107,27 +119,6 @@ module _ (m : NamedModule) (a : IsAccepted m) where
   abbrev t : Module
   t = m.tree
 
-  abbrev functions_of : List tree.Item
-  functions_of = map tree.Function (bodies m)
-
-  abbrev helpers : List tree.Item
-  helpers = map (λ which. tree.Function (helper_of which)) (helpers_of t)
-
-  abbrev exports : List tree.Item
-  exports = map (λ e. tree.Function (export_func m e)) t.exports
-
-  abbrev last : List tree.Item
-  last = tree.Function (init_func m) ∷ []
-
-  abbrev declarations : List tree.Item
-  declarations = map declaration (declared_symbols m)
-
-  abbrev prototypes : List tree.Item
-  prototypes = map prototype (bodies m)
-
-  abbrev objects : List tree.Item
-  objects = objects_of t (pointers_of t)
-
   data_none : {B : Type 0} (f : tree.Item → Option B) → ((n : Name) (count : ℕ) (bytes : List ℕ) → f (tree.Array n count bytes) ≡ None)
       → filter_map f (data_of t) ≡ []
   data_none f h = none_kept f (data_of t) (all_flat (λ o. f o ≡ None) data_item (numbered t.segments)
@@ -151,8 +142,8 @@ module _ (m : NamedModule) (a : IsAccepted m) where
 
   -- ---- functions that other units see
 
-  objects_hidden : filter_map external_of objects ≡ []
-  objects_hidden = none_kept external_of objects
+  objects_hidden : filter_map external_of (objects m) ≡ []
+  objects_hidden = none_kept external_of (objects m)
       (all_append (λ o. external_of o ≡ None) _ _ (all_images (λ o. external_of o ≡ None)
       (λ (x : LimitsEntry). tree.Var type.Tab table_name None) t.tables (λ x. refl))
       (all_append (λ o. external_of o ≡ None) _ _ (all_images (λ o. external_of o ≡ None)
@@ -165,19 +156,19 @@ module _ (m : NamedModule) (a : IsAccepted m) where
   declarations_seen [] = refl
   declarations_seen (s ∷ ss) = ap (λ fs. declared_func s ∷ fs) (declarations_seen ss)
 
-  prototypes_hidden : filter_map external_of prototypes ≡ []
-  prototypes_hidden = none_kept external_of prototypes (all_map (λ o. external_of o ≡ None) prototype (bodies m)
+  prototypes_hidden : filter_map external_of (prototypes m) ≡ []
+  prototypes_hidden = none_kept external_of (prototypes m) (all_map (λ o. external_of o ≡ None) prototype (bodies m)
       (all_images (λ (f : tree.Func). external_of (prototype f) ≡ None) (body_of t m.name)
       (range_with_len (imported_funcs t) (length t.funcs))
       (λ k. static_hidden _ (body_is t m.name k).1)))
 
-  helpers_hidden : filter_map external_of helpers ≡ []
-  helpers_hidden = none_kept external_of helpers (all_images (λ o. external_of o ≡ None) (λ which. tree.Function (helper_of which))
+  helpers_hidden : filter_map external_of (helpers m) ≡ []
+  helpers_hidden = none_kept external_of (helpers m) (all_images (λ o. external_of o ≡ None) (λ which. tree.Function (helper_of which))
       (helpers_of t)
       (λ which. static_hidden (helper_of which) (made_static which (helper_of which) refl).static))
 
-  bodies_hidden : filter_map external_of functions_of ≡ []
-  bodies_hidden = none_kept external_of functions_of (all_map (λ o. external_of o ≡ None) tree.Function (bodies m)
+  bodies_hidden : filter_map external_of (functions_of m) ≡ []
+  bodies_hidden = none_kept external_of (functions_of m) (all_map (λ o. external_of o ≡ None) tree.Function (bodies m)
       (all_images (λ (f : tree.Func). external_of (tree.Function f) ≡ None) (body_of t m.name)
       (range_with_len (imported_funcs t) (length t.funcs))
       (λ k. static_hidden (body_of t m.name k) (body_is t m.name k).1)))
@@ -191,13 +182,13 @@ module _ (m : NamedModule) (a : IsAccepted m) where
 
   seen_is : external_functions (items m) ≡ seen
   seen_is =
-      joined external_of objects _ [] _ objects_hidden
+      joined external_of (objects m) _ [] _ objects_hidden
       (joined external_of (data_of t) _ [] _ (data_none external_of (λ n count bytes. refl))
-      (joined external_of declarations _ (map declared_func (declared_symbols m)) _ (declarations_seen (declared_symbols m))
-      (joined external_of prototypes _ [] _ prototypes_hidden
-      (joined external_of helpers _ [] _ helpers_hidden
-      (joined external_of functions_of _ [] _ bodies_hidden
-      (joined external_of exports last (map (export_func m) t.exports) (init_func m ∷ []) (exports_seen t.exports) refl))))))
+      (joined external_of (declarations m) _ (map declared_func (declared_symbols m)) _ (declarations_seen (declared_symbols m))
+      (joined external_of (prototypes m) _ [] _ prototypes_hidden
+      (joined external_of (helpers m) _ [] _ helpers_hidden
+      (joined external_of (functions_of m) _ [] _ bodies_hidden
+      (joined external_of (exports m) (init m) (map (export_func m) t.exports) (init_func m ∷ []) (exports_seen t.exports) refl))))))
 
   abbrev symbols : List Name
   symbols = map (export_symbol m) t.exports
@@ -337,11 +328,9 @@ module _ (m : NamedModule) (a : IsAccepted m) where
       by : (kind : ImportKind) → is_global_import (record { «module» = i.«module»; field = i.field; kind = kind; place = i.place }) ≡ true
           → object_of (tree.Var (import_type t (record { «module» = i.«module»; field = i.field; kind = kind; place = i.place })).result n
           None) ≡ None
-      by (ImportFunc x) e = absurd cc
-      by (ImportTable x) e = absurd cc
-      by (ImportMemory x) e = absurd cc
       by (ImportGlobal I32 mutable) e = refl
       by (ImportGlobal I64 mutable) e = refl
+      by _ e = absurd cc
 
   abbrev NoObject : tree.Item → Type 0
   NoObject o = object_of o ≡ None
@@ -361,7 +350,7 @@ module _ (m : NamedModule) (a : IsAccepted m) where
   nothing_more [] ys e = e
   nothing_more (x ∷ xs) ys e = ap (λ zs. x ∷ zs) (nothing_more xs ys e)
 
-  objects_seen : filter_map object_of objects ≡ module_objects t
+  objects_seen : filter_map object_of (objects m) ≡ module_objects t
   objects_seen =
       joined object_of (map (λ (x : LimitsEntry). tree.Var type.Tab table_name None) t.tables) _ _ _ (tables_seen t.tables)
       (joined object_of (map (λ (x : LimitsEntry). tree.Var type.Mem memory_name None) t.memories) _ _ _ (memories_seen t.memories)
@@ -369,22 +358,23 @@ module _ (m : NamedModule) (a : IsAccepted m) where
       (numbered t.globals)) _ _ [] (globals_seen (numbered t.globals)) pointers_none
       ∙ nothing_more _ [] refl))
 
-  rest_none : filter_map object_of (data_of t ++ (declarations ++ (prototypes ++ (helpers ++ (functions_of ++ (exports ++ last)))))) ≡ []
+  rest_none : filter_map object_of
+      (data_of t ++ (declarations m ++ (prototypes m ++ (helpers m ++ (functions_of m ++ (exports m ++ init m)))))) ≡ []
   rest_none =
       joined object_of (data_of t) _ [] [] (data_none object_of (λ n count bytes. refl))
-      (joined object_of declarations _ [] [] (none_kept object_of declarations
+      (joined object_of (declarations m) _ [] [] (none_kept object_of (declarations m)
       (all_images NoObject declaration (declared_symbols m) (λ s. refl)))
-      (joined object_of prototypes _ [] [] (none_kept object_of prototypes (all_images NoObject prototype (bodies m) (λ f. refl)))
-      (joined object_of helpers _ [] [] (none_kept object_of helpers
+      (joined object_of (prototypes m) _ [] [] (none_kept object_of (prototypes m) (all_images NoObject prototype (bodies m) (λ f. refl)))
+      (joined object_of (helpers m) _ [] [] (none_kept object_of (helpers m)
       (all_images NoObject (λ which. tree.Function (helper_of which)) (helpers_of t) (λ which. refl)))
-      (joined object_of functions_of _ [] [] (functions_none object_of (bodies m) (λ f. refl))
-      (joined object_of exports last [] [] (none_kept object_of exports
+      (joined object_of (functions_of m) _ [] [] (functions_none object_of (bodies m) (λ f. refl))
+      (joined object_of (exports m) (init m) [] [] (none_kept object_of (exports m)
       (all_images NoObject (λ e. tree.Function (export_func m e)) t.exports (λ e. refl))) refl)))))
 
   objects_are : unit_objects (items m) ≡ module_objects t
-  objects_are = filter_map-append object_of objects _ ∙
+  objects_are = filter_map-append object_of (objects m) _ ∙
       (ap (λ os. os ++ filter_map object_of (data_of t ++
-      (declarations ++ (prototypes ++ (helpers ++ (functions_of ++ (exports ++ last))))))) objects_seen
+      (declarations m ++ (prototypes m ++ (helpers m ++ (functions_of m ++ (exports m ++ init m))))))) objects_seen
       ∙ nothing_more (module_objects t) _ rest_none)
 
   pub objects_same : HaveSame (unit_objects (items m)) (module_objects t)

@@ -1,11 +1,18 @@
 -- What stands at a place of a unit's items, kind by kind.
-use Rattle.c_unit.proofs.Common.{◌≡◌, ℕ, zero, suc, ◌+◌, ◌-◌, ◌<◌, ◌≤◌, List, ◌∷◌, ◌++◌, map, length, get_or, drop, slice_get, Some, None, Option, option_map, sym, refl, ap, ◌∙◌, arith, Bor, slice_get-map, slice_get_past, slice_get_read, range_with_len, imported_funcs, Export, GlobalEntry, Import, LimitsEntry, SegmentEntry, Name, CType, NamedModule, global_name, memory_name, table_name, helper_of, Helper, pair_of, declared_symbols, global_imports, memory_imports, table_imports, Symbol, body_of, pointer_name, helpers_of, byte_segments, bytes_of, export_func, init_func, bodies, declaration, global_item, prototype, variable, pointed, from_bodies, from_data, from_declared, from_exports, from_global_pointers, from_globals, from_helpers, from_init, from_memories, from_pointers, from_prototypes, from_table_pointers, from_tables, global_pointer}
+use Rattle.c_unit.proofs.Common.{◌≡◌, ℕ, zero, suc, ◌+◌, ◌-◌, ◌<◌, ◌≤◌, List, ◌∷◌, ◌++◌, map, length, get_or, drop, slice_get, Some, None}
+use Rattle.c_unit.proofs.Common.{Option, option_map, sym, refl, ap, ◌∙◌, arith, Bor, slice_get-map, slice_get_past, slice_get_read}
+use Rattle.c_unit.proofs.Common.{range_with_len, imported_funcs, Export, GlobalEntry, Import, LimitsEntry, SegmentEntry, Name, CType}
+use Rattle.c_unit.proofs.Common.{NamedModule, global_name, memory_name, table_name, helper_of, Helper, pair_of, declared_symbols}
+use Rattle.c_unit.proofs.Common.{global_imports, memory_imports, table_imports, Symbol, body_of, pointer_name, helpers_of, byte_segments}
+use Rattle.c_unit.proofs.Common.{bytes_of, export_func, init_func, bodies, declaration, global_item, prototype, variable, pointed}
+use Rattle.c_unit.proofs.Common.{from_bodies, from_data, from_declared, from_exports, from_global_pointers, from_globals, from_helpers}
+use Rattle.c_unit.proofs.Common.{from_init, from_memories, from_pointers, from_prototypes, from_table_pointers, from_tables, global_pointer}
+use Rattle.c_unit.proofs.Common.{drop_front, get_numbered, length-range_with_len, length-map}
 use Rattle.c_tree.specs.declared.tree.CType.TheVariants as c_type
 use Rattle.c_tree.specs.Tree as tree
 use Rattle.c_symbols.specs.Reached.{usable_symbol}
 use Rattle.c_unit.specs.Arrays.{array_of}
-use Rattle.c_unit.proofs.Counts.{map_length}
-use Rattle.c_unit.proofs.Parted.{found, passed, found_numbered, passed_numbered, at_place}
+use Rattle.c_unit.proofs.Parted.{found, passed, found_numbered, passed_numbered}
 use Rattle.c_unit.proofs.Listings.{seen_found, seen_passed, listed_found, listed_passed, same_found, drawn_passed}
 
 pub own_table_there : (m : NamedModule) (n : ℕ) (t : LimitsEntry) (item : tree.Item) → slice_get m.tree.tables n ≡ Some t
@@ -81,7 +88,7 @@ pub global_pointer_past : (m : NamedModule) (made : List CType) (n : ℕ) → ma
     → slice_get made n ≡ None
     → slice_get (from_data m) (n - length made) ≡ slice_get (from_global_pointers m) n
 global_pointer_past m made n made_is e =
-    ap (λ k. slice_get (from_data m) (n - k)) (ap length made_is ∙ map_length (pointed m.tree) (global_imports m.tree))
+    ap (λ k. slice_get (from_data m) (n - k)) (ap length made_is ∙ length-map (global_imports m.tree) (pointed m.tree))
     ∙ passed_numbered (global_pointer m) (global_imports m.tree) (from_data m) n
     (at (slice_get (global_imports m.tree) n)
     (sym (slice_get-map (pointed m.tree) (global_imports m.tree) n) ∙ ap (λ ys. slice_get ys n) (sym made_is) ∙ e))
@@ -124,29 +131,18 @@ helper_past m made n made_is e = listed_passed (λ (w : Helper). tree.Function (
 
 -- ---- functions by their numbers
 
-range_at : (k count n : ℕ) → n < count → slice_get (range_with_len k count) n ≡ Some (k + n)
-range_at k zero n lt = absurd (omega (arith, lt))
-range_at k (suc count) zero lt = let e : k ≡ k + 0 = omega arith in ap Some e
-range_at k (suc count) (suc n) lt =
-    let e : (k + 1) + n ≡ k + suc n = omega arith in
-    range_at (k + 1) count n (omega (arith, lt)) ∙ ap Some e
-
-range_length : (k count : ℕ) → length (range_with_len k count) ≡ count
-range_length k zero = refl
-range_length k (suc count) = ap suc (range_length (k + 1) count)
-
 abbrev own : NamedModule → ℕ → tree.Func
 own m index = body_of m.tree m.name index
 
 func_there : (m : NamedModule) (f : tree.Func → tree.Item) (rest : List tree.Item) (n : ℕ) → n < length m.tree.funcs
     → Some (f (own m (imported_funcs m.tree + n))) ≡ slice_get (map f (bodies m) ++ rest) n
 func_there m f rest n lt = seen_found (own m) f (range_with_len (imported_funcs m.tree) (length m.tree.funcs)) (bodies m) rest n
-    (imported_funcs m.tree + n) refl (range_at (imported_funcs m.tree) (length m.tree.funcs) n lt)
+    (imported_funcs m.tree + n) refl (get_numbered (imported_funcs m.tree) (length m.tree.funcs) n lt)
 
 func_past : (m : NamedModule) (f : tree.Func → tree.Item) (rest : List tree.Item) (n : ℕ) → length m.tree.funcs ≤ n
     → slice_get rest (n - length m.tree.funcs) ≡ slice_get (map f (bodies m) ++ rest) n
 func_past m f rest n le =
-    let count : length (range_with_len (imported_funcs m.tree) (length m.tree.funcs)) ≡ length m.tree.funcs = range_length
+    let count : length (range_with_len (imported_funcs m.tree) (length m.tree.funcs)) ≡ length m.tree.funcs = length-range_with_len
     (imported_funcs m.tree) (length m.tree.funcs) in
     ap (λ k. slice_get rest (n - k)) (sym count)
     ∙ seen_passed (own m) f (range_with_len (imported_funcs m.tree) (length m.tree.funcs)) (bodies m) rest n refl
@@ -193,7 +189,7 @@ init_past m (suc n) other = refl
 
 pub gives_next : (all : List tree.Item) (n after : ℕ) (item : tree.Item) → Some item ≡ slice_get all n → after ≡ n + 1
     → drop n all ≡ item ∷ drop after all
-gives_next all n after item is next = at_place all n item (sym is) ∙ ap (λ k. item ∷ drop k all) (sym next)
+gives_next all n after item is next = drop_front all n item (sym is) ∙ ap (λ k. item ∷ drop k all) (sym next)
 
 -- ---- what a look-up tells
 

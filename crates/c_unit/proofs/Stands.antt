@@ -1,19 +1,36 @@
 -- Each function index of a module is reached by a name in its unit: a defined function by its own name, an
 -- imported one by its symbol, which is that of a wrapper in an earlier unit, or of a host's function.
-use Rattle.c_unit.proofs.Common.{◌≡◌, ℕ, zero, suc, ◌+◌, ◌*◌, ◌^◌, ◌<◌, ◌≤◌, Bool, true, List, [], ◌∷◌, ◌++◌, map, length, take, if◌then◌else◌, slice_get, Some, None, Option, option_map, find, flat_map, bytes_eq, sym, refl, ap, ◌∙◌, subst, inl, inr, append_assoc, arith, slice_get_within, option_or, at_index, if_found, named, Host, HostFunction, types_of, FuncType, ValType, Value, export_symbol_of, func_of_import, func_space, func_type_in, global_type_in, imported_funcs, is_func_import, type_in, Export, ExportKind, ExportFunc, ExportGlobal, ExportMemory, ExportTable, Import, ImportFunc, Module, Name, func_type_of, CType, External, IndexSpaces, Instance, IsFunc, LinkedSet, NamedModule, export_of, exported, func_at, import_at, instances, join, stays, Definition, Program, c_params_of, c_result_of, c_type_of, defined, definition_at, external_func, func_named, func_type, primitive, Reaches, Pending, Frame, FuncAddress, HostFunc, Machine, UnitFunc, FunctionsAlike, func_name, global_name, memory_name, table_name, accessor_type, c_func_type, c_func_type_if, export_symbol, export_type, global_accessor_type, global_imports, global_symbol, import_symbol, is_usable, memory_imports, table_imports, filter_few, get_front, ResolvesAs, callable_later, IsCallable, IsDefined, body_of, func_of, params_of, HasLimits, callee, PassesOn, StandsFor, called, core, given, accessor, export_func, passes_on, IsAccepted, IsAcceptedSet, program_of}
+use Rattle.c_unit.proofs.Common.{◌≡◌, ℕ, zero, suc, ◌+◌, ◌*◌, ◌^◌, ◌<◌, ◌≤◌, Bool, true, List, [], ◌∷◌, ◌++◌, map, length, take}
+use Rattle.c_unit.proofs.Common.{if◌then◌else◌, slice_get, Some, None, Option, option_map, find, flat_map, bytes_eq, sym, refl, ap, ◌∙◌}
+use Rattle.c_unit.proofs.Common.{subst, inl, inr, append_assoc, arith, slice_get_within, option_or, at_index, if_found, named, Host}
+use Rattle.c_unit.proofs.Common.{HostFunction, types_of, FuncType, ValType, Value, export_symbol_of, func_of_import, func_space}
+use Rattle.c_unit.proofs.Common.{func_type_in, global_type_in, imported_funcs, is_func_import, type_in, Export, ExportKind, ExportFunc}
+use Rattle.c_unit.proofs.Common.{ExportGlobal, ExportMemory, ExportTable, Import, ImportFunc, Module, Name, func_type_of, CType, External}
+use Rattle.c_unit.proofs.Common.{IndexSpaces, Instance, IsFunc, LinkedSet, NamedModule, export_of, exported, func_at, import_at, instances}
+use Rattle.c_unit.proofs.Common.{join, stays, Definition, Program, c_params_of, c_result_of, c_type_of, defined, definition_at}
+use Rattle.c_unit.proofs.Common.{external_func, func_named, func_type, primitive, Reaches, Pending, Frame, FuncAddress, HostFunc, Machine}
+use Rattle.c_unit.proofs.Common.{UnitFunc, FunctionsAlike, func_name, global_name, memory_name, table_name, accessor_type, c_func_type}
+use Rattle.c_unit.proofs.Common.{c_func_type_if, export_symbol, export_type, global_accessor_type, global_imports, global_symbol}
+use Rattle.c_unit.proofs.Common.{import_symbol, is_usable, memory_imports, table_imports, filter_few, get_before, ResolvesAs}
+use Rattle.c_unit.proofs.Common.{callable_later}
+use Rattle.c_unit.proofs.Common.{IsCallable, IsDefined, body_of, func_of, params_of, HasLimits, callee, PassesOn, StandsFor, called, core}
+use Rattle.c_unit.proofs.Common.{given, accessor, export_func, passes_on, IsAccepted, IsAcceptedSet, program_of}
+use Rattle.w2c_base.proofs.Types.{types_many}
 use Rattle.w2c_mangle.specs.declared.symbol.SymbolKind.TheVariants as symbol
 use Rattle.wasm_meaning.specs.LinkedSet as link
 use Rattle.c_tree.specs.declared.tree.CType.TheVariants as c_type
 use Rattle.c_tree.specs.Tree as tree
-use Rattle.c_meaning.specs.Linking.{c_func_type_of}
+use Rattle.c_tree.specs.TypesInC.{c_func_type_of}
 use Rattle.c_body.specs.Body.{params_from}
 use Rattle.c_unit.proofs.Found.{find_join}
-use Rattle.c_unit.proofs.Defined.{IsDefinition, IsExternal, export_external, body_with, body_defined, func_typed, func_is_no_primitive, export_is_no_primitive}
+use Rattle.c_unit.proofs.Defined.{IsDefinition, IsExternal, export_external, body_with, body_defined, func_typed, func_is_no_primitive}
+use Rattle.c_unit.proofs.Defined.{export_is_no_primitive}
 use Rattle.c_unit.proofs.Instances.{IsPlaced, spaces_at, placed, earlier_is}
 use Rattle.c_unit.proofs.Linked.{ExportedBy, accepted_at}
 use Rattle.c_unit.proofs.External.{SymbolFound, unit_at, type_found, symbol_found, external_found, named_external}
 use Rattle.c_unit.proofs.HostSymbols.{OfferedBy}
-use Rattle.c_unit.proofs.Usable.{Origin, FromModule, FromHost, origin, origin_bytes, origin_differs, import_kind, import_symbol_is, import_resolves, type_at_is, usable}
+use Rattle.c_unit.proofs.Usable.{Origin, FromModule, FromHost, origin, origin_bytes, origin_differs, import_kind, import_symbol_is}
+use Rattle.c_unit.proofs.Usable.{import_resolves, type_at_is, usable}
 use Rattle.c_unit.proofs.Funcs.{ImportedFunc, IsImport, IsOwn, OwnFunc, imported_func, func_case, func_space_at, own_func}
 use Rattle.c_unit.proofs.Listed.{WrapsOnce}
 use Rattle.c_unit.proofs.Wrapper.{wraps, wrapper_type}
@@ -282,7 +299,7 @@ exported_func s accepted many module_name name f h found inner =
     → WrapsOnce p ty (UnitFunc v (export_symbol n e)) at.address pending machine args below
     = λ pending machine args below fit. wraps p pending v found_symbol.definition.0
     (export_symbol n e) at.name at.address ty args machine below x.body fit has_body definition
-    (omega (arith, few, count_types args, ap length fit)) at.free at.address_is in
+    (omega (arith, few, types_many args, ap length fit)) at.free at.address_is in
     record {
       symbol_is = sym_is;
       callable = at.callable;
@@ -309,15 +326,11 @@ exported_func s accepted many module_name name f h found inner =
       same_type = refl;
       wraps = once;
     }
-  where
-    count_types : (args : List Value) → length (types_of args) ≡ length args
-    count_types [] = refl
-    count_types (a ∷ args) = ap (λ n. suc n) (count_types args)
 
 -- ---- imports
 
 -- the same export is found among more instances
-exported_more : (earlier others : List Instance) (module_name name : List ℕ) (o : External) → exported earlier module_name name ≡ Some o
+pub exported_more : (earlier others : List Instance) (module_name name : List ℕ) (o : External) → exported earlier module_name name ≡ Some o
     → exported (earlier ++ others) module_name name ≡ Some o
 exported_more earlier others module_name name o found =
     ap (λ (x : Option Instance). if_found x (λ i. if_found (named name i.exports) (λ e. e)))
@@ -349,7 +362,7 @@ import_typed s accepted u m is k i h f ty stands typed =
     let func : r.0 ≡ f = cc in
     let types : r.1 ≡ ty = some_same (sym r.4 ∙ ap (link.func_type s) func ∙ typed) in
     let within = slice_get_within (flat_map func_of_import m.tree.imports) k h.ty_index h.in_space in
-    ap (λ (x : Option ℕ). if_found x (type_in m.tree)) (get_front (flat_map func_of_import m.tree.imports) _ k within ∙ h.in_space)
+    ap (λ (x : Option ℕ). if_found x (type_in m.tree)) (get_before (flat_map func_of_import m.tree.imports) _ k within ∙ h.in_space)
     ∙ sym (type_at_is s u m is h.ty_index)
     ∙ r.3
     ∙ ap Some types

@@ -1,6 +1,9 @@
 -- A unit that is untouched still declares what its module needs: the names are there, with their types, and nothing
 -- is made.
-use Rattle.c_unit.proofs.Common.{◌≡◌, ℕ, zero, suc, ◌+◌, Bool, true, false, List, [], ◌∷◌, map, is_some, if◌then◌else◌, slice_get, Some, None, Option, bytes_eq, sym, refl, ap, ◌∙◌, subst, arith, named, Trail, imported_globals, LinkedSet, NamedModule, Program, global_name, memory_name, table_name, MemoriesAgree, ObjectsAgree, StoresAgree, TablesAgree, Together, pointer_name, IsUntouched, items}
+use Rattle.c_unit.proofs.Common.{◌≡◌, ℕ, zero, suc, ◌+◌, Bool, true, false, List, [], ◌∷◌, map, is_some, if◌then◌else◌, slice_get, Some}
+use Rattle.c_unit.proofs.Common.{None, Option, bytes_eq, sym, refl, ap, ◌∙◌, subst, arith, named, Trail, imported_globals, LinkedSet}
+use Rattle.c_unit.proofs.Common.{NamedModule, Program, global_name, memory_name, table_name, MemoriesAgree, ObjectsAgree, StoresAgree}
+use Rattle.c_unit.proofs.Common.{TablesAgree, Together, pointer_name, IsUntouched, items}
 use Rattle.wasm_meaning.specs.Store as store
 use Rattle.c_meaning.specs.State as state
 use Rattle.c_meaning.specs.Machine as machine

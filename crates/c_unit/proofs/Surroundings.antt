@@ -1,13 +1,20 @@
 -- What an init function rests on once its module has made its objects: whose tables, memories and globals the
 -- indexes stand for, which functions names reach, and what validity says of segments.
-use Rattle.c_unit.proofs.Common.{◌≡◌, ℕ, suc, ◌+◌, ◌^◌, ◌<◌, ◌≤◌, true, false, List, [], ◌∷◌, ◌++◌, length, IsSome, slice_get, Some, None, Option, refl, ap, arith, AllByRecursion, Trail, FuncType, SegmentOut, ValType, func_space, func_type_in, global_space, imported_global_space, imported_globals, memory_space, table_space, Code, ElementEntry, GlobalEntry, LimitsEntry, SegmentEntry, Start, Module, IsMaximum, shape_of, LinkedSet, NamedModule, func_at, Program, array_named, func_named, primitive, module_is, memory_object, memory_seen, table_object, table_seen, ElementsAgree, IsCallable, MemoryAgrees, PointersAreSet, TableAgrees, Together, callee, function_name, memory_arg, table_arg, StandsFor, bounds_label, data_name, max_number, tests_bounds}
+use Rattle.c_unit.proofs.Common.{◌≡◌, ℕ, suc, ◌+◌, ◌^◌, ◌<◌, ◌≤◌, true, false, List, [], ◌∷◌, ◌++◌, length, IsSome, slice_get, Some, None}
+use Rattle.c_unit.proofs.Common.{Option, refl, ap, arith, AllByRecursion, Trail, FuncType, SegmentOut, ValType, func_space, func_type_in}
+use Rattle.c_unit.proofs.Common.{global_space, imported_global_space, imported_globals, memory_space, table_space, Code, ElementEntry}
+use Rattle.c_unit.proofs.Common.{GlobalEntry, LimitsEntry, SegmentEntry, Start, Module, IsMaximum, shape_of, LinkedSet, NamedModule}
+use Rattle.c_unit.proofs.Common.{func_at, Program, array_named, func_named, primitive, module_is, memory_object, memory_seen, table_object}
+use Rattle.c_unit.proofs.Common.{table_seen, ElementsAgree, IsCallable, MemoryAgrees, PointersAreSet, TableAgrees, Together, callee}
+use Rattle.c_unit.proofs.Common.{function_name, memory_arg, table_arg, StandsFor, bounds_label, data_name, max_number, tests_bounds}
 use Rattle.w2c_base.specs.declared.value.ValType.TheVariants as type
 use Rattle.wasm_meaning.specs.LinkedSet.{FuncAddress, func_type}
 use Rattle.wasm_meaning.specs.Store as store
 use Rattle.c_meaning.specs.State as state
 use Rattle.c_meaning.specs.Machine as machine
 use Rattle.c_unit.proofs.InitStatements.{Seat, Gets}
-use Rattle.c_unit.proofs.InitObjects.{TableOwner, MemoryOwner, GlobalOwner, table_there, memory_there, table_gets, memory_gets, global_found}
+use Rattle.c_unit.proofs.InitObjects.{TableOwner, MemoryOwner, GlobalOwner, table_there, memory_there, table_gets, memory_gets}
+use Rattle.c_unit.proofs.InitObjects.{global_found}
 use Rattle.c_unit.proofs.InitConstants.{ShapeFits, OffsetFound, offset_found, constant_found}
 use Rattle.c_unit.proofs.InitTests.{HasLocals, IsTrapLabel}
 
@@ -156,10 +163,6 @@ offset_of s g m mach made trail vars code a f fits =
 pub elements_length : (p : _) (s : LinkedSet) (xs : List (Option FuncAddress)) (ys : List (Option state.Element)) → ElementsAgree p s xs ys
     → length ys ≡ length xs
 elements_length p s [] [] a = refl
-elements_length p s [] (y ∷ ys) a = absurd a
-elements_length p s (None ∷ xs) [] a = absurd a
-elements_length p s (Some x ∷ xs) [] a = absurd a
 elements_length p s (None ∷ xs) (None ∷ ys) a = ap suc (elements_length p s xs ys a)
-elements_length p s (None ∷ xs) (Some y ∷ ys) a = absurd a
-elements_length p s (Some x ∷ xs) (None ∷ ys) a = absurd a
 elements_length p s (Some x ∷ xs) (Some y ∷ ys) a = ap suc (elements_length p s xs ys a.1)
+elements_length p s _ _ a = absurd a

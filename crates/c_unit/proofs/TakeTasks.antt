@@ -1,6 +1,18 @@
 -- The statements that take imports against the task Take: a pointer is set, and limits are tested (WebAssembly
 -- Core 1.0, 4.5.4).
-use Rattle.c_unit.proofs.Common.{◌≡◌, ℕ, suc, ◌+◌, ◌/◌, ◌^◌, ◌<◌, ◌≤◌, Bool, true, false, ◌||◌, ◌≢◌, ◌⊎◌, List, [], ◌∷◌, ◌++◌, length, is_some, if◌then◌else◌, slice_get, Some, None, codes, Option, option_map, sym, refl, ap, ◌∙◌, subst, inl, inr, div-one, arith, none-some, same_Some, ⊤, set_same, if_found, named, with_named, Trail, type_of, value, ImportLimits, ValType, Value, I64, imported_globals, is_global_import, GlobalEntry, Import, ImportKind, ImportFunc, ImportGlobal, ImportMemory, ImportTable, Limits, Module, IsMaximum, GlobalAddress, IsMemory, IsTable, LinkedSet, NamedModule, as_memory, as_table, global_at, import_at, memory_at, table_at, Take, Task, do_task, done, limits_fit, tested, with_found, named-with_another, named-with_named, join, Program, func_named, NoEffect, gives, mem_len, mem_max, primitive, tab_len, tab_max, Reaches, Over, Pending, Stopped, go_on, over, call, give, global_name, memory_name, table_name, import_symbol, is_usable, memory_imports, table_imports, global_at_another_place, or_last, or_middle, global_object, global_seen, machine_is, memory_object, memory_seen, objects_at, table_object, table_seen, with_unit, MemoryAgrees, ObjectsAgree, PointsTo, TableAgrees, Together, pointer_name, asks_something, max_number, set_pointer, test_limits, zero_like}
+use Rattle.c_unit.proofs.Common.{◌≡◌, ℕ, suc, ◌+◌, ◌/◌, ◌^◌, ◌<◌, ◌≤◌, Bool, true, false, ◌||◌, ◌≢◌, ◌⊎◌, List, [], ◌∷◌, ◌++◌, length}
+use Rattle.c_unit.proofs.Common.{is_some, if◌then◌else◌, slice_get, Some, None, codes, Option, option_map, sym, refl, ap, ◌∙◌, subst, inl}
+use Rattle.c_unit.proofs.Common.{inr, div-one, arith, none-some, same_Some, ⊤, set_same, if_found, named, with_named, Trail, type_of, value}
+use Rattle.c_unit.proofs.Common.{ImportLimits, ValType, Value, I64, imported_globals, is_global_import, GlobalEntry, Import, ImportKind}
+use Rattle.c_unit.proofs.Common.{ImportFunc, ImportGlobal, ImportMemory, ImportTable, Limits, Module, IsMaximum, GlobalAddress, IsMemory}
+use Rattle.c_unit.proofs.Common.{IsTable, LinkedSet, NamedModule, as_memory, as_table, global_at, import_at, memory_at, table_at, Take}
+use Rattle.c_unit.proofs.Common.{Task, do_task, done, limits_fit, tested, with_found, named-with_another, named-with_named, join, Program}
+use Rattle.c_unit.proofs.Common.{func_named, NoEffect, gives, mem_len, mem_max, primitive, tab_len, tab_max, Reaches, Over, Pending}
+use Rattle.c_unit.proofs.Common.{Stopped, go_on, over, call, give, global_name, memory_name, table_name, import_symbol, is_usable}
+use Rattle.c_unit.proofs.Common.{memory_imports, table_imports, global_at_another_place, or_last, or_middle, global_object, global_seen}
+use Rattle.c_unit.proofs.Common.{machine_is, memory_object, memory_seen, objects_at, table_object, table_seen, with_unit, MemoryAgrees}
+use Rattle.c_unit.proofs.Common.{ObjectsAgree, PointsTo, TableAgrees, Together, pointer_name, asks_something, max_number, set_pointer}
+use Rattle.c_unit.proofs.Common.{test_limits, zero_like, set_there}
 use Rattle.wasm_meaning.specs.Store as store
 use Rattle.wasm_meaning.specs.Execution as exec
 use Rattle.c_tree.specs.Tree as c
@@ -14,7 +26,7 @@ use Rattle.c_unit.proofs.InitObjects.{TableOwner, MemoryOwner, GlobalOwner, tabl
 use Rattle.c_unit.proofs.Surroundings.{elements_length}
 use Rattle.c_unit.proofs.SegmentTests.{tab_len_is, mem_len_is}
 use Rattle.c_unit.proofs.LimitTests.{Measures, Passes, Fails, CanTest, limits_tested}
-use Rattle.c_unit.proofs.OwnObjects.{set_gets, own_kept}
+use Rattle.c_unit.proofs.OwnObjects.{own_kept}
 use Rattle.c_unit.proofs.Small.{behind_letter, same_or_less}
 
 -- the variable of a pointer to an object, and that of the global with this number among those that the module defines,
@@ -141,7 +153,7 @@ pointer_set s g m i object a table memory number rest mach made trail vars p her
       (own_kept g.program s g.unit mach made trail store.no_objects store.no_objects x' here.nothing agree
       (λ t is. absurd cc) here.together);
   x = x';
-  x_is = set_gets mach.units g.unit here.x x' here.x_is;
+  x_is = set_there mach.units g.unit here.x x' here.x_is;
   declared = record {
     table = here.declared.table;
     memory = here.declared.memory;
@@ -192,7 +204,7 @@ pointer_set s g m i object a table memory number rest mach made trail vars p her
 
     seen : (name : state.Name) → machine.var_in after (record { unit = g.unit; name = name }) ≡ named name x'.vars
     seen name = ap (λ (found : Option state.Objects). if_found found (λ o. named name o.vars))
-        (set_gets mach.units g.unit here.x x' here.x_is)
+        (set_there mach.units g.unit here.x x' here.x_is)
 
     before : (name : state.Name) → machine.var_in mach (record { unit = g.unit; name = name }) ≡ named name here.x.vars
     before name = ap (λ (found : Option state.Objects). if_found found (λ o. named name o.vars)) here.x_is

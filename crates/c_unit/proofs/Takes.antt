@@ -1,5 +1,8 @@
 -- What the init function does for imports.
-use Rattle.c_unit.proofs.Common.{◌≡◌, ℕ, zero, suc, ◌+◌, ◌<◌, ◌≤◌, Bool, true, false, not, List, [], ◌∷◌, ◌++◌, length, get_or, drop, if◌then◌else◌, Some, None, filter, sym, refl, ap, ◌∙◌, append_assoc, append-nil, arith, drop_all, is_func_import, is_global_import, Import, ImportKind, ImportFunc, ImportGlobal, ImportMemory, ImportTable, at_front, Name, NamedModule, import_symbol, is_usable, label_name, pointer_name, limits_label, n64, set_pointer, size_name, take_stmts, takes_from, test_min, pointer_set}
+use Rattle.c_unit.proofs.Common.{◌≡◌, ℕ, zero, suc, ◌+◌, ◌<◌, ◌≤◌, Bool, true, false, not, List, [], ◌∷◌, ◌++◌, length, drop, if◌then◌else◌}
+use Rattle.c_unit.proofs.Common.{Some, None, filter, sym, refl, ap, ◌∙◌, append-nil, arith, drop_all, is_func_import, is_global_import}
+use Rattle.c_unit.proofs.Common.{Import, ImportKind, ImportFunc, ImportGlobal, Name, NamedModule, import_symbol, is_usable, label_name}
+use Rattle.c_unit.proofs.Common.{pointer_name, limits_label, n64, set_pointer, size_name, take_stmts, takes_from, test_min, pointer_set}
 use Rattle.c_tree.specs.Tree as tree
 use Rattle.c_tree.specs.declared.tree.COp.TheVariants as op
 use Rattle.c_symbols.specs.Reached.{usable_symbol}
@@ -30,18 +33,14 @@ func_takes_nothing m number i is = at i.kind refl is
   where
     at : (k : ImportKind) → i.kind ≡ k → is_func_import i ≡ true → take_stmts m number i ≡ []
     at (ImportFunc t) e h = rw e refl
-    at (ImportTable l) e h = let off : is_func_import i ≡ false = rw e refl in cc
-    at (ImportMemory l) e h = let off : is_func_import i ≡ false = rw e refl in cc
-    at (ImportGlobal t mutable) e h = let off : is_func_import i ≡ false = rw e refl in cc
+    at _ e h = let off : is_func_import i ≡ false = rw e refl in cc
 
 func_is_no_global : (i : Import) → is_func_import i ≡ true → is_global_import i ≡ false
 func_is_no_global i is = at i.kind refl is
   where
     at : (k : ImportKind) → i.kind ≡ k → is_func_import i ≡ true → is_global_import i ≡ false
-    at (ImportFunc t) e h = rw e refl
-    at (ImportTable l) e h = rw e refl
-    at (ImportMemory l) e h = rw e refl
     at (ImportGlobal t mutable) e h = let off : is_func_import i ≡ false = rw e refl in cc
+    at _ e h = rw e refl
 
 pub takes_all : (m : NamedModule) (number : ℕ) (imports : List Import)
     → takes_from m number (filter (λ i. not (is_func_import i)) imports) ≡ takes_from m number imports
@@ -57,17 +56,6 @@ takes_all m number (i ∷ imports) = at (is_func_import i) refl (λ n. takes_all
         ∙ ap (λ g. takes_from m (if g then suc number else number) imports) (sym (func_is_no_global i e))
         ∙ ap (λ ys. ys ++ takes_from m (if is_global_import i then suc number else number) imports) (sym (func_takes_nothing m number i e))
     at false e rest = ap (λ ys. take_stmts m number i ++ ys) (rest (if is_global_import i then suc number else number))
-
-pub takes_next : (m : NamedModule) (before after whole : List tree.Stmt) (number : ℕ) (xs items : List Import) (i : ℕ) (x : Import)
-    → items ≡ xs → i < length items → x ≡ get_or items i x → after ≡ before ++ take_stmts m number x
-    → before ++ takes_from m number (drop i xs) ≡ whole
-    → after ++ takes_from m (if is_global_import x then suc number else number) (drop (i + 1) xs) ≡ whole
-takes_next m before after whole number xs items i x same less read grown so_far =
-    let within : i < length xs = omega (arith, less, ap length same) in
-    let item : x ≡ get_or xs i x = read ∙ ap (λ ys. get_or ys i x) same in
-    let rest = takes_from m (if is_global_import x then suc number else number) (drop (i + 1) xs) in
-    ap (λ ys. ys ++ rest) grown ∙ append_assoc before (take_stmts m number x) rest
-    ∙ ap (λ ys. before ++ takes_from m number ys) (sym (at_front xs i x within item)) ∙ so_far
 
 pub takes_end : (m : NamedModule) (before after : List tree.Stmt) (number : ℕ) (xs items : List Import) (i : ℕ) → items ≡ xs
     → length items ≤ i

@@ -1,11 +1,21 @@
 -- The names of a module's unit are words of C: those of each section.
-use Rattle.c_unit.proofs.Common.{◌≡◌, ℕ, ◌+◌, ◌-◌, ◌^◌, ◌<◌, ◌≤◌, Bool, true, List, [], ◌∷◌, ◌++◌, map, length, Some, None, decimal, Option, sym, refl, subst, arith, nat_tests, All-from_recursion, AllByRecursion, list_all, all_append, all_map, all_join, numbered, ValType, export_part, export_symbol_of-parts, init_symbol_of-parts, list_all-escaped, escaped, export_symbol_of, init_symbol_of, is_identifier_character, kind_letter, SymbolKind, global_type_in, imported_funcs, imported_globals, Export, ExportKind, ExportFunc, ExportGlobal, ExportMemory, ExportTable, GlobalEntry, Import, ImportKind, ImportFunc, ImportGlobal, ImportMemory, ImportTable, LimitsEntry, SegmentEntry, Module, name_of, FitsItem, depth_limit, IsName, NamedItem, NamedModule, c_type_of, func_name, global_name, memory_name, table_name, made_static, helper_of, Helper, Typed, declared_symbols, export_symbol, firsts, global_imports, global_kind, global_symbol, import_symbol, import_type, memory_imports, table_imports, NamedItems, body_of, pointer_name, helpers_of, pointers_of, export_func, data_name, bodies, data_of, declaration, objects_of, prototype, IsAccepted}
+use Rattle.c_unit.proofs.Common.{◌≡◌, ℕ, ◌+◌, ◌-◌, ◌^◌, ◌<◌, ◌≤◌, Bool, true, List, [], ◌∷◌, ◌++◌, map, length, Some, None, decimal, Option}
+use Rattle.c_unit.proofs.Common.{sym, refl, subst, arith, nat_tests, All-from_recursion, AllByRecursion, list_all, all_append, all_map}
+use Rattle.c_unit.proofs.Common.{all_join, numbered, ValType, export_part, export_symbol_of-parts, init_symbol_of-parts, list_all-escaped}
+use Rattle.c_unit.proofs.Common.{escaped, export_symbol_of, init_symbol_of, is_identifier_character, kind_letter, SymbolKind}
+use Rattle.c_unit.proofs.Common.{global_type_in, imported_funcs, imported_globals, Export, ExportKind, ExportFunc, ExportGlobal}
+use Rattle.c_unit.proofs.Common.{ExportMemory, ExportTable, GlobalEntry, Import, ImportKind, ImportFunc, ImportGlobal, ImportMemory}
+use Rattle.c_unit.proofs.Common.{ImportTable, LimitsEntry, SegmentEntry, Module, name_of, FitsItem, depth_limit, IsName, NamedItem}
+use Rattle.c_unit.proofs.Common.{NamedModule, c_type_of, func_name, global_name, memory_name, table_name, made_static, helper_of, Helper}
+use Rattle.c_unit.proofs.Common.{Typed, declared_symbols, export_symbol, firsts, global_imports, global_kind, global_symbol, import_symbol}
+use Rattle.c_unit.proofs.Common.{import_type, memory_imports, table_imports, NamedItems, body_of, pointer_name, helpers_of, pointers_of}
+use Rattle.c_unit.proofs.Common.{export_func, data_name, bodies, data_of, declaration, objects_of, prototype, IsAccepted, both_hold}
 use Rattle.w2c_mangle.specs.declared.symbol.SymbolKind.TheVariants as symbol
 use Rattle.c_tree.specs.declared.tree.CType.TheVariants as type
 use Rattle.c_tree.specs.Tree as tree
 use Rattle.c_tree.specs.Text.{is_word_byte}
 use Rattle.c_tree.proofs.Names.{numbered as numbered_name, external}
-use Rattle.c_tree.proofs.Proper.{both_true, digits_words, all_digits}
+use Rattle.c_tree.proofs.Proper.{digits_words, all_digits}
 use Rattle.c_tree.proofs.TreeIsProper.{decimal_digits}
 use Rattle.c_tree.proofs.TestsTell.{unit_tells}
 use Rattle.c_unit.proofs.BodiesAt.{BodyAt, body_at}
@@ -23,15 +33,12 @@ word_byte b h = grind (arith, nat_tests)
 
 all_words : (bytes : List ℕ) → list_all is_identifier_character bytes ≡ true → list_all is_word_byte bytes ≡ true
 all_words [] h = refl
-all_words (b ∷ bytes) h = let both = both_true (is_identifier_character b) (list_all is_identifier_character bytes) h in
+all_words (b ∷ bytes) h = let both = both_hold (is_identifier_character b) (list_all is_identifier_character bytes) h in
     rw (word_byte b both.0) (all_words bytes both.1)
 
 kind_word : (k : SymbolKind) → is_word_byte (kind_letter k) ≡ true
 kind_word symbol.Func = refl
-kind_word symbol.Table = refl
-kind_word symbol.Memory = refl
-kind_word symbol.Const = refl
-kind_word symbol.Var = refl
+kind_word _ = refl
 
 escaped_words : (n : List ℕ) → AllByRecursion (λ b. b < 256) n → list_all is_word_byte (escaped n) ≡ true
 escaped_words n small = all_words (escaped n) (list_all-escaped n (All-from_recursion (λ b. b < 256) n small))

@@ -1,13 +1,13 @@
 -- The items of a unit one after the other.
-use Rattle.c_unit.proofs.Common.{◌≡◌, ℕ, List, [], ◌∷◌, ◌++◌, map, drop, slice_get, None, flat_map, sym, refl, ap, ◌∙◌, append_assoc, numbered, Import, LimitsEntry, SegmentEntry, Name, CType, NamedModule, global_name, memory_name, table_name, global_imports, import_type, memory_imports, table_imports, pointer_name, pointers_of, bytes_if, data_item, data_of, global_item, items, variable, from_data, from_declared, from_tables, global_pointer}
+use Rattle.c_unit.proofs.Common.{◌≡◌, ℕ, List, [], ◌∷◌, ◌++◌, map, drop, slice_get, None, flat_map, sym, refl, ap, ◌∙◌, append_assoc}
+use Rattle.c_unit.proofs.Common.{numbered, Import, LimitsEntry, SegmentEntry, Name, CType, NamedModule, global_name, memory_name}
+use Rattle.c_unit.proofs.Common.{table_name, global_imports, import_type, memory_imports, table_imports, pointer_name, pointers_of}
+use Rattle.c_unit.proofs.Common.{bytes_if, data_item, data_of, global_item, items, variable, from_data, from_declared, from_tables}
+use Rattle.c_unit.proofs.Common.{global_pointer, map-append}
 use Rattle.c_tree.specs.declared.tree.CType.TheVariants as c_type
 use Rattle.c_tree.specs.Tree as tree
 use Rattle.c_unit.specs.Arrays.{array_of}
 use Rattle.c_unit.proofs.Parted.{past_all}
-
-map_append : {A B : Type 0} (f : A → B) (xs ys : List A) → map f (xs ++ ys) ≡ map f xs ++ map f ys
-map_append f [] ys = refl
-map_append f (x ∷ xs) ys = ap (λ zs. f x ∷ zs) (map_append f xs ys)
 
 pub map_twice : {A B C : Type 0} (g : B → C) (f : A → B) (xs : List A) → map g (map f xs) ≡ map (λ x. g (f x)) xs
 map_twice g f [] = refl
@@ -15,7 +15,7 @@ map_twice g f (x ∷ xs) = ap (λ zs. g (f x) ∷ zs) (map_twice g f xs)
 
 arrays : (ds : List (ℕ × SegmentEntry)) → map array_of (flat_map bytes_if ds) ≡ flat_map data_item ds
 arrays [] = refl
-arrays (d ∷ ds) = map_append array_of (bytes_if d) (flat_map bytes_if ds) ∙ ap (λ xs. map array_of (bytes_if d) ++ xs) (arrays ds)
+arrays (d ∷ ds) = map-append array_of (bytes_if d) (flat_map bytes_if ds) ∙ ap (λ xs. map array_of (bytes_if d) ++ xs) (arrays ds)
     ∙ ap (λ xs. xs ++ flat_map data_item ds) (one d.1.bytes)
   where
     one : (bytes : List ℕ) → map array_of (elim bytes [ [] ↦ [] | b ∷ rest ↦ (d.0, d.1.bytes) ∷ [] ]) ≡
@@ -46,7 +46,7 @@ pointers m rest =
     three : (a b c : List (CType × Name)) → map as_variable (a ++ (b ++ c)) ++ rest ≡ map as_variable a ++
         (map as_variable b ++ (map as_variable c ++ rest))
     three a b c =
-        ap (λ xs. xs ++ rest) (map_append as_variable a (b ++ c) ∙ ap (λ xs. map as_variable a ++ xs) (map_append as_variable b c))
+        ap (λ xs. xs ++ rest) (map-append as_variable a (b ++ c) ∙ ap (λ xs. map as_variable a ++ xs) (map-append as_variable b c))
         ∙ append_assoc (map as_variable a) (map as_variable b ++ map as_variable c) rest
         ∙ ap (λ xs. map as_variable a ++ xs) (append_assoc (map as_variable b) (map as_variable c) rest)
 

@@ -1,5 +1,6 @@
 -- Segments with and without bytes.
-use Rattle.c_unit.proofs.Common.{◌≡◌, ℕ, ◌<◌, ◌≤◌, List, [], ◌∷◌, ◌++◌, map, length, sym, refl, ap, ◌∙◌, append-nil, arith, Bor, map_push, SegmentEntry, bytes_if, bytes_of}
+use Rattle.c_unit.proofs.Common.{◌≡◌, ℕ, ◌<◌, ◌≤◌, List, [], ◌∷◌, ◌++◌, map, length, sym, refl, ap, ◌∙◌, append-nil, arith, Bor, map_push}
+use Rattle.c_unit.proofs.Common.{SegmentEntry, bytes_if, bytes_of}
 
 abbrev single : ℕ → List ℕ → List (ℕ × List ℕ)
 single n bytes = (n, bytes) ∷ []

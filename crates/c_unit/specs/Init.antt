@@ -1,7 +1,8 @@
 -- The init function of a module's unit (WebAssembly Core 1.0, 4.5.4 instantiation): for each task of the
 -- instantiation a statement at least, in the order of the tasks. A test that fails goes to a trap at the
 -- end, where no object is changed.
-use Rattle.std.specs.Prelude.{ℕ, zero, suc, nat_lt, ◌+◌, not, ◌||◌, Bool, true, false, if◌then◌else◌, List, [], ◌∷◌, ◌++◌, map, filter, flat_map, length, codes, decimal, is_some, Option, Some, None, unwrap_or}
+use Rattle.std.specs.Prelude.{ℕ, zero, suc, nat_lt, ◌+◌, not, ◌||◌, Bool, true, false, if◌then◌else◌, List, [], ◌∷◌, ◌++◌, map, filter}
+use Rattle.std.specs.Prelude.{flat_map, length, codes, decimal, is_some, Option, Some, None, unwrap_or}
 use Rattle.std.specs.List.{list_any}
 use Rattle.w2c_base.specs.declared.signature.FuncType.{FuncType}
 use Rattle.w2c_base.specs.declared.trap.TrapKind.TheVariants as trap
@@ -16,7 +17,8 @@ use Rattle.wasm_tree.specs.declared.entries.GlobalEntry.{GlobalEntry}
 use Rattle.wasm_tree.specs.declared.entries.ElementEntry.{ElementEntry}
 use Rattle.wasm_tree.specs.declared.entries.SegmentEntry.{SegmentEntry}
 use Rattle.wasm_tree.specs.declared.entries.Start.{Start}
-use Rattle.wasm_tree.specs.declared.entries.ImportKind.TheVariants.{Func as ImportFunc, Table as ImportTable, Memory as ImportMemory, Global as ImportGlobal}
+use Rattle.wasm_tree.specs.declared.entries.ImportKind.TheVariants.{Func as ImportFunc, Table as ImportTable, Memory as ImportMemory}
+use Rattle.wasm_tree.specs.declared.entries.ImportKind.TheVariants.{Global as ImportGlobal}
 use Rattle.wasm_tree.specs.IndexSpaces.{func_type_in, is_func_import, is_global_import, imported_globals}
 use Rattle.wasm_meaning.specs.Operators.{pattern_of}
 use Rattle.wasm_meaning.specs.LinkedSet.{NamedModule}
@@ -25,7 +27,7 @@ use Rattle.c_tree.specs.declared.tree.Num.TheVariants.{N32, N64}
 use Rattle.c_tree.specs.declared.tree.COp.TheVariants as op
 use Rattle.c_tree.specs.Tree as tree
 use Rattle.c_tree.specs.Scope.{Name}
-use Rattle.c_prelude.specs.Pieces as pieces
+use Rattle.c_tree.specs.Makers as makers
 use Rattle.alike.specs.Alike.{memory_name, table_name, global_name}
 use Rattle.c_body.specs.Names.{pointer_name, label_name}
 use Rattle.c_symbols.specs.Symbols.{import_symbol, is_usable}
@@ -238,8 +240,8 @@ init_stmts m =
     ++ (flat_map (write_data m.tree) (numbered m.tree.segments)
     ++ (start_stmts m m.tree.start
     ++ (tree.ReturnNone ∷ []
-    ++ (trap_if (tests_limits m.tree) limits_label (pieces.trap trap.ImportLimits)
-    ++ trap_if (tests_bounds m.tree) bounds_label (pieces.trap trap.SegmentOut))))))))))))
+    ++ (trap_if (tests_limits m.tree) limits_label (makers.trap trap.ImportLimits)
+    ++ trap_if (tests_bounds m.tree) bounds_label (makers.trap trap.SegmentOut))))))))))))
 
 abbrev pub init_func : NamedModule → tree.Func
 init_func m = record {

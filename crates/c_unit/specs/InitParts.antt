@@ -7,7 +7,7 @@ use Rattle.wasm_tree.specs.declared.tree.Module.{Module}
 use Rattle.wasm_tree.specs.IndexSpaces.{is_func_import}
 use Rattle.wasm_meaning.specs.LinkedSet.{NamedModule}
 use Rattle.c_tree.specs.Tree as tree
-use Rattle.c_prelude.specs.Pieces as pieces
+use Rattle.c_tree.specs.Makers as makers
 use Rattle.c_unit.specs.Init as of
 
 -- what is imported and what the module defines, behind other statements
@@ -31,8 +31,8 @@ abbrev pub ending : NamedModule → List tree.Stmt → List tree.Stmt
 ending m before =
     (((before ++ of.start_stmts m m.tree.start)
     ++ (tree.ReturnNone ∷ []))
-    ++ of.trap_if (of.tests_limits m.tree) of.limits_label (pieces.trap trap.ImportLimits))
-    ++ of.trap_if (of.tests_bounds m.tree) of.bounds_label (pieces.trap trap.SegmentOut)
+    ++ of.trap_if (of.tests_limits m.tree) of.limits_label (makers.trap trap.ImportLimits))
+    ++ of.trap_if (of.tests_bounds m.tree) of.bounds_label (makers.trap trap.SegmentOut)
 
 -- the local variables, behind others
 abbrev pub put_locals : Module → List tree.Local → List tree.Local

@@ -16,7 +16,7 @@ use Rattle.c_tree.specs.declared.tree.Header.{Header}
 use Rattle.c_tree.specs.Tree as tree
 use Rattle.c_tree.specs.Scope.{Name}
 use Rattle.c_tree.specs.Rules.{proper_types}
-use Rattle.c_meaning.specs.Linking.{c_type_of}
+use Rattle.c_tree.specs.TypesInC.{c_type_of}
 use Rattle.c_prelude.specs.Helpers.{helper_of}
 use Rattle.alike.specs.Alike.{memory_name, table_name, global_name}
 use Rattle.c_symbols.specs.Symbols.{Typed, export_symbol, export_type}

@@ -5,7 +5,8 @@ use Rattle.std.specs.List.{AllByRecursion}
 use Rattle.w2c_base.specs.Run.{Reply, Host}
 use Rattle.w2c_mangle.specs.declared.symbol.SymbolKind.TheVariants.{Func}
 use Rattle.w2c_mangle.specs.Symbols.{export_symbol_of}
-use Rattle.wasm_valid.specs.Verdict.{IsValid}
+use Rattle.wasm_tree.specs.Within.{WithinLimits}
+use Rattle.wasm_typing.specs.Verdict.{IsValid}
 use Rattle.wasm_meaning.specs.LinkedSet.{LinkedSet, NamedModule, IsLinked}
 use Rattle.wasm_meaning.specs.Execution as exec
 use Rattle.wasm_meaning.specs.Run.{ListedCall, Fits, wasm_run}
@@ -15,14 +16,13 @@ use Rattle.c_meaning.specs.Linking.{Program, SymbolCall, link_refusal}
 use Rattle.c_meaning.specs.Run.{CRun, c_run}
 use Rattle.c_meaning.specs.Run as c
 use Rattle.alike.specs.Alike.{Alike}
-use Rattle.wasm_spelling.specs.Places.{IsFormed}
 use Rattle.c_body.specs.Serves.{AreServed}
 use Rattle.c_unit.specs.Items.{items}
 
--- a module that has a file and is valid, under a name of 1 to 1,024 bytes
+-- a module that is valid and within the limits, under a name of 1 to 1,024 bytes
 pub record IsAccepted (m : NamedModule) : Type 0 where
   pub valid : IsValid m.tree
-  pub formed : IsFormed m.tree
+  pub within : WithinLimits m.tree
   pub named : 1 ≤ length m.name
   pub short : length m.name ≤ 1024
   pub bytes : All (λ b. b < 256) m.name

@@ -1,13 +1,15 @@
 -- What is fixed of the unit of a module, whatever helpers, variables and statements it has (C11, 6.9): the
 -- functions that other units see, and the names of its own objects.
-use Rattle.std.specs.Prelude.{◌≡◌, ◌↔◌, ℕ, ◌+◌, ◌⊎◌, true, List, [], ◌∷◌, ◌++◌, map, filter, filter_map, slice_get, is_some, Option, Some, None}
+use Rattle.std.specs.Prelude.{◌≡◌, ◌↔◌, ℕ, ◌+◌, ◌⊎◌, true, List, [], ◌∷◌, ◌++◌, map, filter, filter_map, slice_get, is_some, Option, Some}
+use Rattle.std.specs.Prelude.{None}
 use Rattle.std.specs.List.{Contains, AllByRecursion}
 use Rattle.w2c_mangle.specs.Symbols.{init_symbol_of}
 use Rattle.wasm_tree.specs.declared.tree.Module.{Module}
 use Rattle.wasm_tree.specs.declared.entries.GlobalEntry.{GlobalEntry}
 use Rattle.wasm_tree.specs.declared.entries.Import.{Import}
 use Rattle.wasm_tree.specs.declared.entries.Export.{Export}
-use Rattle.wasm_tree.specs.declared.entries.ExportKind.TheVariants.{Func as ExportFunc, Table as ExportTable, Memory as ExportMemory, Global as ExportGlobal}
+use Rattle.wasm_tree.specs.declared.entries.ExportKind.TheVariants.{Func as ExportFunc, Table as ExportTable, Memory as ExportMemory}
+use Rattle.wasm_tree.specs.declared.entries.ExportKind.TheVariants.{Global as ExportGlobal}
 use Rattle.wasm_tree.specs.IndexSpaces.{func_type_in, imported_globals}
 use Rattle.wasm_meaning.specs.LinkedSet.{NamedModule}
 use Rattle.c_tree.specs.declared.tree.CType.{CType}
@@ -16,10 +18,12 @@ use Rattle.c_tree.specs.Tree as tree
 use Rattle.c_tree.specs.Scope.{Name, func_type_of, is_among}
 use Rattle.c_tree.specs.FirstBroken.{KeepsRules}
 use Rattle.c_tree.specs.WellFormed.{IsWellFormed}
-use Rattle.c_meaning.specs.Linking.{Definition, defined, defined_for_all, external_functions, c_type_of}
+use Rattle.c_tree.specs.TypesInC.{c_type_of}
+use Rattle.c_meaning.specs.Linking.{Definition, defined, defined_for_all, external_functions}
 use Rattle.alike.specs.Alike.{memory_name, table_name, func_name, global_name}
 use Rattle.w2c_base.specs.Lookup.{numbered}
-use Rattle.c_symbols.specs.Symbols.{c_func_type_if, table_imports, memory_imports, global_imports, import_symbol, import_type, symbol_type, export_symbol, export_type}
+use Rattle.c_symbols.specs.Symbols.{c_func_type_if, table_imports, memory_imports, global_imports, import_symbol, import_type, symbol_type}
+use Rattle.c_symbols.specs.Symbols.{export_symbol, export_type}
 use Rattle.c_body.specs.Agree.{IsDefined}
 use Rattle.c_unit.specs.Items.{items_of}
 use Rattle.c_unit.specs.Sets.{IsAccepted}

@@ -4,14 +4,13 @@ ghost use Rattle.c_unit.specs.Items.{header_of};
 ghost use Rattle.c_unit.specs.Lines.{line_of};
 ghost use Rattle.c_symbols.specs.Named.{named_of};
 
-use c_prelude::name_of;
-use c_symbols::{Indexes, c_types};
-use c_tree::{CType, CTypes, Header, HeaderLines};
+use c_symbols::Indexes;
+use c_tree::{CType, CTypes, Header, HeaderLines, c_types, name_of};
 use std::alloc::Global;
 use w2c_base::Memory;
 use w2c_mangle::init_symbol;
 use wasm_tree::Export;
-use wasm_valid::ValidModule;
+use wasm_typing::ValidModule;
 
 /// The header of a module under a name: it declares the init function, and then the function of each
 /// export.
@@ -43,7 +42,7 @@ fn header_lines(alloc: Global, indexes: &Indexes) -> Result<HeaderLines, Memory>
     Ok(lines)
 }
 
-#[tactic(auto, using(c_symbols::proofs::SameTypes::proper_params))]
+#[tactic(auto, using(c_tree::proofs::TypesInC::proper_params))]
 fn put_line(
     alloc: Global,
     lines: &mut HeaderLines,

@@ -6,7 +6,7 @@ ghost use Rattle.w2c_base.specs.Lookup.{if_found};
 ghost use Rattle.wasm_tree.specs.IndexSpaces.{type_in};
 ghost use Rattle.c_tree.specs.Tree as tree;
 ghost use Rattle.c_tree.specs.View.{item_of};
-ghost use Rattle.c_meaning.specs.Linking.{c_params_of, c_type_of};
+ghost use Rattle.c_tree.specs.TypesInC.{c_params_of, c_type_of};
 ghost use Rattle.alike.specs.Alike.{memory_name, table_name};
 ghost use Rattle.c_body.specs.Body.{body_of, defined_at, no_func};
 ghost use Rattle.c_unit.specs.Init.{data_name};
@@ -14,12 +14,10 @@ ghost use Rattle.c_unit.specs.Items as of;
 ghost use Rattle.c_symbols.specs.Named.{pair_of};
 ghost use Rattle.c_unit.specs.Prototypes.{prototype_of, bare_params as bare_params_of};
 
-use crate::passing::no_params;
 use crate::source::Source;
 use c_body::{func_name, with_number};
-use c_prelude::name_of;
-use c_symbols::{Symbol, c_result, c_type};
-use c_tree::{CType, Func, Item, Name, Params};
+use c_symbols::{MEMORY_NAME, Symbol, TABLE_NAME};
+use c_tree::{CType, Func, Item, Name, Params, c_result, c_type, name_of, no_params};
 use std::alloc::Global;
 use w2c_base::{FuncType, Memory, ValType};
 use wasm_tree::{GlobalEntry, Module, SegmentEntry};
@@ -33,13 +31,13 @@ pub(crate) fn variable(ty: CType, name: Name) -> Item
 pub(crate) fn table(alloc: Global) -> Result<Item, Memory>
     ensures { IfOk result (λ item. item_of item ≡ of.variable CType.Tab table_name) }
 {
-    Ok(variable(CType::Tab, name_of(alloc, b"t0")?))
+    Ok(variable(CType::Tab, name_of(alloc, TABLE_NAME)?))
 }
 
 pub(crate) fn memory(alloc: Global) -> Result<Item, Memory>
     ensures { IfOk result (λ item. item_of item ≡ of.variable CType.Mem memory_name) }
 {
-    Ok(variable(CType::Mem, name_of(alloc, b"m0")?))
+    Ok(variable(CType::Mem, name_of(alloc, MEMORY_NAME)?))
 }
 
 /// The constant array of a segment with bytes.
@@ -62,7 +60,7 @@ fn some_bare_params(alloc: Global, types: &[ValType]) -> Result<Params, Memory>
 }
 
 // Parameters without names.
-#[tactic(auto, using(c_symbols::proofs::SameTypes::params_none, c_symbols::proofs::SameTypes::params_there))]
+#[tactic(auto, using(c_tree::proofs::TypesInC::params_none, c_tree::proofs::TypesInC::params_there))]
 fn bare_params(alloc: Global, types: &[ValType]) -> Result<Params, Memory>
     ensures { IfOk result (λ params. params ≡ bare_params_of (c_params_of types.now)) }
 {

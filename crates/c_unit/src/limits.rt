@@ -4,6 +4,7 @@ ghost use Rattle.std.specs.Prelude.{◌≡◌, ◌∷◌, [], Some, ◌<◌, ◌
 ghost use Rattle.wasm_tree.specs.IndexSpaces.{is_func_import, is_global_import};
 ghost use Rattle.alike.specs.Alike.{memory_name, table_name};
 ghost use Rattle.c_tree.specs.View.{stmt_of};
+ghost use Rattle.c_tree.specs.Primitives.{primitive_name};
 ghost use Rattle.c_tree.specs.Tree as tree;
 ghost use Rattle.c_tree.specs.declared.tree.COp.TheVariants as op;
 ghost use Rattle.c_body.specs.Names.{label_name as label_name_of, pointer_name as pointer_name_of};
@@ -11,15 +12,21 @@ ghost use Rattle.c_unit.specs.Init as of;
 ghost use Rattle.c_unit.specs.Pointers.{pointer_set};
 
 use crate::source::Source;
-use crate::statements::{jump, n64, pointer_arg, pointer_name, reading, size};
-use c_body::{label_name, operation, with_number};
-use c_tree::{Args, COp, Callee, Expr, Name, Stmt, Stmts};
+use crate::statements::{jump, pointer_arg, reading, size};
+use c_body::{global_name, label_name};
+use c_symbols::{MEMORY_NAME, TABLE_NAME, pointer_name};
+use c_tree::{Args, COp, Callee, Name, Primitive, Stmt, Stmts, n64, operation};
 use std::alloc::Global;
 use w2c_base::Memory;
 use wasm_tree::{Import, ImportKind, Limits};
 
-fn put_reading(alloc: Global, stmts: &mut Stmts, read: &[u8], object: &[u8]) -> Result<(), Memory>
-    ensures { OnOk result (map stmt_of stmts.new ≡ map stmt_of stmts.old ++ of.primitive (Some of.size_name) read.now (tree.Value (tree.Name (pointer_name_of object.now)) ∷ []) ∷ []) }
+fn put_reading(
+    alloc: Global,
+    stmts: &mut Stmts,
+    read: Primitive,
+    object: &[u8],
+) -> Result<(), Memory>
+    ensures { OnOk result (map stmt_of stmts.new ≡ map stmt_of stmts.old ++ of.primitive (Some of.size_name) (primitive_name read) (tree.Value (tree.Name (pointer_name_of object.now)) ∷ []) ∷ []) }
 {
     stmts.push(reading(alloc, read, pointer_arg(alloc, object)?)?)
 }
@@ -37,11 +44,11 @@ fn put_least(
     alloc: Global,
     stmts: &mut Stmts,
     object: &[u8],
-    len_of: &[u8],
+    len_of: Primitive,
     unit: u64,
     min: u32,
 ) -> Result<(), Memory>
-    ensures { OnOk result (map stmt_of stmts.new ≡ map stmt_of stmts.old ++ of.primitive (Some of.size_name) len_of.now (tree.Value (tree.Name (pointer_name_of object.now)) ∷ [])
+    ensures { OnOk result (map stmt_of stmts.new ≡ map stmt_of stmts.old ++ of.primitive (Some of.size_name) (primitive_name len_of) (tree.Value (tree.Name (pointer_name_of object.now)) ∷ [])
         ∷ tree.If op.Lt (tree.Op op.Div (tree.Name of.size_name) (of.n64 unit)) (of.n64 min) (label_name_of of.limits_label) ∷ []) }
 {
     put_reading(alloc, stmts, len_of, object)?;
@@ -53,11 +60,11 @@ fn put_min(
     alloc: Global,
     stmts: &mut Stmts,
     object: &[u8],
-    len_of: &[u8],
+    len_of: Primitive,
     unit: u64,
     min: u32,
 ) -> Result<(), Memory>
-    ensures { OnOk result (map stmt_of stmts.new ≡ map stmt_of stmts.old ++ of.test_min object.now len_of.now unit min) }
+    ensures { OnOk result (map stmt_of stmts.new ≡ map stmt_of stmts.old ++ of.test_min object.now (primitive_name len_of) unit min) }
 {
     if min > 0 {
         put_least(alloc, stmts, object, len_of, unit, min)
@@ -70,10 +77,10 @@ fn put_max(
     alloc: Global,
     stmts: &mut Stmts,
     object: &[u8],
-    max_of: &[u8],
+    max_of: Primitive,
     max: Option<u32>,
 ) -> Result<(), Memory>
-    ensures { OnOk result (map stmt_of stmts.new ≡ map stmt_of stmts.old ++ of.test_max object.now max_of.now max) }
+    ensures { OnOk result (map stmt_of stmts.new ≡ map stmt_of stmts.old ++ of.test_max object.now (primitive_name max_of) max) }
 {
     match max {
         None => Ok(()),
@@ -100,15 +107,22 @@ fn set_pointer(alloc: Global, symbol: Option<Name>, object: &[u8]) -> Result<Stm
 fn put_table(alloc: Global, stmts: &mut Stmts, limits: Limits) -> Result<(), Memory>
     ensures { OnOk result (map stmt_of stmts.new ≡ map stmt_of stmts.old ++ of.test_limits table_name (codes "w2c_tab_len") (codes "w2c_tab_max") 1 limits) }
 {
-    put_min(alloc, stmts, b"t0", b"w2c_tab_len", 1, limits.min)?;
-    put_max(alloc, stmts, b"t0", b"w2c_tab_max", limits.max)
+    put_min(alloc, stmts, TABLE_NAME, Primitive::TabLen, 1, limits.min)?;
+    put_max(alloc, stmts, TABLE_NAME, Primitive::TabMax, limits.max)
 }
 
 fn put_memory(alloc: Global, stmts: &mut Stmts, limits: Limits) -> Result<(), Memory>
     ensures { OnOk result (map stmt_of stmts.new ≡ map stmt_of stmts.old ++ of.test_limits memory_name (codes "w2c_mem_len") (codes "w2c_mem_max") 65536 limits) }
 {
-    put_min(alloc, stmts, b"m0", b"w2c_mem_len", 65_536, limits.min)?;
-    put_max(alloc, stmts, b"m0", b"w2c_mem_max", limits.max)
+    put_min(
+        alloc,
+        stmts,
+        MEMORY_NAME,
+        Primitive::MemLen,
+        65_536,
+        limits.min,
+    )?;
+    put_max(alloc, stmts, MEMORY_NAME, Primitive::MemMax, limits.max)
 }
 
 // The number of the next imported global.
@@ -140,15 +154,15 @@ impl<'a> Source<'a> {
         match import.kind {
             ImportKind::Func(_) => Ok(()),
             ImportKind::Table(limits) => {
-                self.put_pointer(stmts, import, b"t0")?;
+                self.put_pointer(stmts, import, TABLE_NAME)?;
                 put_table(self.alloc, stmts, limits)
             }
             ImportKind::Memory(limits) => {
-                self.put_pointer(stmts, import, b"m0")?;
+                self.put_pointer(stmts, import, MEMORY_NAME)?;
                 put_memory(self.alloc, stmts, limits)
             }
             ImportKind::Global(_, _) => {
-                let name = with_number(self.alloc, b"g", number)?;
+                let name = global_name(self.alloc, number)?;
                 self.put_pointer(stmts, import, name.as_slice())
             }
         }

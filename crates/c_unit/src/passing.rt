@@ -2,14 +2,17 @@
 ghost use Rattle.std.specs.Prelude.{◌≡◌, [], ◌∷◌, map, Some, None, IfOk};
 ghost use Rattle.c_tree.specs.Tree as tree;
 ghost use Rattle.c_tree.specs.View.{arg_of, func_of, stmt_of};
-ghost use Rattle.c_meaning.specs.Linking.{c_type_of};
+ghost use Rattle.c_tree.specs.Makers.{zero_number};
+ghost use Rattle.c_tree.specs.TypesInC.{c_type_of};
 ghost use Rattle.c_unit.specs.Exports as of;
 ghost use Rattle.c_symbols.specs.Typed.{type_of};
 
 use c_body::with_number;
-use c_prelude::name_of;
-use c_symbols::{SymbolType, c_type};
-use c_tree::{Arg, Args, Body, CType, Callee, Expr, Func, Locals, Name, Num, Params, Stmt, Stmts};
+use c_symbols::SymbolType;
+use c_tree::{
+    Arg, Args, Body, CType, Callee, Expr, Func, Locals, Name, Params, Stmt, Stmts, c_type, name_of,
+    no_params, zero_number,
+};
 use std::alloc::Global;
 use w2c_base::{Memory, ValType};
 
@@ -25,16 +28,6 @@ fn result_name(alloc: Global) -> Result<Name, Memory>
     name_of(alloc, b"r")
 }
 
-fn first_value(ty: CType) -> Num
-    ensures { result ≡ of.first_value ty }
-{
-    match ty {
-        CType::U32 => Num::N32(0),
-        CType::U64 => Num::N64(0),
-        _ => Num::Plain(0),
-    }
-}
-
 // Each parameter by its number.
 fn numbered_params(alloc: Global, types: &[ValType]) -> Result<Params, Memory>
     ensures { IfOk result (λ params. params ≡ of.params_from 0 (map c_type_of types.now)) }
@@ -45,15 +38,6 @@ fn numbered_params(alloc: Global, types: &[ValType]) -> Result<Params, Memory>
         params.push((c_type(*ty), Some(param_name(alloc, k)?)))?;
         k += 1;
     }
-    Ok(params)
-}
-
-/// The one parameter `void`.
-pub(crate) fn no_params(alloc: Global) -> Result<Params, Memory>
-    ensures { IfOk result (λ params. params ≡ (CType.Void, None) ∷ []) }
-{
-    let mut params = Params::new(alloc);
-    params.push((CType::Void, None))?;
     Ok(params)
 }
 
@@ -78,7 +62,7 @@ fn args(alloc: Global, types: &[ValType]) -> Result<Args, Memory>
     Ok(args)
 }
 
-#[tactic(auto, using(c_symbols::proofs::SameTypes::proper_params))]
+#[tactic(auto, using(c_tree::proofs::TypesInC::proper_params))]
 fn external(
     alloc: Global,
     ty: SymbolType,
@@ -135,10 +119,10 @@ fn passes_nothing(
 }
 
 fn result_local(alloc: Global, ty: CType) -> Result<Locals, Memory>
-    ensures { IfOk result (λ locals. locals ≡ (ty, of.result_name, of.first_value ty) ∷ []) }
+    ensures { IfOk result (λ locals. locals ≡ (ty, of.result_name, zero_number ty) ∷ []) }
 {
     let mut locals = Locals::new(alloc);
-    locals.push((ty, result_name(alloc)?, first_value(ty)))?;
+    locals.push((ty, result_name(alloc)?, zero_number(ty)))?;
     Ok(locals)
 }
 
@@ -172,7 +156,7 @@ fn passes_value(
     symbol: Name,
     name: Option<Name>,
 ) -> Result<Func, Memory>
-    ensures { IfOk result (λ f. func_of f ≡ of.external (type_of ty.entry) symbol ((ty.entry.result, of.result_name, of.first_value ty.entry.result) ∷ [])
+    ensures { IfOk result (λ f. func_of f ≡ of.external (type_of ty.entry) symbol ((ty.entry.result, of.result_name, zero_number ty.entry.result) ∷ [])
         (of.call_if name (Some of.result_name) (map c_type_of ty.entry.params.now) ∷ tree.Return (tree.Value (tree.Name of.result_name)) ∷ [])) }
 {
     let locals = result_local(alloc, ty.result)?;
@@ -181,7 +165,7 @@ fn passes_value(
 }
 
 /// A function that passes calls on to a name, where that may be called.
-#[tactic(auto, using(c_symbols::proofs::SameTypes::proper_params))]
+#[tactic(auto, using(c_tree::proofs::TypesInC::proper_params))]
 pub(crate) fn passes_on(
     alloc: Global,
     ty: SymbolType,

@@ -14,7 +14,7 @@ use c_tree::{Func, Item, Name};
 use std::alloc::Global;
 use w2c_base::Memory;
 use wasm_tree::Module;
-use wasm_valid::ValidModule;
+use wasm_typing::ValidModule;
 
 /// A module under its name, with what its bodies read of it, its symbols among that.
 pub(crate) struct Source<'a> {

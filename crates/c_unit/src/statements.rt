@@ -2,27 +2,18 @@
 ghost use Rattle.std.specs.Prelude.{◌≡◌, ◌++◌, ◌∷◌, [], map, IfOk, OnOk, Some};
 ghost use Rattle.c_tree.specs.Tree as tree;
 ghost use Rattle.c_tree.specs.View.{arg_of, expr_of, stmt_of};
+ghost use Rattle.c_tree.specs.Makers.{trap as trap_of};
+ghost use Rattle.c_tree.specs.Primitives.{primitive_name};
 ghost use Rattle.c_body.specs.Names as names;
-ghost use Rattle.c_prelude.specs.Pieces.{trap as trap_of};
 ghost use Rattle.c_unit.specs.Init as of;
 
-use c_body::{label, one_arg};
-use c_prelude::{name_of, trap};
-use c_tree::{Arg, Args, COp, Callee, Expr, Name, Num, Stmt, Stmts};
+use c_body::label;
+use c_symbols::pointer_name;
+use c_tree::{
+    Arg, COp, Expr, Name, Primitive, Stmt, Stmts, call_primitive, name_of, one_arg, trap,
+};
 use std::alloc::Global;
 use w2c_base::{Memory, TrapKind};
-
-pub(crate) fn n32(n: u32) -> Expr
-    ensures { expr_of result ≡ of.n32 n }
-{
-    Expr::Num(Num::N32(n))
-}
-
-pub(crate) fn n64(n: u64) -> Expr
-    ensures { expr_of result ≡ of.n64 n }
-{
-    Expr::Num(Num::N64(n))
-}
 
 /// A maximum, or 2 to the power of 32 where there is none.
 pub(crate) fn max_number(max: Option<u32>) -> u64
@@ -34,48 +25,20 @@ pub(crate) fn max_number(max: Option<u32>) -> u64
     }
 }
 
-/// The pointer to an imported object.
-pub(crate) fn pointer_name(alloc: Global, object: &[u8]) -> Result<Name, Memory>
-    ensures { IfOk result (λ name. name ≡ names.pointer_name object.now) }
-{
-    let mut name = name_of(alloc, b"p")?;
-    name.extend(object)?;
-    Ok(name)
-}
-
-/// The same as an argument.
+/// The pointer to an imported object, as an argument.
 pub(crate) fn pointer_arg(alloc: Global, object: &[u8]) -> Result<Arg, Memory>
     ensures { IfOk result (λ a. arg_of a ≡ tree.Value (tree.Name (names.pointer_name object.now))) }
 {
     Ok(Arg::Value(Expr::Name(pointer_name(alloc, object)?)))
 }
 
-/// A call of a function of the runtime.
-pub(crate) fn primitive(
-    alloc: Global,
-    target: Option<Name>,
-    name: &[u8],
-    args: Args,
-) -> Result<Stmt, Memory>
-    ensures { IfOk result (λ s. stmt_of s ≡ of.primitive target name.now (map arg_of args)) }
-{
-    Ok(Stmt::Call(target, Callee::Named(name_of(alloc, name)?), args))
-}
-
-/// An assignment.
-pub(crate) fn set(name: Name, e: Expr) -> Stmt
-    ensures { stmt_of result ≡ of.set name (expr_of e) }
-{
-    Stmt::Set(name, Arg::Value(e))
-}
-
 /// A length or a maximum is read from an object.
-pub(crate) fn reading(alloc: Global, read: &[u8], object: Arg) -> Result<Stmt, Memory>
-    ensures { IfOk result (λ s. stmt_of s ≡ of.primitive (Some of.size_name) read.now (arg_of object ∷ [])) }
+pub(crate) fn reading(alloc: Global, read: Primitive, object: Arg) -> Result<Stmt, Memory>
+    ensures { IfOk result (λ s. stmt_of s ≡ of.primitive (Some of.size_name) (primitive_name read) (arg_of object ∷ [])) }
 {
     let args = one_arg(alloc, object)?;
     let target = name_of(alloc, b"n")?;
-    primitive(alloc, Some(target), read, args)
+    call_primitive(alloc, Some(target), read, args)
 }
 
 /// A jump to a label where two expressions compare so.

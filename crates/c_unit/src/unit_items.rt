@@ -15,16 +15,15 @@ use crate::declarations::declared;
 use crate::global_pointers::global_pointers;
 use crate::items::{array, declaration, memory, table, variable};
 use crate::source::Source;
-use crate::statements::pointer_name;
 use crate::with_bytes::with_bytes;
-use c_body::{helpers, with_number};
+use c_body::{helpers, pointer_to_global};
 use c_prelude::{Helper, helper};
-use c_symbols::Symbol;
+use c_symbols::{MEMORY_NAME, Symbol, TABLE_NAME, pointer_name};
 use c_tree::{CType, Item};
 use std::alloc::Global;
 use w2c_base::Memory;
 use wasm_tree::SegmentEntry;
-use wasm_valid::ValidModule;
+use wasm_typing::ValidModule;
 
 /// What the unit of a module has of each kind, where that is no list of the module's own.
 #[derive(Drop)]
@@ -66,7 +65,7 @@ fn pointer(alloc: Global, ty: CType, object: &[u8]) -> Result<Item, Memory>
 fn global_pointer(alloc: Global, ty: CType, number: usize) -> Result<Item, Memory>
     ensures { IfOk result (λ item. item_of item ≡ of.variable ty (pointer_name_of (global_name number))) }
 {
-    Ok(variable(ty, with_number(alloc, b"pg", number)?))
+    Ok(variable(ty, pointer_to_global(alloc, number)?))
 }
 
 fn declared_item(alloc: Global, symbol: &Symbol) -> Result<Item, Memory>
@@ -146,7 +145,7 @@ impl<'a> UnitItems<'a> {
         let imports = self.source.reached();
         let memories = imports.memories.as_slice();
         match memories.get(n) {
-            Some(_) => Ok(Some(pointer(alloc, CType::PtrMem, b"m0")?)),
+            Some(_) => Ok(Some(pointer(alloc, CType::PtrMem, MEMORY_NAME)?)),
             None => self.at_table_pointers(n.saturating_sub(memories.len())),
         }
     }
@@ -158,7 +157,7 @@ impl<'a> UnitItems<'a> {
         let imports = self.source.reached();
         let tables = imports.tables.as_slice();
         match tables.get(n) {
-            Some(_) => Ok(Some(pointer(alloc, CType::PtrTab, b"t0")?)),
+            Some(_) => Ok(Some(pointer(alloc, CType::PtrTab, TABLE_NAME)?)),
             None => self.at_global_pointers(n.saturating_sub(tables.len())),
         }
     }

@@ -2,7 +2,8 @@
 ghost use Rattle.std.specs.Prelude.{◌≡◌, ◌<◌, option_map, ◌+◌, length, None, ◌++◌, ◌∷◌, [], map, IfOk, OnOk};
 ghost use Rattle.c_tree.specs.Tree as tree;
 ghost use Rattle.c_tree.specs.View.{expr_of, stmt_of};
-ghost use Rattle.alike.specs.Alike.{global_name};
+ghost use Rattle.c_tree.specs.Primitives.{primitive_name};
+ghost use Rattle.alike.specs.Alike.{global_name as global_name_of};
 ghost use Rattle.w2c_base.specs.Lookup.{numbered};
 ghost use Rattle.wasm_tree.specs.IndexSpaces.{imported_globals};
 ghost use Rattle.std.specs.Option.{option_copied};
@@ -11,23 +12,26 @@ ghost use Rattle.c_unit.specs.Init as of;
 ghost use Rattle.c_unit.specs.Single.{single_of};
 
 use crate::source::Source;
-use crate::statements::{max_number, n32, n64, primitive, set};
-use c_body::{operation, pattern_32, pattern_64, three_args, with_number};
-use c_prelude::{name_of, to_64};
-use c_tree::{Arg, COp, Expr, Name, Stmt, Stmts};
+use crate::statements::max_number;
+use c_body::{global_name, pattern_32, pattern_64};
+use c_symbols::{MEMORY_NAME, TABLE_NAME};
+use c_tree::{
+    Arg, COp, Expr, Name, Primitive, Stmt, Stmts, call_primitive, n32, n64, name_of, operation,
+    set, three_args, to_64,
+};
 use std::alloc::Global;
 use w2c_base::Memory;
 use wasm_tree::{Code, Kind, Limits};
 
 // A new table or memory.
-fn made(alloc: Global, maker: &[u8], object: &[u8], limits: Limits) -> Result<Stmt, Memory>
-    ensures { IfOk result (λ s. stmt_of s ≡ of.primitive None maker.now (tree.Address object.now ∷ tree.Value (of.n32 limits.min) ∷ tree.Value (of.n64 (of.max_number limits.max)) ∷ [])) }
+fn made(alloc: Global, maker: Primitive, object: &[u8], limits: Limits) -> Result<Stmt, Memory>
+    ensures { IfOk result (λ s. stmt_of s ≡ of.primitive None (primitive_name maker) (tree.Address object.now ∷ tree.Value (of.n32 limits.min) ∷ tree.Value (of.n64 (of.max_number limits.max)) ∷ [])) }
 {
     let address = Arg::Address(name_of(alloc, object)?);
     let least = Arg::Value(n32(limits.min));
     let most = Arg::Value(n64(max_number(limits.max)));
     let args = three_args(alloc, address, least, most)?;
-    primitive(alloc, None, maker, args)
+    call_primitive(alloc, None, maker, args)
 }
 
 // The one instruction of an expression.
@@ -50,7 +54,7 @@ impl<'a> Source<'a> {
         ensures { OnOk result (map stmt_of stmts.new ≡ map stmt_of stmts.old ++ map (λ t. of.make_table t.limits) self.now.tree.now.tables) }
     {
         for table in self.tree.tables.as_slice() {
-            stmts.push(made(self.alloc, b"w2c_tab_new", b"t0", table.limits)?)?;
+            stmts.push(made(self.alloc, Primitive::TabNew, TABLE_NAME, table.limits)?)?;
         }
         Ok(())
     }
@@ -60,7 +64,7 @@ impl<'a> Source<'a> {
         ensures { OnOk result (map stmt_of stmts.new ≡ map stmt_of stmts.old ++ map (λ t. of.make_memory t.limits) self.now.tree.now.memories) }
     {
         for memory in self.tree.memories.as_slice() {
-            stmts.push(made(self.alloc, b"w2c_mem_new", b"m0", memory.limits)?)?;
+            stmts.push(made(self.alloc, Primitive::MemNew, MEMORY_NAME, memory.limits)?)?;
         }
         Ok(())
     }
@@ -103,9 +107,9 @@ impl<'a> Source<'a> {
     #[tactic(auto, using(crate::proofs::Countable::few_globals, crate::proofs::Counts::counted))]
     pub(crate) fn own_global(&self, number: usize) -> Result<Name, Memory>
         requires { number < length self.now.tree.now.globals }
-        ensures { IfOk result (λ name. name ≡ global_name (imported_globals self.now.tree.now + number)) }
+        ensures { IfOk result (λ name. name ≡ global_name_of (imported_globals self.now.tree.now + number)) }
     {
-        with_number(self.alloc, b"g", self.reached().globals.len() + number)
+        global_name(self.alloc, self.reached().globals.len() + number)
     }
 
     /// The globals that the module defines.

@@ -9,7 +9,7 @@ use crate::unit_items::UnitItems;
 use c_tree::{Header, Unit};
 use std::alloc::Global;
 use w2c_base::Memory;
-use wasm_valid::ValidModule;
+use wasm_typing::ValidModule;
 
 /// The unit of a module under a name, and its header. `UnitItems` gives the same an item at a time.
 pub fn unit(alloc: Global, m: &ValidModule, name: &[u8]) -> Result<(Unit, Header), Memory>

@@ -1,5 +1,7 @@
 -- What is there before the first statement.
-use Rattle.crun.proofs.Common.{◌≡◌, ℕ, List, [], ◌∷◌, map, length, None, sym, refl, ap, ◌∙◌, subst, length-map, all_from, Host, Reply, Trail, unit_of, Program, link_refusal, fresh, TypedMachine, TypedProgram, function_of, hosts_of, HostModule, HaveCounts, machine_at, program_in, symbols_of_hosts, trail_of, Engine}
+use Rattle.crun.proofs.Common.{◌≡◌, ℕ, List, [], ◌∷◌, map, length, None, sym, refl, ap, ◌∙◌, subst, length-map, all_from, Host, Reply}
+use Rattle.crun.proofs.Common.{Trail, unit_of, Program, link_refusal, fresh, TypedMachine, TypedProgram, function_of, hosts_of, HostModule}
+use Rattle.crun.proofs.Common.{HaveCounts, machine_at, program_in, symbols_of_hosts, trail_of, Engine}
 use Rattle.c_tree.specs.FirstBroken.{KeepsRules}
 use Rattle.c_sound.proofs.Changes.{trail_keeps}
 use Rattle.c_sound.proofs.Units.{typed_program}

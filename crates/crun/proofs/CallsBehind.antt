@@ -1,5 +1,10 @@
 -- A call behind those that have ended, as the run of all of them.
-use Rattle.crun.proofs.Common.{◌≡◌, ℕ, ◌+◌, ◌-◌, ◌≤◌, List, [], ◌∷◌, ◌++◌, map, length, Option, sym, refl, ap, ◌∙◌, subst, arith, length-append, append_cancel_left, values_behind, Ask, Call, CallEnded, Event, Phase, Reply, asks_in, values_in, Value, Program, SymbolCall, Entry, Pending, after, begun, c_run, entries_of, Number, UnitFunc, call, item_name, ask_of, events_in, replies_in, Asks, trail_before, trail_behind, HostModule, Asked, Came, SameProgram, machine_at, naming_in, program_in, units_at, BehindAt, IsOutcome, Stands, standing_of, told_by, Engine, Outcome, Standing}
+use Rattle.crun.proofs.Common.{◌≡◌, ℕ, ◌+◌, ◌-◌, ◌≤◌, List, [], ◌∷◌, ◌++◌, map, length, Option, sym, refl, ap, ◌∙◌, subst, arith}
+use Rattle.crun.proofs.Common.{length-append, append_cancel_left, values_behind, Ask, Call, CallEnded, Event, Phase, Reply, asks_in}
+use Rattle.crun.proofs.Common.{values_in, Value, Program, SymbolCall, Entry, Pending, after, begun, c_run, entries_of, Number, UnitFunc}
+use Rattle.crun.proofs.Common.{call, item_name, ask_of, events_in, replies_in, Asks, trail_before, trail_behind, HostModule, Asked, Came}
+use Rattle.crun.proofs.Common.{SameProgram, machine_at, naming_in, program_in, units_at, BehindAt, IsOutcome, Stands, standing_of, told_by}
+use Rattle.crun.proofs.Common.{Engine, Outcome, Standing}
 use Rattle.crun.specs.declared.outcome.Outcome.TheVariants as outcome
 use Rattle.crun.specs.declared.outcome.Standing.TheVariants as standing
 use Rattle.crun.specs.Sessions.{state_of, IsLast, State, SymbolCame, SymbolCamePart}
@@ -178,12 +183,8 @@ module _ {H : Type 0} (m : HostModule H) (old new : Engine H) (steps inits : ℕ
             (ended_behind m old new steps stands.fewer less c asks asked (outcome.Ended value) came calls stands.last told stands.behind
             value refl);
       })
-  call_stands (outcome.Trapped kind) came same now now_is ready calls told others stands is =
-      absurd (let no : standing_of (outcome.Trapped kind) ≡ standing.Ready = sym now_is ∙ ready in cc)
-  call_stands (outcome.Undefined u) came same now now_is ready calls told others stands is =
-      absurd (let no : standing_of (outcome.Undefined u) ≡ standing.Ready = sym now_is ∙ ready in cc)
-  call_stands outcome.OutOfSteps came same now now_is ready calls told others stands is =
-      absurd (let no : standing_of outcome.OutOfSteps ≡ standing.Ready = sym now_is ∙ ready in cc)
+  call_stands o came same now now_is ready calls told others stands is =
+      absurd (let no : standing_of o ≡ standing.Ready = sym now_is ∙ ready in cc)
 
   pub call_asked : SymbolCamePart m old c asks old.left → (calls rest : List SymbolCall) (told : List Event) → Stands m before calls told
       → (more : List Ask) × (asks_in (c_run (program_in m old) (calls ++ c ∷ rest) steps (replies_in new.hosts.journal)).events

@@ -1,5 +1,8 @@
 -- What proofs of this crate cite of std, of the crates below and of specs/, passed on from one place. Declares nothing.
-pub use Rattle.std.proofs.Common.{◌≡◌, ℕ, zero, suc, ◌+◌, ◌-◌, ◌<◌, ◌≤◌, Bool, true, false, not, ◌&&◌, ◌||◌, List, [], ◌∷◌, ◌++◌, map, length, get_or, take, drop, is_some, if◌then◌else◌, slice_get, slice_index_or, Some, None, Err, Option, MatchOption, option_map, zip, flat_map, option_copied, bytes_eq, sym, refl, ap, ◌∙◌, subst, append_assoc, append-nil, arith, length-append, take-append-drop, take_all}
+pub use Rattle.std.proofs.Common.{◌≡◌, ℕ, zero, suc, ◌+◌, ◌-◌, ◌<◌, ◌≤◌, Bool, true, false, not, ◌&&◌, ◌||◌, List, [], ◌∷◌, ◌++◌, map}
+pub use Rattle.std.proofs.Common.{length, get_or, take, drop, is_some, if◌then◌else◌, slice_get, slice_index_or, Some, None, Err, Option}
+pub use Rattle.std.proofs.Common.{MatchOption, option_map, zip, flat_map, option_copied, bytes_eq, sym, refl, ap, ◌∙◌, subst, append_assoc}
+pub use Rattle.std.proofs.Common.{append-nil, arith, length-append, take-append-drop, take_all}
 pub use Rattle.std.proofs.lemmas.List.{append_cancel_left, length-map, map-append, map_push}
 pub use Rattle.std.proofs.lemmas.Option.{slice_get-get_or, slice_get-map}
 pub use Rattle.std.specs.List.{range_with_len}
@@ -12,11 +15,15 @@ pub use Rattle.w2c_base.specs.Lookup.{if_found, named, numbered}
 pub use Rattle.w2c_base.specs.Run.{Ask, Call, CallEnded, Event, Host, Init, Phase, Reply, Trail, asks_in, values_in}
 pub use Rattle.w2c_base.specs.declared.value.Value.{Value}
 pub use Rattle.c_tree.specs.Rules.{are_distinct, is_void}
+pub use Rattle.c_tree.specs.TypesInC.{c_func_type_of}
 pub use Rattle.c_tree.specs.View.{unit_of}
-pub use Rattle.c_meaning.specs.Linking.{Definition, Program, SymbolCall, c_func_type_of, called_func, definition_at, init_functions, link_refusal, symbols_of}
+pub use Rattle.c_meaning.specs.Linking.{Definition, Program, SymbolCall, called_func, definition_at, init_functions, link_refusal}
+pub use Rattle.c_meaning.specs.Linking.{symbols_of}
 pub use Rattle.c_meaning.specs.Machine.{fresh}
-pub use Rattle.c_meaning.specs.Run.{CRun, Ended, Entry, Going, OutOfSteps, Over, Pending, Progress, after, begin_entry, begun, c_run, c_start, came_back, entries_of, go_on, over, run_of}
-pub use Rattle.c_meaning.specs.State.{CValue, FuncAddress, HostFunc, Machine, Name, Number, Objects, State, Stuck, UnitFunc, Vars, Frame as Waiting}
+pub use Rattle.c_meaning.specs.Run.{CRun, Ended, Entry, Going, OutOfSteps, Over, Pending, Progress, after, begin_entry, begun, c_run}
+pub use Rattle.c_meaning.specs.Run.{c_start, came_back, entries_of, go_on, over, run_of}
+pub use Rattle.c_meaning.specs.State.{CValue, FuncAddress, HostFunc, Machine, Name, Number, Objects, State, Stuck, UnitFunc, Vars}
+pub use Rattle.c_meaning.specs.State.{Frame as Waiting}
 pub use Rattle.c_meaning.specs.Step.{Step, Stops, begin, call, first_vars, next}
 pub use Rattle.c_sound.proofs.Runs.{after_typed, all_inits_begin, call_fits, entry_typed}
 pub use Rattle.c_sound.specs.Typed.{Begins, TypedMachine, TypedProgram, TypedRun, may_end}
@@ -38,9 +45,11 @@ pub use Rattle.crun_startup.specs.Called.{AreSymbols}
 pub use Rattle.crun_startup.specs.Entries.{HaveCounts}
 pub use Rattle.crun_startup.specs.Inits.{UnitItem, address_in}
 pub use Rattle.crun_startup.specs.Names.{naming_of, unit_names}
-pub use Rattle.crun.specs.Engines.{BeginsWith, Came, FunctionCame, FunctionCamePart, IfEnded, IsReady, IsStarted, SameProgram, begins_at, entry_in, machine_at, machine_with, naming_in, outcome_in, program_in, units_at}
+pub use Rattle.crun.specs.Engines.{BeginsWith, Came, FunctionCame, FunctionCamePart, IfEnded, IsReady, IsStarted, SameProgram, begins_at}
+pub use Rattle.crun.specs.Engines.{entry_in, machine_at, machine_with, naming_in, outcome_in, program_in, units_at}
 pub use Rattle.crun.specs.HostSymbols.{AreKnown, IsFirstTwice, IsTwiceAt, symbol_in, symbols_of_host, symbols_of_hosts}
-pub use Rattle.crun.specs.Sessions.{AreBegun, BehindAt, IfOver, IsFirst, IsOutcome, Keeps, Stands, init_count, last_value, phase_of, program_of, standing_of, told_by, trail_of}
+pub use Rattle.crun.specs.Sessions.{AreBegun, BehindAt, IfOver, IsFirst, IsOutcome, Keeps, Stands, init_count, last_value, phase_of}
+pub use Rattle.crun.specs.Sessions.{program_of, standing_of, told_by, trail_of}
 pub use Rattle.crun.specs.Shown.{AreFound, memories_of, object_in, tables_of, vars_of}
 pub use Rattle.crun.specs.declared.engine.Engine.{Engine}
 pub use Rattle.crun.specs.declared.outcome.Outcome.{Outcome}

@@ -1,5 +1,13 @@
 -- The run of one function: it begins as the meaning of C begins it, is never stuck, and leaves typed objects where it ended.
-use Rattle.crun.proofs.Common.{◌≡◌, ℕ, true, List, [], ◌∷◌, map, Some, None, Option, sym, refl, ap, ◌∙◌, subst, append-nil, arith, Call, Event, Host, Init, Phase, Reply, Trail, Value, is_void, unit_of, Definition, Program, definition_at, Going, Pending, Progress, after, begun, go_on, CValue, Machine, Number, State, Stuck, Vars, Waiting, Step, Stops, begin, first_vars, next, after_typed, entry_typed, Begins, TypedMachine, TypedProgram, TypedRun, may_end, AreStored, machine_of, Naming, item_name, value_of, UnitObjects, HaveUnitTables, IsLinked, begun_in, below_in, items_at, machine_in, running_in, state_in, LinkedUnit, LinkedThread, answered_keep, hosts_of, Asks, IsThread, Runs, RunsPart, step_at, trail_before, trail_behind, HostModule, Asked, AreSymbols, naming_of, BeginsWith, Came, FunctionCamePart, IfEnded, IsReady, IsStarted, SameProgram, begins_at, entry_in, machine_at, naming_in, outcome_in, program_in, Engine, Outcome}
+use Rattle.crun.proofs.Common.{◌≡◌, ℕ, true, List, [], ◌∷◌, map, Some, None, Option, sym, refl, ap, ◌∙◌, subst, append-nil, arith, Call}
+use Rattle.crun.proofs.Common.{Event, Host, Init, Phase, Reply, Trail, Value, is_void, unit_of, Definition, Program, definition_at, Going}
+use Rattle.crun.proofs.Common.{Pending, Progress, after, begun, go_on, CValue, Machine, Number, State, Stuck, Vars, Waiting, Step, Stops}
+use Rattle.crun.proofs.Common.{begin, first_vars, next, after_typed, entry_typed, Begins, TypedMachine, TypedProgram, TypedRun, may_end}
+use Rattle.crun.proofs.Common.{AreStored, machine_of, Naming, item_name, value_of, UnitObjects, HaveUnitTables, IsLinked, begun_in}
+use Rattle.crun.proofs.Common.{below_in, items_at, machine_in, running_in, state_in, LinkedUnit, LinkedThread, answered_keep, hosts_of}
+use Rattle.crun.proofs.Common.{Asks, IsThread, Runs, RunsPart, step_at, trail_before, trail_behind, HostModule, Asked, AreSymbols}
+use Rattle.crun.proofs.Common.{naming_of, BeginsWith, Came, FunctionCamePart, IfEnded, IsReady, IsStarted, SameProgram, begins_at, entry_in}
+use Rattle.crun.proofs.Common.{machine_at, naming_in, outcome_in, program_in, Engine, Outcome}
 use Rattle.c_tree.specs.declared.tree.CType.{CType}
 use Rattle.c_tree.specs.declared.tree.CType.TheVariants as type
 use Rattle.c_objects.specs.declared.held.Held.{Held}
@@ -8,6 +16,7 @@ use Rattle.c_objects.specs.declared.store.Store.{Store}
 use Rattle.c_machine.specs.Threads.{definition_in}
 use Rattle.c_thread.specs.declared.linked.LinkedFrame.{LinkedFrame}
 use Rattle.c_thread.specs.FuncTypes.{AreFuncTypes}
+use Rattle.c_hosts.specs.declared.asking.Hosts.{Hosts}
 use Rattle.c_hosts.specs.declared.running.Ending.{Ending}
 use Rattle.c_hosts.specs.declared.running.Ending.TheVariants as ending
 use Rattle.c_hosts.proofs.Runs.{behind_none}
@@ -49,15 +58,7 @@ module _ (p : Program) (phase : Phase) (u : ℕ) (m : Machine) (args : List CVal
 -- what may end an init function may end a call
 pub void_ends : (t : CType) → is_void t ≡ true → may_end (Call 0) t ≡ true
 void_ends type.Void void = refl
-void_ends type.U32 void = absurd cc
-void_ends type.U64 void = absurd cc
-void_ends type.PtrU32 void = absurd cc
-void_ends type.PtrU64 void = absurd cc
-void_ends type.PtrMem void = absurd cc
-void_ends type.PtrTab void = absurd cc
-void_ends type.FnPtr void = absurd cc
-void_ends type.Mem void = absurd cc
-void_ends type.Tab void = absurd cc
+void_ends _ void = absurd cc
 
 module _ {H : Type 0} (m : HostModule H) (e : Engine H) (unit item : ℕ) (args : List Value) where
   abbrev p : Program
@@ -200,8 +201,7 @@ module _ {H : Type 0} (m : HostModule H) (e : Engine H) (unit item : ℕ) (args 
 pub if_ended : (o : Outcome) (P : Type 0) → ((value : Option Value) → o ≡ outcome.Ended value → P) → IfEnded o P
 if_ended (outcome.Ended value) P h = h value refl
 if_ended (outcome.Trapped kind) P h = tt
-if_ended (outcome.Undefined u) P h = tt
-if_ended outcome.OutOfSteps P h = tt
+if_ended _ P h = tt
 
 -- an outcome is where the run stands
 pub outcome_came : (p : Program) (names : Naming) (t : LinkedThread) (pending : Pending) (trail : Trail) (o : Option Ending)
@@ -232,13 +232,30 @@ pub asks_none : {H : Type 0} (m : HostModule H) (e : Engine H)
     → Asks m e.hosts.list.items e.hosts.journal [] e.hosts.list.items e.hosts.journal
 asks_none m e = record { written = sym (append-nil e.hosts.journal); answered = refl }
 
-module _ {H : Type 0} (m : HostModule H) (before behind : Engine H) where
-  -- behind asks the hosts offer what they offered
-  pub same_hosts : (asks : List Asked)
-      → Asks m before.hosts.list.items before.hosts.journal asks behind.hosts.list.items behind.hosts.journal
-      → hosts_of m behind.hosts.list.items ≡ hosts_of m before.hosts.list.items
-  same_hosts asks x = answered_keep m before.hosts.list.items asks behind.hosts.list.items x.answered
+-- the engine behind a run: what the thread and the hosts became, and the steps that are left
+abbrev pub engine_behind : {H : Type 0} → Engine H → LinkedThread → Hosts H → ℕ → Engine H
+engine_behind e thread hosts left = record {
+  linked = e.linked;
+  startup = record { units = e.startup.units; symbols = e.startup.symbols; types = e.startup.types; store = thread.store };
+  depth = thread.depth;
+  hosts = hosts;
+  left = left;
+  not_made = e.not_made;
+}
 
+-- behind asks the hosts offer what they offered
+pub same_behind : {H : Type 0} (m : HostModule H) (e : Engine H) (thread : LinkedThread) (hosts : Hosts H) (left : ℕ) (asks : List Asked)
+    → Asks m e.hosts.list.items e.hosts.journal asks hosts.list.items hosts.journal → SameProgram m e (engine_behind e thread hosts left)
+same_behind m e thread hosts left asks x = record {
+  linked = refl;
+  units = refl;
+  types = refl;
+  symbols = refl;
+  not_made = refl;
+  hosts = answered_keep m e.hosts.list.items asks hosts.list.items x.answered;
+}
+
+module _ {H : Type 0} (m : HostModule H) (before behind : Engine H) where
   pub same_program : SameProgram m before behind → program_in m behind ≡ program_in m before
   same_program same = ap (λ l. record { units = map unit_of l.0; hosts = hosts_of m behind.hosts.list.items }) same.linked
       ∙ ap (λ (hs : List Host). record { units = map unit_of before.linked.0; hosts = hs }) same.hosts

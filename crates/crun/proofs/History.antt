@@ -1,5 +1,11 @@
 -- How a session's run goes on behind the functions that have ended.
-use Rattle.crun.proofs.Common.{◌≡◌, ℕ, suc, ◌+◌, ◌-◌, ◌≤◌, List, [], ◌∷◌, ◌++◌, map, length, Some, None, Option, option_map, zip, sym, refl, ap, ◌∙◌, subst, append_assoc, append-nil, arith, map-append, map_push, range_with_len, asks_behind, values_behind, numbered_push, numbered, Ask, Call, CallEnded, Event, Init, Phase, Reply, Trail, asks_in, values_in, Value, Program, SymbolCall, called_func, init_functions, fresh, CRun, Ended, Entry, Going, OutOfSteps, Over, Pending, Progress, after, begin_entry, begun, c_run, c_start, came_back, entries_of, over, run_of, FuncAddress, Number, Objects, State, call, ask_of, events_in, replies_in, reply_in, trail_before, trail_behind, Asked, Came, machine_with, BehindAt, IsOutcome, last_value, trail_of, Outcome}
+use Rattle.crun.proofs.Common.{◌≡◌, ℕ, suc, ◌+◌, ◌-◌, ◌≤◌, List, [], ◌∷◌, ◌++◌, map, length, Some, None, Option, option_map, zip, sym, refl}
+use Rattle.crun.proofs.Common.{ap, ◌∙◌, subst, append_assoc, append-nil, arith, map-append, map_push, range_with_len, asks_behind}
+use Rattle.crun.proofs.Common.{values_behind, numbered_push, numbered, Ask, Call, CallEnded, Event, Init, Phase, Reply, Trail, asks_in}
+use Rattle.crun.proofs.Common.{values_in, Value, Program, SymbolCall, called_func, init_functions, fresh, CRun, Ended, Entry, Going}
+use Rattle.crun.proofs.Common.{OutOfSteps, Over, Pending, Progress, after, begin_entry, begun, c_run, c_start, came_back, entries_of, over}
+use Rattle.crun.proofs.Common.{run_of, FuncAddress, Number, Objects, State, call, ask_of, events_in, replies_in, reply_in, trail_before}
+use Rattle.crun.proofs.Common.{trail_behind, Asked, Came, machine_with, BehindAt, IsOutcome, last_value, trail_of, Outcome}
 use Rattle.c_meaning.proofs.Longer.{after_over, after_sum}
 use Rattle.c_sound.proofs.Tells.{run_tells}
 use Rattle.crun.specs.declared.outcome.Outcome.TheVariants as outcome

@@ -1,7 +1,13 @@
 -- Symbols that are put into a list one by one, until one comes a second time.
-use Rattle.crun.proofs.Common.{◌≡◌, ℕ, zero, suc, ◌+◌, ◌<◌, ◌≤◌, Bool, true, false, not, ◌&&◌, ◌||◌, List, [], ◌∷◌, ◌++◌, map, length, get_or, take, drop, is_some, if◌then◌else◌, slice_get, Some, None, Option, option_map, zip, flat_map, bytes_eq, sym, refl, ap, ◌∙◌, subst, append_assoc, append-nil, arith, take-append-drop, take_all, length-map, map-append, slice_get-get_or, slice_get-map, range_with_len, option_or, drop_front, take_next, named, numbered, Host, are_distinct, c_func_type_of, symbols_of, HostFunc, found_at, function_of, AreKnown, IsFirstTwice, IsTwiceAt, symbol_in, symbols_of_host, symbols_of_hosts}
+use Rattle.crun.proofs.Common.{◌≡◌, ℕ, zero, suc, ◌+◌, ◌<◌, ◌≤◌, Bool, true, false, not, ◌&&◌, ◌||◌, List, [], ◌∷◌, ◌++◌, map, length}
+use Rattle.crun.proofs.Common.{get_or, take, drop, is_some, if◌then◌else◌, slice_get, Some, None, Option, option_map, zip, flat_map}
+use Rattle.crun.proofs.Common.{bytes_eq, sym, refl, ap, ◌∙◌, subst, append_assoc, append-nil, arith, take-append-drop, take_all, length-map}
+use Rattle.crun.proofs.Common.{map-append, slice_get-get_or, slice_get-map, range_with_len, option_or, drop_front, take_next, named}
+use Rattle.crun.proofs.Common.{numbered, Host, are_distinct, c_func_type_of, symbols_of, HostFunc, found_at, function_of, AreKnown}
+use Rattle.crun.proofs.Common.{IsFirstTwice, IsTwiceAt, symbol_in, symbols_of_host, symbols_of_hosts}
 use Rattle.std.proofs.lemmas.Grind.{flat_map-append}
 use Rattle.std.proofs.lemmas.Slice.Eq.{bytes_eq-Decides}
+use Rattle.std.proofs.Math.Bool.{or_comm}
 use Rattle.w2c_base.specs.Run as run
 use Rattle.w2c_mangle.specs.declared.symbol.SymbolKind.TheVariants as symbol
 use Rattle.w2c_mangle.specs.Symbols.{export_symbol_of}
@@ -13,15 +19,9 @@ use Rattle.c_link.specs.Resolved.{symbol_names}
 use Rattle.c_hosts.specs.declared.host.HostFunction.{HostFunction}
 use Rattle.c_link.specs.declared.host_symbol.HostSymbol.{HostSymbol}
 
-or_right : (a b : Bool) → (a || b) ≡ (b || a)
-or_right true true = refl
-or_right true false = refl
-or_right false true = refl
-or_right false false = refl
-
 -- one name more
 among_push : (q : Name) (names : List Name) (x : Name) → is_among q (names ++ x ∷ []) ≡ (is_among q names || bytes_eq q x)
-among_push q [] x = or_right (bytes_eq q x) false
+among_push q [] x = or_comm (bytes_eq q x) false
 among_push q (y ∷ names) x = go (bytes_eq q y) (among_push q names x)
   where
     go : (b : Bool) → is_among q (names ++ x ∷ []) ≡ (is_among q names || bytes_eq q x)

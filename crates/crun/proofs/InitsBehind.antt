@@ -1,5 +1,14 @@
 -- The init functions in turn, as the run of them.
-use Rattle.crun.proofs.Common.{◌≡◌, ℕ, ◌+◌, ◌-◌, ◌<◌, ◌≤◌, List, [], ◌∷◌, ◌++◌, map, length, take, drop, slice_get, slice_index_or, Some, None, Option, option_map, sym, refl, ap, ◌∙◌, subst, append_assoc, append-nil, arith, take-append-drop, take_all, length-map, map-append, slice_get-get_or, slice_get-map, numbered_at, numbered_many, all_at, take_next, numbered, Ask, Call, Event, Init, Reply, asks_in, Value, unit_of, Program, SymbolCall, init_functions, fresh, Entry, Going, Pending, Progress, after, begin_entry, begun, c_run, entries_of, FuncAddress, Number, State, UnitFunc, call, all_inits_begin, Begins, TypedProgram, Naming, item_name, asks_on, ask_of, event_in, events_in, replies_in, Asks, trail_before, trail_behind, HostModule, Asked, UnitItem, address_in, naming_of, Came, FunctionCame, FunctionCamePart, IsReady, SameProgram, entry_in, machine_at, naming_in, program_in, units_at, AreBegun, BehindAt, IsFirst, IsOutcome, last_value, trail_of, Engine, Outcome}
+use Rattle.crun.proofs.Common.{◌≡◌, ℕ, ◌+◌, ◌-◌, ◌<◌, ◌≤◌, List, [], ◌∷◌, ◌++◌, map, length, take, drop, slice_get, slice_index_or, Some}
+use Rattle.crun.proofs.Common.{None, Option, option_map, sym, refl, ap, ◌∙◌, subst, append_assoc, append-nil, arith, take-append-drop}
+use Rattle.crun.proofs.Common.{take_all, length-map, map-append, slice_get-get_or, slice_get-map, numbered_at, numbered_many, all_at}
+use Rattle.crun.proofs.Common.{take_next, numbered, Ask, Call, Event, Init, Reply, asks_in, Value, unit_of, Program, SymbolCall}
+use Rattle.crun.proofs.Common.{init_functions, fresh, Entry, Going, Pending, Progress, after, begin_entry, begun, c_run, entries_of}
+use Rattle.crun.proofs.Common.{FuncAddress, Number, State, UnitFunc, call, all_inits_begin, Begins, TypedProgram, Naming, item_name}
+use Rattle.crun.proofs.Common.{asks_on, ask_of, event_in, events_in, replies_in, Asks, trail_before, trail_behind, HostModule, Asked}
+use Rattle.crun.proofs.Common.{UnitItem, address_in, naming_of, Came, FunctionCame, FunctionCamePart, IsReady, SameProgram, entry_in}
+use Rattle.crun.proofs.Common.{machine_at, naming_in, program_in, units_at, AreBegun, BehindAt, IsFirst, IsOutcome, last_value, trail_of}
+use Rattle.crun.proofs.Common.{Engine, Outcome}
 use Rattle.crun.specs.declared.outcome.Outcome.TheVariants as outcome
 use Rattle.crun.proofs.Functions.{alone_in, init_gives_none, same_program, void_ends}
 use Rattle.crun.proofs.History.{
@@ -29,9 +38,7 @@ inits_count p names inits are = sym (length-map inits (address_in names)) ∙ ap
 -- where one of them did not end it was begun
 pub some_begun : (o : Outcome) (begun all : ℕ) → ((value : Option Value) → o ≡ outcome.Ended value → ⊥) → 1 ≤ begun → AreBegun o begun all
 some_begun (outcome.Ended value) begun all never some = absurd (never value refl)
-some_begun (outcome.Trapped kind) begun all never some = some
-some_begun (outcome.Undefined u) begun all never some = some
-some_begun outcome.OutOfSteps begun all never some = some
+some_begun _ begun all never some = some
 
 -- a list around one of its items
 around : {A : Type 0} (xs : List A) (k : ℕ) (x : A) → slice_get xs k ≡ Some x → xs ≡ take k xs ++ x ∷ drop (k + 1) xs

@@ -1,5 +1,6 @@
 -- What a session keeps to, wherever it stands.
-use Rattle.crun.proofs.Common.{◌≡◌, ℕ, ◌≤◌, sym, refl, subst, HostModule, IfEnded, IsReady, IsStarted, IfOver, Keeps, phase_of, standing_of, Engine, Outcome, Standing}
+use Rattle.crun.proofs.Common.{◌≡◌, ℕ, ◌≤◌, sym, refl, subst, HostModule, IfEnded, IsReady, IsStarted, IfOver, Keeps, phase_of, standing_of}
+use Rattle.crun.proofs.Common.{Engine, Outcome, Standing}
 use Rattle.crun.specs.declared.outcome.Kept.{Kept}
 use Rattle.crun.specs.declared.outcome.Kept.TheVariants as kept
 use Rattle.crun.specs.declared.outcome.Outcome.TheVariants as outcome
@@ -14,8 +15,7 @@ not_over (standing.Over why) P never = absurd (never why refl)
 
 pub is_fresh : (s : Standing) → phase_of s ≡ phase.Fresh → s ≡ standing.Fresh
 is_fresh standing.Fresh is = refl
-is_fresh standing.Ready is = absurd cc
-is_fresh (standing.Over why) is = absurd cc
+is_fresh _ is = absurd cc
 
 module _ {H : Type 0} (m : HostModule H) (e : Engine H) (steps inits : ℕ) (started : IsStarted m e) (fewer : e.left ≤ steps) where
   -- behind want of memory
@@ -36,5 +36,4 @@ module _ {H : Type 0} (m : HostModule H) (e : Engine H) (steps inits : ℕ) (sta
 pub ready_ended : (o : Outcome) (P : Type 0) → standing_of o ≡ standing.Ready → IfEnded o P → P
 ready_ended (outcome.Ended value) P is h = h
 ready_ended (outcome.Trapped kind) P is h = absurd cc
-ready_ended (outcome.Undefined u) P is h = absurd cc
-ready_ended outcome.OutOfSteps P is h = absurd cc
+ready_ended _ P is h = absurd cc

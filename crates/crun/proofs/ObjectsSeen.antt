@@ -1,5 +1,8 @@
 -- Objects by name, as they stand by number.
-use Rattle.crun.proofs.Common.{◌≡◌, ℕ, zero, suc, List, [], ◌∷◌, map, slice_get, Some, None, Option, option_map, zip, sym, refl, ap, ◌∙◌, slice_get-map, if_found, named, unit_of, Name, Objects, memory_of, table_of, objects_of, units_of, Naming, UnitNames, value_of, UnitObjects, Finds, number_in, LinkedUnit, HostModule, unit_names, IsStarted, naming_in, units_at, AreFound, memories_of, object_in, tables_of, vars_of, Engine}
+use Rattle.crun.proofs.Common.{◌≡◌, ℕ, zero, suc, List, [], ◌∷◌, map, slice_get, Some, None, Option, option_map, zip, sym, refl, ap, ◌∙◌}
+use Rattle.crun.proofs.Common.{slice_get-map, if_found, named, unit_of, Name, Objects, memory_of, table_of, objects_of, units_of, Naming}
+use Rattle.crun.proofs.Common.{UnitNames, value_of, UnitObjects, Finds, number_in, LinkedUnit, HostModule, unit_names, IsStarted, naming_in}
+use Rattle.crun.proofs.Common.{units_at, AreFound, memories_of, object_in, tables_of, vars_of, Engine}
 use Rattle.c_machine.proofs.Variables.{named-zip}
 use Rattle.c_tree.specs.Tree as tree
 use Rattle.c_thread.specs.declared.scope.ObjectTables.{ObjectTables}

@@ -1,5 +1,13 @@
 -- A run whose journal was written, and that is replayed, is the same run.
-use Rattle.crun_cli.proofs.Common.{◌≡◌, ℕ, Bool, List, [], ◌∷◌, map, Some, None, Option, MatchOption, sym, refl, ap, ◌∙◌, subst, inl, inr, get, Host, Contents, Name, extended, holding, SymbolCall, CRun, Ended, OutOfSteps, Stopped, c_run, Stuck, Trapped, Undefined, lines_of, hosts_of, replies_in, HostModule, Asked, asks_again, hosts_same, none_distinct, one_read, IsJournal, empty, journal_lines_of, AreReplays, replaying, IsAnsweredRun, run_with, Recorded, journal_text, ReplayHost, Line, RunLine, line_of, runs, AllRead, AreInputs, Held, IsJournalReading, JournalReading, LongCalls, LongJournal, LongUnit, NoJournal, NotThere, IsTextsJob, Job, Run, Stops, Write, Usage, AsksAgain, GainsTheSame, IsTheSame, ReplaysJournal, RunsAgain, By_refusal, By_run, By_unit, HasAnswer, HasPlayed, IsAnswered, IsJobWith, IsJournaled, IsRun, Ran, WithHosts, HoldsJournal, IsJobOfTexts, IsLineJob, IsReplayJob, IsRunJob, symbols_of, Outside, HasStatus}
+use Rattle.crun_cli.proofs.Common.{◌≡◌, ℕ, Bool, List, [], ◌∷◌, map, Some, None, Option, MatchOption, sym, refl, ap, ◌∙◌, subst, inl, inr}
+use Rattle.crun_cli.proofs.Common.{get, Host, Contents, Name, extended, holding, SymbolCall, CRun, Stopped, c_run, Stuck, Trapped}
+use Rattle.crun_cli.proofs.Common.{Undefined, lines_of, hosts_of, replies_in, HostModule, Asked, asks_again, hosts_same, none_distinct}
+use Rattle.crun_cli.proofs.Common.{one_read, IsJournal, empty, journal_lines_of, AreReplays, replaying, IsAnsweredRun, run_with, Recorded}
+use Rattle.crun_cli.proofs.Common.{journal_text, ReplayHost, Line, RunLine, line_of, runs, AllRead, AreInputs, Held, IsJournalReading}
+use Rattle.crun_cli.proofs.Common.{JournalReading, LongCalls, LongJournal, LongUnit, NoJournal, NotThere, IsTextsJob, Job, Run, Stops}
+use Rattle.crun_cli.proofs.Common.{Write, Usage, AsksAgain, GainsTheSame, IsTheSame, ReplaysJournal, RunsAgain, By_refusal, By_run, By_unit}
+use Rattle.crun_cli.proofs.Common.{HasAnswer, HasPlayed, IsAnswered, IsJobWith, IsJournaled, IsRun, Ran, WithHosts, HoldsJournal}
+use Rattle.crun_cli.proofs.Common.{IsJobOfTexts, IsLineJob, IsReplayJob, IsRunJob, symbols_of, Outside, HasStatus}
 use Rattle.w2c_io.proofs.Names.{get_here}
 use Rattle.w2c_files.specs.Reading.{AreHeld}
 use Rattle.c_tree.specs.Tree as tree
@@ -12,12 +20,11 @@ same_journal text a b first second = one_read empty a b (journal_lines_of text) 
 
 -- a run has one status
 one_status : (o : Outcome) (a b : ℕ) → HasStatus o a → HasStatus o b → a ≡ b
-one_status Ended a b x y = x ∙ sym y
-one_status OutOfSteps a b x y = x ∙ sym y
 one_status (Stopped (Trapped kind)) a b x y = x ∙ sym y
 one_status (Stopped (Undefined kind place)) a b x y = x ∙ sym y
 one_status (Stopped Asks) a b x y = absurd x
 one_status (Stopped Stuck) a b x y = absurd x
+one_status _ a b x y = x ∙ sym y
 
 -- ---- files that hold the same
 
@@ -175,13 +182,11 @@ module _ {H : Type 0} (hm : HostModule H) (hosts : List H) (words : List Name) (
 
         job_units : Job → List (List tree.Item)
         job_units (Run us cs n b) = us
-        job_units (Stops why) = []
-        job_units (Write output unit) = []
+        job_units _ = []
 
         job_calls : Job → List SymbolCall
         job_calls (Run us cs n b) = cs
-        job_calls (Stops why) = []
-        job_calls (Write output unit) = []
+        job_calls _ = []
 
 -- ---- both
 

@@ -1,5 +1,11 @@
 -- What the outcome of an init function or a call, and the lines that are written of it, make of where a run stands.
-use Rattle.crun_cli.proofs.Common.{◌≡◌, ℕ, ◌+◌, Bool, true, false, List, [], ◌∷◌, ◌++◌, map, length, drop, if◌then◌else◌, Some, None, Option, sym, refl, ap, ◌∙◌, subst, append_assoc, append-nil, drop_at, map-append, asks_behind, Ask, Call, Event, Host, Init, Phase, asks_in, values_in, Value, extended, SaysPart, unit_of, SymbolCall, CRun, Ended, c_run, over, event_lines_append, last_line, event_lines, lines_of, Answered, hosts_of, ask_of, events_in, replies_in, reply_in, Asks, HostModule, Asked, asked_events, machine_with, IsLast, IsOutcome, Stands, State, objects_of, program_of, told_by, trail_of, Outcome, part_behind, part_in_front, says_nothing, whole_behind, HasAsked, HasPartLeaving, HasStatus, lines_behind, status_of_outcome}
+use Rattle.crun_cli.proofs.Common.{◌≡◌, ℕ, ◌+◌, Bool, true, false, List, [], ◌∷◌, ◌++◌, map, length, drop, if◌then◌else◌, Some, None}
+use Rattle.crun_cli.proofs.Common.{Option, sym, refl, ap, ◌∙◌, subst, append_assoc, append-nil, drop_at, map-append, asks_behind, Ask, Call}
+use Rattle.crun_cli.proofs.Common.{Event, Host, Init, Phase, asks_in, values_in, Value, extended, SaysPart, unit_of, SymbolCall, CRun}
+use Rattle.crun_cli.proofs.Common.{Ended, c_run, over, event_lines_append, last_line, event_lines, lines_of, Answered, hosts_of, ask_of}
+use Rattle.crun_cli.proofs.Common.{events_in, replies_in, reply_in, Asks, HostModule, Asked, asked_events, machine_with, IsLast, IsOutcome}
+use Rattle.crun_cli.proofs.Common.{Stands, State, objects_of, program_of, told_by, trail_of, Outcome, part_behind, part_in_front}
+use Rattle.crun_cli.proofs.Common.{says_nothing, whole_behind, HasAsked, HasPartLeaving, HasStatus, lines_behind, status_of_outcome}
 use Rattle.crun.specs.declared.outcome.Outcome.TheVariants as outcome
 use Rattle.crun_lines.specs.StateLines.{state_lines}
 use Rattle.crun_cli.specs.Playing.{lines_at, run_at, HasPlayed, IsBehind, IsLeft, IsSince, IsStored}
@@ -20,20 +26,15 @@ IsEnded o = (value : Option Value) × (o ≡ outcome.Ended value)
 pub ended_or_not : (o : Outcome) (P : Type 0) → (IsEnded o → P) → (((rest : List SymbolCall) → IsLast o rest) → P) → P
 ended_or_not (outcome.Ended value) P ended stopped = ended (value, refl)
 ended_or_not (outcome.Trapped kind) P ended stopped = stopped (λ rest. tt)
-ended_or_not (outcome.Undefined u) P ended stopped = stopped (λ rest. tt)
-ended_or_not outcome.OutOfSteps P ended stopped = stopped (λ rest. tt)
+ended_or_not _ P ended stopped = stopped (λ rest. tt)
 
 pub is_ended : (o : Outcome) → status_of_outcome o ≡ None → IsEnded o
 is_ended (outcome.Ended value) e = (value, refl)
-is_ended (outcome.Trapped kind) e = absurd cc
-is_ended (outcome.Undefined u) e = absurd cc
-is_ended outcome.OutOfSteps e = absurd cc
+is_ended _ e = absurd cc
 
 pub is_last : (o : Outcome) (status : ℕ) (rest : List SymbolCall) → status_of_outcome o ≡ Some status → IsLast o rest
 is_last (outcome.Ended value) status rest e = absurd cc
-is_last (outcome.Trapped kind) status rest e = tt
-is_last (outcome.Undefined u) status rest e = tt
-is_last outcome.OutOfSteps status rest e = tt
+is_last _ status rest e = tt
 
 ended_text : (phase : Phase) (o : Outcome) → IsEnded o → last_line phase (came_out o) ≡ []
 ended_text phase o (value, is) = ap (λ o. last_line phase (came_out o)) is

@@ -1,5 +1,6 @@
 -- The calls of a list, one by one.
-use Rattle.crun_cli.proofs.Common.{◌≡◌, ℕ, ◌+◌, ◌<◌, List, [], ◌∷◌, ◌++◌, length, get_or, take, drop, sym, arith, length-take-le, length-map, mapped_next, mapped_split, call_seen, calls_seen}
+use Rattle.crun_cli.proofs.Common.{◌≡◌, ℕ, ◌+◌, ◌<◌, List, [], ◌∷◌, ◌++◌, length, get_or, take, drop, sym, arith, length-take-le}
+use Rattle.crun_cli.proofs.Common.{length-map, mapped_next, mapped_split, call_seen, calls_seen}
 use Rattle.crun_job.specs.declared.calls_file.NamedCall.{NamedCall}
 
 pub calls_split : (calls : List NamedCall) (k : ℕ) (call : NamedCall) → k < length calls → call ≡ get_or calls k call

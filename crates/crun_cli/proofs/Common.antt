@@ -1,5 +1,8 @@
 -- What proofs of this crate cite of std, of the crates below and of specs/, passed on from one place. Declares nothing.
-pub use Rattle.std.proofs.Common.{◌≡◌, ℕ, zero, suc, ◌+◌, ◌-◌, ◌<◌, ◌≤◌, Bool, true, false, not, ◌&&◌, ◌||◌, ◌⊎◌, List, [], ◌∷◌, ◌++◌, map, length, get_or, take, drop, is_some, IfSome, if◌then◌else◌, slice_get, Some, None, Ok, Err, string_bytes, codes, Option, MatchOption, option_map, option_and_then, bytes_eq, sym, refl, ap, ◌∙◌, subst, inl, inr, append_assoc, append-nil, arith, length-take-le, take_all, drop_at, rules, leb-true}
+pub use Rattle.std.proofs.Common.{◌≡◌, ℕ, zero, suc, ◌+◌, ◌-◌, ◌<◌, ◌≤◌, Bool, true, false, not, ◌&&◌, ◌||◌, ◌⊎◌, List, [], ◌∷◌, ◌++◌, map}
+pub use Rattle.std.proofs.Common.{length, get_or, take, drop, is_some, IfSome, if◌then◌else◌, slice_get, Some, None, Ok, Err, string_bytes}
+pub use Rattle.std.proofs.Common.{codes, Option, MatchOption, option_map, option_and_then, bytes_eq, sym, refl, ap, ◌∙◌, subst, inl, inr}
+pub use Rattle.std.proofs.Common.{append_assoc, append-nil, arith, length-take-le, take_all, drop_at, rules, leb-true}
 pub use Rattle.std.proofs.lemmas.List.{length-map, map-append}
 pub use Rattle.std.specs.FinMap.{get}
 pub use Rattle.std.specs.List.{list_all, position_from}
@@ -7,6 +10,7 @@ pub use Rattle.w2c_base.proofs.Events.{asks_behind, values_behind}
 pub use Rattle.w2c_base.specs.Run.{Ask, Call, CallEnded, Event, Host, HostFunction, Init, Phase, Reply, asks_in, values_in}
 pub use Rattle.w2c_base.specs.declared.value.Value.{Value}
 pub use Rattle.w2c_base.specs.declared.value.Value.TheVariants.{I32, I64}
+pub use Rattle.w2c_base.proofs.Places.{mapped_next, front_next, front_split}
 pub use Rattle.w2c_io.proofs.Passed.{both_passed, none_passed, passed_so}
 pub use Rattle.w2c_io.specs.Causes.{Faulted, Rose}
 pub use Rattle.w2c_io.specs.Contents.{Contents, Name, Told, extended, holding}
@@ -22,7 +26,8 @@ pub use Rattle.c_tree.specs.Spelled.{CSpells}
 pub use Rattle.c_tree.specs.View.{unit_of}
 pub use Rattle.c_print.specs.Print.{print_of}
 pub use Rattle.c_meaning.specs.Linking.{Program, SymbolCall, defined_for_all, definition_at}
-pub use Rattle.c_meaning.specs.Run.{CRun, Ended, Entry, OutOfSteps, Over, Pending, Progress, Stopped, after, begin_entry, begun, c_run, entries_of, over, run_of}
+pub use Rattle.c_meaning.specs.Run.{CRun, Ended, Entry, OutOfSteps, Over, Pending, Progress, Stopped, after, begin_entry, begun, c_run}
+pub use Rattle.c_meaning.specs.Run.{entries_of, over, run_of}
 pub use Rattle.c_meaning.specs.Samples.{call_with, division, env, host_call}
 pub use Rattle.c_meaning.specs.State.{Machine, Number, Stuck, Trapped, Undefined, UnitFunc}
 pub use Rattle.c_link.specs.Offers.{c_symbols}
@@ -54,17 +59,20 @@ pub use Rattle.crun.specs.Engines.{machine_with, place_of}
 pub use Rattle.crun.specs.HostSymbols.{IsTwiceAt, symbol_in, symbols_of_host, symbols_of_hosts}
 pub use Rattle.crun.specs.Sessions.{IsEnd, IsLast, IsOutcome, Stands, State, objects_of, program_of, standing_of, told_by, trail_of}
 pub use Rattle.crun.specs.declared.outcome.Outcome.{Outcome}
-pub use Rattle.program_words.proofs.Loops.{AreWritten, front_next, front_split, mapped_next, mapped_split, one_more, stopped_at}
+pub use Rattle.program_words.proofs.Loops.{AreWritten, mapped_split, one_more, stopped_at}
 pub use Rattle.program_words.proofs.Written.{line_as, part_behind, part_in_front, says_nothing, then_writes, whole_behind}
 pub use Rattle.crun_words.proofs.InputStops.{one_journal_reading, one_reading}
 pub use Rattle.crun_words.proofs.Passing.{inputs_in_order, journal_in_order, journal_read}
 pub use Rattle.crun_words.specs.CommandLine.{Line, MergeLine, RunLine, TrimLine, line_of, merges, runs, trims}
-pub use Rattle.crun_words.specs.Inputs.{AllRead, AreInputs, Held, IsInput, IsJournalReading, IsReading, IsUnitsReading, JournalReading, LongCalls, LongJournal, LongUnit, NoJournal, NoUnit, NotThere, Reading, StopsInputs, UnitTooLong, UnitsRead, UnitsReading, most_calls_bytes, most_journal_bytes, most_unit_bytes, most_units_bytes}
+pub use Rattle.crun_words.specs.Inputs.{AllRead, AreInputs, Held, IsInput, IsJournalReading, IsReading, IsUnitsReading, JournalReading}
+pub use Rattle.crun_words.specs.Inputs.{LongCalls, LongJournal, LongUnit, NoJournal, NoUnit, NotThere, Reading, StopsInputs, UnitTooLong}
+pub use Rattle.crun_words.specs.Inputs.{UnitsRead, UnitsReading, most_calls_bytes, most_journal_bytes, most_unit_bytes, most_units_bytes}
 pub use Rattle.crun_words.specs.Passing.{GivesInputs, GivesJournal, ReadsFile, TriesInputs, TriesJournal}
 pub use Rattle.crun_words.specs.Seen.{seen_line, seen_merge, seen_run, seen_trim}
 pub use Rattle.crun_words.specs.declared.inputs.InputStop.{InputStop}
 pub use Rattle.crun_job.specs.Job.{IsTextsJob, Job, Run, Stops, Write}
-pub use Rattle.crun_job.specs.Lines.{CallsLine, CallsTooLong, JournalLine, JournalTooLong, Reason, Refused, Unread, Unwritten, Usage, WantOfMemory, error_line, status_of}
+pub use Rattle.crun_job.specs.Lines.{CallsLine, CallsTooLong, JournalLine, JournalTooLong, Reason, Refused, Unread, Unwritten, Usage}
+pub use Rattle.crun_job.specs.Lines.{WantOfMemory, error_line, status_of}
 pub use Rattle.crun_job.specs.Seen.{call_seen, calls_seen, reason_of, stop_for}
 pub use Rattle.crun_job.specs.Stopping.{StopsTexts, job_of}
 pub use Rattle.crun_units.proofs.Passing.{by_so, units_so, units_wanting}
@@ -74,12 +82,16 @@ pub use Rattle.crun_units.specs.Passing.{IsUnitsJobOver, PassesUnits, WritesOutp
 pub use Rattle.crun_units.specs.Stopping.{IsUnitPart, StopsWrite}
 pub use Rattle.crun_units.specs.Trying.{done_by, stopped_by}
 pub use Rattle.crun_cli.specs.Again.{AsksAgain, GainsTheSame, IsTheSame, ReplaysJournal, RunsAgain}
-pub use Rattle.crun_cli.specs.Ends.{AreOffered, Begun, BegunIfAny, By_refusal, By_run, By_unit, Finished, HasAnswer, HasPlayed, HasPlayedPart, IsAnswered, IsJobWith, IsJournaled, IsKept, IsRun, IsRunStatus, IsUnread, IsUnwritten, Ran, RanPart, Refuses, WithHosts, WithHostsBy, WrotePart, journal_of}
+pub use Rattle.crun_cli.specs.Ends.{AreOffered, Begun, BegunIfAny, By_refusal, By_run, By_unit, Finished, HasAnswer, HasPlayed}
+pub use Rattle.crun_cli.specs.Ends.{HasPlayedPart, IsAnswered, IsJobWith, IsJournaled, IsKept, IsRun, IsRunStatus, IsUnread, IsUnwritten}
+pub use Rattle.crun_cli.specs.Ends.{Ran, RanPart, Refuses, WithHosts, WithHostsBy, WrotePart, journal_of}
 pub use Rattle.crun_cli.specs.Files.{HasReading, IsReadBy, IsToRead, IsToWrite, IsUnitFile, IsUnitOf, IsWrittenBy}
 pub use Rattle.crun_cli.specs.Jobs.{HoldsJournal, IsJob, IsJobBehind, IsJobBy, IsJobOfTexts, IsLineJob, IsReplayJob, IsRunJob, symbols_of}
 pub use Rattle.crun_cli.specs.Outside.{IsUntouched, Outside, SinkSeen, outside, sink_seen}
-pub use Rattle.crun_cli.specs.Passing.{BreaksJournal, IsReadLast, IsRunJobOver, PassesFor, PassesLine, PassesRun, PassesWords, ReadsMore, StopsFor, StopsQuietly, WritesJournal, WritesOfRun, WritesRun, journal_to_read, run_reads}
-pub use Rattle.crun_cli.specs.Recording.{AreToFill, HasAsked, HasPartLeaving, HasRecorded, HasTaken, IsBlank, IsBlankFor, IsFilled, IsNamed, IsText, IsWritten, IsWrittenPart}
+pub use Rattle.crun_cli.specs.Passing.{BreaksJournal, IsReadLast, IsRunJobOver, PassesFor, PassesLine, PassesRun, PassesWords, ReadsMore}
+pub use Rattle.crun_cli.specs.Passing.{StopsFor, StopsQuietly, WritesJournal, WritesOfRun, WritesRun, journal_to_read, run_reads}
+pub use Rattle.crun_cli.specs.Recording.{AreToFill, HasAsked, HasPartLeaving, HasRecorded, HasTaken, IsBlank, IsBlankFor, IsFilled, IsNamed}
+pub use Rattle.crun_cli.specs.Recording.{IsText, IsWritten, IsWrittenPart}
 pub use Rattle.crun_cli.specs.Runs.{HasPart, HasRun, HasStatus}
 pub use Rattle.crun_cli.specs.Stopping.{IsRunUnwritten, IsTextsPart, IsTextsRun, StopsReplay, StopsRun, StopsWork}
 pub use Rattle.crun_cli.specs.Trying.{GivesReplays, PutsJournal, PutsJournalPart, TriesReplay, WritesOfTexts, WritesOfTextsJob, ended_by}

@@ -1,5 +1,6 @@
 -- A host with the name and the functions of `env`, alone, offers each of its symbols once.
-use Rattle.crun_cli.proofs.Common.{◌≡◌, true, List, [], ◌∷◌, ◌++◌, sym, refl, ap, ◌∙◌, subst, Host, are_distinct, symbol_names, HostModule, symbols_of_hosts, AreOffered}
+use Rattle.crun_cli.proofs.Common.{◌≡◌, true, List, [], ◌∷◌, ◌++◌, sym, refl, ap, ◌∙◌, subst, Host, are_distinct, symbol_names, HostModule}
+use Rattle.crun_cli.proofs.Common.{symbols_of_hosts, AreOffered}
 use Rattle.env_host.specs.EnvHost.{env_name, env_functions}
 use Rattle.env_host.proofs.Seen.{env_host, env_seen}
 

@@ -1,5 +1,10 @@
 -- README's run of a unit: what two.c spells, what the calls file says, and what its run prints.
-use Rattle.crun_cli.proofs.Common.{◌≡◌, ℕ, ◌+◌, ◌<◌, Bool, true, false, List, [], ◌∷◌, map, length, Some, None, codes, Option, MatchOption, sym, refl, ap, ◌∙◌, subst, inl, inr, arith, leb-true, get, CallEnded, Host, Reply, Value, I32, Contents, Name, extended, CSpells, print_of, SymbolCall, CRun, Ended, c_run, lines_of, hosts_of, replies_in, HostModule, one_reading, Line, RunLine, line_of, runs, AllRead, IsReading, Reading, most_calls_bytes, most_unit_bytes, most_units_bytes, IsTextsJob, Job, Run, Stops, Write, Usage, Finished, HasPlayed, Ran, WithHosts, IsJob, IsJobBehind, IsLineJob, IsRunJob, symbols_of, Outside, HasStatus}
+use Rattle.crun_cli.proofs.Common.{◌≡◌, ℕ, ◌+◌, ◌<◌, Bool, true, false, List, [], ◌∷◌, map, length, Some, None, codes, Option, MatchOption}
+use Rattle.crun_cli.proofs.Common.{sym, refl, ap, ◌∙◌, subst, inl, inr, arith, leb-true, get, CallEnded, Host, Reply, Value, I32, Contents}
+use Rattle.crun_cli.proofs.Common.{Name, extended, CSpells, print_of, SymbolCall, CRun, Ended, c_run, lines_of, hosts_of, replies_in}
+use Rattle.crun_cli.proofs.Common.{HostModule, one_reading, Line, RunLine, line_of, runs, AllRead, IsReading, Reading, most_calls_bytes}
+use Rattle.crun_cli.proofs.Common.{most_unit_bytes, most_units_bytes, IsTextsJob, Job, Run, Stops, Write, Usage, Finished, HasPlayed, Ran}
+use Rattle.crun_cli.proofs.Common.{WithHosts, IsJob, IsJobBehind, IsLineJob, IsRunJob, symbols_of, Outside, HasStatus}
 use Rattle.std.specs.Fmt.{digits}
 use Rattle.std.proofs.lemmas.List.Elements.{All-from_recursion}
 use Rattle.clap.proofs.OnLiterals.{clap_on_literals}

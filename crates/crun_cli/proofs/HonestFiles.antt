@@ -1,14 +1,27 @@
 -- Over files that behave as files what passed says what a call comes to over what they hold.
-use Rattle.crun_cli.proofs.Common.{◌≡◌, ℕ, ◌≤◌, Bool, true, false, ◌&&◌, ◌⊎◌, List, [], ◌∷◌, ◌++◌, length, if◌then◌else◌, Some, None, Err, Option, MatchOption, option_and_then, sym, refl, ap, ◌∙◌, subst, inl, inr, append_assoc, append-nil, arith, Host, Contents, Name, Told, holding, BreaksOff, WritesFile, Tells, WriteAnswer, first_in_order, FailsLast, ReadsInOrder, limited, IsBegun, print_of, SymbolCall, hosts_of, HostModule, Recorded, journal_text, Line, MergeLine, RunLine, TrimLine, line_of, merges, runs, trims, AllRead, Held, IsJournalReading, IsReading, IsUnitsReading, JournalReading, LongCalls, LongJournal, LongUnit, NoJournal, NoUnit, NotThere, Reading, UnitTooLong, UnitsRead, UnitsReading, most_unit_bytes, GivesJournal, IsTextsJob, Job, Run, Stops, Write, Reason, Unread, Unwritten, Usage, WantOfMemory, error_line, status_of, IsBehindUnits, IsMerged, IsTrimmedText, IsUnitsJob, IsUnitsJobOver, PassesUnits, WritesOutput, reason_for, RunsAgain, Begun, BegunIfAny, By_refusal, Finished, HasPlayed, HasPlayedPart, IsAnswered, IsJobWith, IsJournaled, IsKept, IsRunStatus, WithHosts, WithHostsBy, journal_of, IsToWrite, IsJob, IsJobBy, IsLineJob, IsReplayJob, IsRunJob, symbols_of, IsUntouched, Outside, BreaksJournal, IsReadLast, IsRunJobOver, PassesFor, PassesLine, PassesRun, ReadsMore, StopsFor, StopsQuietly, WritesJournal, WritesOfRun, WritesRun, run_reads, HasPart, HasRun}
-use Rattle.w2c_io.specs.Events.{Event, Read}
+use Rattle.crun_cli.proofs.Common.{◌≡◌, ℕ, ◌≤◌, Bool, true, false, ◌&&◌, ◌⊎◌, List, [], ◌∷◌, ◌++◌, length, if◌then◌else◌, Some, None}
+use Rattle.crun_cli.proofs.Common.{Option, MatchOption, option_and_then, sym, refl, ap, ◌∙◌, subst, inl, inr, append-nil, arith, Host}
+use Rattle.crun_cli.proofs.Common.{Contents, Name, Told, holding, BreaksOff, WritesFile, Tells, WriteAnswer, first_in_order, FailsLast}
+use Rattle.crun_cli.proofs.Common.{ReadsInOrder, limited, IsBegun, print_of, SymbolCall, hosts_of, HostModule, Recorded, journal_text, Line}
+use Rattle.crun_cli.proofs.Common.{MergeLine, RunLine, TrimLine, line_of, merges, runs, trims, AllRead, Held, IsJournalReading, IsReading}
+use Rattle.crun_cli.proofs.Common.{IsUnitsReading, JournalReading, LongCalls, LongJournal, LongUnit, NoJournal, NoUnit, NotThere, Reading}
+use Rattle.crun_cli.proofs.Common.{UnitTooLong, UnitsRead, UnitsReading, most_unit_bytes, GivesJournal, IsTextsJob, Job, Run, Stops, Write}
+use Rattle.crun_cli.proofs.Common.{Reason, Unread, Unwritten, Usage, WantOfMemory, error_line, status_of, IsBehindUnits, IsMerged}
+use Rattle.crun_cli.proofs.Common.{IsTrimmedText, IsUnitsJob, IsUnitsJobOver, PassesUnits, WritesOutput, reason_for, RunsAgain, Begun}
+use Rattle.crun_cli.proofs.Common.{BegunIfAny, By_refusal, Finished, HasPlayed, HasPlayedPart, IsAnswered, IsJobWith, IsJournaled, IsKept}
+use Rattle.crun_cli.proofs.Common.{IsRunStatus, WithHosts, WithHostsBy, journal_of, IsToWrite, IsJob, IsJobBy, IsLineJob, IsReplayJob}
+use Rattle.crun_cli.proofs.Common.{IsRunJob, symbols_of, IsUntouched, Outside, BreaksJournal, IsReadLast, IsRunJobOver, PassesFor}
+use Rattle.crun_cli.proofs.Common.{PassesLine, PassesRun, ReadsMore, StopsFor, StopsQuietly, WritesJournal, WritesOfRun, WritesRun}
+use Rattle.crun_cli.proofs.Common.{run_reads, HasPart, HasRun}
+use Rattle.w2c_io.specs.Events.{Event}
 use Rattle.w2c_io.specs.Honest.{AreHonest}
-use Rattle.w2c_io.specs.declared.answers.ReadAnswer.TheVariants as reading
 use Rattle.w2c_io.specs.declared.answers.WriteAnswer.TheVariants as answer
 use Rattle.w2c_files.specs.CFile.{is_c_file}
 use Rattle.c_tree.specs.Tree as tree
 use Rattle.crun_words.specs.Command.{Values, values_of}
-use Rattle.crun_words.specs.CommandLine.{are_units, is_no_run, line_by, line_of_merge, line_of_trim, line_of_values, merge_of, run_with, trim_of}
-use Rattle.w2c_files.proofs.Honest.{file_begun, file_holds, honest_both, in_order_keep}
+use Rattle.crun_words.specs.CommandLine.{are_units, is_no_run, line_by, line_of_merge, line_of_trim, line_of_values, merge_of, run_with}
+use Rattle.crun_words.specs.CommandLine.{trim_of}
+use Rattle.w2c_files.proofs.Honest.{file_begun, file_holds, honest_both, in_order_keep, fails_behind}
 use Rattle.crun_words.proofs.Honest.{FailsInputs, FailsJournal, FailsUnits, inputs_honest, journal_held, journal_honest, units_honest}
 use Rattle.crun_cli.specs.HonestPassing.{PassesHonestly}
 use Rattle.crun_cli.proofs.RecordLaws.{ran_status}
@@ -86,14 +99,6 @@ fails_first : (file : Name) (first last given : List Event) → given ≡ first 
 fails_first file first last given split none (front, limit, is) =
     (front, limit, split ∙ ap (λ (l : List Event). first ++ l) none ∙ append-nil first ∙ is)
 
-fails_behind : (file : Name) (first last given : List Event) → given ≡ first ++ last → FailsLast file last → FailsLast file given
-fails_behind file first last given split (front, limit, is) = (
-  first ++ front,
-  limit,
-  split ∙ ap (λ (l : List Event). first ++ l) is
-      ∙ sym (append_assoc first front (Read file limit (Err reading.Failed) ∷ [])),
-)
-
 none_more : (replayed : Option Name) (file : Name) (last : List Event) → ReadsMore replayed (NotThere file) last → last ≡ []
 none_more None file last more = more
 none_more (Some name) file last more = more
@@ -122,9 +127,7 @@ module _ (m : Contents) (line : RunLine) (handed : List Host) where
       → IsJobBy line handed (IsJournalReading m) r job ⊎ Unreads job last
   by_behind (AllRead texts text) last job current new after honest of =
       texts_behind line.replayed texts text last job current new after honest of
-  by_behind (NotThere file) last job current new after honest of = inl of
-  by_behind (LongUnit file) last job current new after honest of = inl of
-  by_behind LongCalls last job current new after honest of = inl of
+  by_behind _ last job current new after honest of = inl of
 
   run_job_honest : length line.units ≤ 16 → (given : List Event) (job : Job) (current : Option Name) (new : Told) (after : Option Name)
       → AreHonest given (Some m) current new after → IsRunJobOver line handed given job → IsRunJob line handed m job ⊎ Unreads job given
@@ -139,9 +142,7 @@ module _ (m : Contents) (line : RunLine) (handed : List Host) where
           → FailsInputs r first → Unreads job given
       unread (NotThere file) more of fails =
           (file, of, fails_first file first last given split (none_more line.replayed file last more) fails)
-      unread (AllRead texts text) more of fails = absurd fails
-      unread (LongUnit file) more of fails = absurd fails
-      unread LongCalls more of fails = absurd fails
+      unread _ more of fails = absurd fails
 
       go : (r : Reading) → ReadsMore line.replayed r last → IsJobBy line handed (λ name j. GivesJournal name j last) r job
           → IsReading m line.units line.calls r ⊎ FailsInputs r first

@@ -1,16 +1,15 @@
 -- The lines of what was told, of asks and of outcomes.
-use Rattle.crun_cli.proofs.Common.{◌≡◌, ℕ, ◌+◌, List, [], ◌∷◌, ◌++◌, map, length, Some, sym, refl, ap, ◌∙◌, append_assoc, append-nil, arith, map-append, values_behind, Call, CallEnded, Event, Host, Init, asks_in, values_in, CRun, Ended, OutOfSteps, Stopped, Trapped, Undefined, event_lines_append, ended_line, last_line, event_lines, ask_of, event_in, events_in, Asked, asked-append, asked_events, place_of, IsEnd, told_by, Outcome, HasStatus, asked_line, asks_lines, lines_behind, status_of_outcome}
+use Rattle.crun_cli.proofs.Common.{◌≡◌, ℕ, ◌+◌, List, [], ◌∷◌, ◌++◌, map, length, Some, sym, refl, ap, ◌∙◌, append_assoc, append-nil, arith}
+use Rattle.crun_cli.proofs.Common.{map-append, values_behind, Call, CallEnded, Event, Host, Init, asks_in, values_in, CRun, Ended}
+use Rattle.crun_cli.proofs.Common.{OutOfSteps, Stopped, Trapped, Undefined, event_lines_append, ended_line, last_line, event_lines, ask_of}
+use Rattle.crun_cli.proofs.Common.{event_in, events_in, Asked, asked-append, asked_events, place_of, IsEnd, told_by, Outcome, HasStatus}
+use Rattle.crun_cli.proofs.Common.{asked_line, asks_lines, lines_behind, status_of_outcome}
 use Rattle.w2c_base.specs.Run as run
 use Rattle.c_meaning.specs.Run as meaning
 use Rattle.crun.specs.declared.outcome.Outcome.TheVariants as outcome
-use Rattle.crun.proofs.History.{asks_told}
+use Rattle.crun.proofs.History.{asks_told, no_values_told}
 
 -- ---- asks
-
--- asks tell no values, and nothing but asks
-no_values : (asks : List Asked) → values_in (events_in asks) ≡ []
-no_values [] = refl
-no_values (a ∷ asks) = no_values asks
 
 pub asks_are_asked : (asks : List Asked) → asked_events (events_in asks) ≡ events_in asks
 asks_are_asked [] = refl
@@ -27,9 +26,7 @@ told_asks told journal asks o are = by o
     by : (o : Outcome) → asked_events (told_by told asks o) ≡ events_in (journal ++ asks)
     by (outcome.Ended value) = asked-append (told ++ events_in asks) (CallEnded value ∷ [])
         ∙ append-nil (asked_events (told ++ events_in asks)) ∙ front
-    by (outcome.Trapped kind) = front
-    by (outcome.Undefined u) = front
-    by outcome.OutOfSteps = front
+    by _ = front
 
 -- the asks of a run whose asked events these are
 pub asks_of_events : (events : List Event) → asks_in (asked_events events) ≡ asks_in events
@@ -55,9 +52,7 @@ came_out outcome.OutOfSteps = OutOfSteps
 
 pub end_is : (o : Outcome) (r : CRun) → IsEnd o r → r.outcome ≡ came_out o
 end_is (outcome.Ended value) r end = end.0
-end_is (outcome.Trapped kind) r end = end
-end_is (outcome.Undefined u) r end = end
-end_is outcome.OutOfSteps r end = end
+end_is _ r end = end
 
 pub status_is : (o : Outcome) (status : ℕ) → status_of_outcome o ≡ Some status → HasStatus (came_out o) status
 status_is (outcome.Ended value) status e = absurd cc
@@ -72,9 +67,7 @@ inits_lines hosts k asks o = ap (λ l. l ++ last_line (Init k) (came_out o)) (li
   where
     by : (o : Outcome) → asks_lines hosts asks ++ last_line (Init k) (came_out o) ≡ lines_behind hosts asks (Init k) o
     by (outcome.Ended value) = refl
-    by (outcome.Trapped kind) = refl
-    by (outcome.Undefined u) = refl
-    by outcome.OutOfSteps = refl
+    by _ = refl
 
 -- a call behind what was told: the lines of its asks, and its own
 pub call_lines : (hosts : List Host) (k : ℕ) (told : List Event) (asks : List Asked) (o : Outcome) → length (values_in told) ≡ k
@@ -95,7 +88,7 @@ call_lines hosts k told asks o count = by o
     number : 0 + length (values_in (told ++ events_in asks)) ≡ k
     number =
         let same : values_in (told ++ events_in asks) ≡ values_in told =
-        values_behind told (events_in asks) ∙ ap (λ vs. values_in told ++ vs) (no_values asks) ∙ append-nil (values_in told) in
+        values_behind told (events_in asks) ∙ ap (λ vs. values_in told ++ vs) (no_values_told asks) ∙ append-nil (values_in told) in
         let counted : length (values_in (told ++ events_in asks)) ≡ k = ap length same ∙ count in
         omega (arith, counted)
 

@@ -1,7 +1,11 @@
 -- Hosts whose symbols differ have none that comes twice.
-use Rattle.crun_cli.proofs.Common.{◌≡◌, ℕ, zero, suc, Bool, true, false, not, ◌&&◌, ◌||◌, List, [], ◌∷◌, ◌++◌, take, drop, slice_get, Some, bytes_eq, sym, refl, ap, ◌∙◌, append_assoc, map-append, Host, are_distinct, symbol_names, HostSymbol, IsTwiceAt, symbols_of_host, symbols_of_hosts}
+use Rattle.crun_cli.proofs.Common.{◌≡◌, ℕ, zero, suc, Bool, true, false, not, ◌&&◌, ◌||◌, List, [], ◌∷◌, ◌++◌, take, drop, slice_get, Some}
+use Rattle.crun_cli.proofs.Common.{bytes_eq, sym, refl, ap, ◌∙◌, append_assoc, map-append, Host, are_distinct, symbol_names, HostSymbol}
+use Rattle.crun_cli.proofs.Common.{IsTwiceAt, symbols_of_host, symbols_of_hosts}
 use Rattle.std.proofs.lemmas.Grind.{flat_map-append}
 use Rattle.std.proofs.lemmas.Slice.Eq.{bytes_eq-Decides}
+use Rattle.std.proofs.Math.Bool.{or-true}
+use Rattle.w2c_base.proofs.Conjunctions.{right_holds}
 use Rattle.c_tree.specs.Scope.{Name, is_among}
 use Rattle.name_table.proofs.Lookups.{among-append}
 
@@ -16,11 +20,7 @@ twice_apart (x ∷ front) behind again there distinct =
         ap (λ b. not b && are_distinct (front ++ again ∷ behind)) (sym is) ∙ distinct in cc)
 
     rest : are_distinct (front ++ again ∷ behind) ≡ true
-    rest = right (not (is_among x (front ++ again ∷ behind))) (are_distinct (front ++ again ∷ behind)) distinct
-      where
-        right : (a b : Bool) → (a && b) ≡ true → b ≡ true
-        right true b e = e
-        right false b e = absurd cc
+    rest = right_holds (not (is_among x (front ++ again ∷ behind))) (are_distinct (front ++ again ∷ behind)) distinct
 
     go : (b : Bool) → bytes_eq again x ≡ b → (b || is_among again front) ≡ true → (is_among again front ≡ true → ⊥) → ⊥
     go false e there later = later there
@@ -28,11 +28,7 @@ twice_apart (x ∷ front) behind again there distinct =
         let same : again ≡ x = (bytes_eq-Decides again x).0 e in
         let here : is_among x (again ∷ behind) ≡ true =
         ap (λ b. b || is_among x behind) ((bytes_eq-Decides x again).1 (sym same)) in
-        found (among-append x front (again ∷ behind) ∙ ap (λ b. is_among x front || b) here ∙ or_true (is_among x front))
-      where
-        or_true : (a : Bool) → (a || true) ≡ true
-        or_true true = refl
-        or_true false = refl
+        found (among-append x front (again ∷ behind) ∙ ap (λ b. is_among x front || b) here ∙ or-true (is_among x front))
 
 hosts_split : (hosts : List Host) (k : ℕ) (h : Host) → slice_get hosts k ≡ Some h → hosts ≡ take k hosts ++ h ∷ drop (suc k) hosts
 hosts_split [] k h at = absurd cc

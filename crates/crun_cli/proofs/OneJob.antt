@@ -1,5 +1,9 @@
 -- Words ask for at most one job.
-use Rattle.crun_cli.proofs.Common.{◌≡◌, ℕ, List, Some, None, Option, MatchOption, sym, ap, ◌∙◌, subst, inl, inr, Host, Contents, Name, none_distinct, one_read, one_refused, read_or_refused, empty, one_journal_reading, one_reading, Line, RunLine, line_of, merges, runs, trims, AllRead, Held, IsJournalReading, JournalReading, LongCalls, LongJournal, LongUnit, NoJournal, NotThere, Reading, IsTextsJob, Job, Stops, JournalLine, Usage, IsJob, IsJobBehind, IsJobOfTexts, IsLineJob, IsReplayJob, IsRunJob, symbols_of}
+use Rattle.crun_cli.proofs.Common.{◌≡◌, ℕ, List, Some, None, Option, MatchOption, sym, ap, ◌∙◌, subst, inl, inr, Host, Contents, Name}
+use Rattle.crun_cli.proofs.Common.{none_distinct, one_read, one_refused, read_or_refused, empty, one_journal_reading, one_reading, Line}
+use Rattle.crun_cli.proofs.Common.{RunLine, line_of, merges, runs, trims, AllRead, Held, IsJournalReading, JournalReading, LongJournal}
+use Rattle.crun_cli.proofs.Common.{NoJournal, Reading, IsTextsJob, Job, Stops, JournalLine, Usage, IsJob, IsJobBehind, IsJobOfTexts}
+use Rattle.crun_cli.proofs.Common.{IsLineJob, IsReplayJob, IsRunJob, symbols_of}
 use Rattle.host_replay.specs.Reading.{lines_of}
 use Rattle.crun_job.proofs.JobLaws.{one_texts_job}
 use Rattle.crun_units.proofs.WriteJobs.{one_merge_job, one_trim_job}
@@ -34,9 +38,7 @@ module _ (line : RunLine) (handed : List Host) (m : Contents) where
 
   one_behind : (reading : Reading) (a b : Job) → IsJobBehind line handed m reading a → IsJobBehind line handed m reading b → a ≡ b
   one_behind (AllRead texts text) a b first second = one_of_texts texts text a b first second
-  one_behind (NotThere file) a b first second = first ∙ sym second
-  one_behind (LongUnit file) a b first second = first ∙ sym second
-  one_behind LongCalls a b first second = first ∙ sym second
+  one_behind _ a b first second = first ∙ sym second
 
   one_run_job : (a b : Job) → IsRunJob line handed m a → IsRunJob line handed m b → a ≡ b
   one_run_job a b (reading, is, behind) (other, is', behind') =

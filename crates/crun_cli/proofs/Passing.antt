@@ -1,5 +1,18 @@
 -- What passes through the files in a call, from what its steps say.
-use Rattle.crun_cli.proofs.Common.{◌≡◌, ℕ, Bool, ◌⊎◌, List, [], ◌∷◌, ◌++◌, Some, None, string_bytes, Option, MatchOption, sym, refl, ap, subst, inl, inr, append_assoc, append-nil, Name, Told, BreaksOff, WritesFile, WriteAnswer, longer, ReadsInOrder, limited, SymbolCall, hosts_of, HostModule, Asked, hosts_same, replaying, Recorded, journal_text, AreDistinct, JournalFile, ReplayHost, inputs_in_order, journal_in_order, journal_read, Line, RunLine, line_of, merges, runs, trims, AllRead, Held, JournalReading, LongCalls, LongJournal, LongUnit, NoJournal, NotThere, Reading, most_calls_bytes, most_journal_bytes, most_unit_bytes, GivesInputs, GivesJournal, ReadsFile, TriesInputs, TriesJournal, InputStop, IsTextsJob, Job, Run, Stops, Write, CallsLine, CallsTooLong, JournalLine, JournalTooLong, Reason, Refused, Unread, Unwritten, Usage, WantOfMemory, error_line, status_of, reason_of, stop_for, StopsTexts, by_so, units_so, IsMerged, IsTrimmedText, reason_for, WithHostsBy, journal_of, IsJobBy, IsReplayJob, symbols_of, BreaksJournal, IsReadLast, IsRunJobOver, PassesLine, PassesRun, PassesWords, ReadsMore, StopsFor, StopsQuietly, WritesJournal, WritesOfRun, WritesRun, journal_to_read, run_reads, HasRecorded, IsBlankFor, IsFilled, IsText, IsWritten, HasPart, GivesReplays, PutsJournal, PutsJournalPart, TriesReplay, WritesOfTexts, WritesOfTextsJob}
+use Rattle.crun_cli.proofs.Common.{◌≡◌, ℕ, Bool, ◌⊎◌, List, [], ◌∷◌, ◌++◌, Some, None, string_bytes, Option, MatchOption, sym, refl, ap}
+use Rattle.crun_cli.proofs.Common.{subst, inl, inr, append_assoc, append-nil, Name, Told, BreaksOff, WritesFile, WriteAnswer, longer}
+use Rattle.crun_cli.proofs.Common.{ReadsInOrder, limited, SymbolCall, hosts_of, HostModule, Asked, hosts_same, replaying, Recorded}
+use Rattle.crun_cli.proofs.Common.{journal_text, AreDistinct, JournalFile, ReplayHost, inputs_in_order, journal_in_order, journal_read}
+use Rattle.crun_cli.proofs.Common.{Line, RunLine, line_of, merges, runs, trims, AllRead, Held, JournalReading, LongCalls, LongJournal}
+use Rattle.crun_cli.proofs.Common.{LongUnit, NoJournal, NotThere, Reading, most_calls_bytes, most_journal_bytes, most_unit_bytes}
+use Rattle.crun_cli.proofs.Common.{GivesInputs, GivesJournal, ReadsFile, TriesInputs, TriesJournal, InputStop, IsTextsJob, Job, Run, Stops}
+use Rattle.crun_cli.proofs.Common.{Write, CallsLine, CallsTooLong, JournalLine, JournalTooLong, Reason, Refused, Unread, Unwritten, Usage}
+use Rattle.crun_cli.proofs.Common.{WantOfMemory, error_line, status_of, reason_of, stop_for, StopsTexts, by_so, units_so, IsMerged}
+use Rattle.crun_cli.proofs.Common.{IsTrimmedText, reason_for, WithHostsBy, journal_of, IsJobBy, IsReplayJob, symbols_of, BreaksJournal}
+use Rattle.crun_cli.proofs.Common.{IsReadLast, IsRunJobOver, PassesLine, PassesRun, PassesWords, ReadsMore, StopsFor, StopsQuietly}
+use Rattle.crun_cli.proofs.Common.{WritesJournal, WritesOfRun, WritesRun, journal_to_read, run_reads, HasRecorded, IsBlankFor, IsFilled}
+use Rattle.crun_cli.proofs.Common.{IsText, IsWritten, HasPart, GivesReplays, PutsJournal, PutsJournalPart, TriesReplay, WritesOfTexts}
+use Rattle.crun_cli.proofs.Common.{WritesOfTextsJob}
 use Rattle.w2c_io.specs.Events.{Event}
 use Rattle.c_tree.specs.Tree as tree
 use Rattle.crun_words.specs.declared.inputs.InputStop.TheVariants as input
@@ -91,13 +104,10 @@ module _ {H : Type 0} (m : HostModule H) (hosts : List H) where
 
 no_more : (replayed : Option Name) (reading : Reading) → ReadsMore replayed reading []
 no_more None (AllRead texts text) = refl
-no_more None (NotThere file) = refl
-no_more None (LongUnit file) = refl
-no_more None LongCalls = refl
+no_more None _ = refl
 no_more (Some name) (AllRead texts text) = tt
 no_more (Some name) (NotThere file) = refl
-no_more (Some name) (LongUnit file) = refl
-no_more (Some name) LongCalls = refl
+no_more (Some name) _ = refl
 
 module _ {H : Type 0} (m : HostModule H) (hosts : List H) (line : RunLine) (old new : Option (List ℕ)) (Ends : ℕ → Type 0)
     (Stopped : Reason → Type 0) where
@@ -155,11 +165,10 @@ module _ {H : Type 0} (m : HostModule H) (hosts : List H) (line : RunLine) (old 
       where
         behind : (job : Job) → WritesOfTextsJob m hosts line old new Ends Stopped job last
             → WritesOfRun m hosts line old new Ends Stopped first job last
-        behind (Stops why) of = of
         behind (Run units calls steps shown) of =
             subst (λ o. WithHostsBy m hosts o (IsReadLast first)
             (λ G n gs. WritesRun n gs line.journal units calls steps shown old new Ends Stopped last)) (sym none) of
-        behind (Write output unit) of = of
+        behind _ of = of
 
         go : WritesOfTexts m hosts line texts text old new Ends Stopped last
             → ((last ≡ []) × StopsQuietly old new Stopped WantOfMemory)
@@ -239,12 +248,11 @@ module _ {H : Type 0} (m : HostModule H) (hosts : List H) (line : RunLine) (old 
         where
           behind : (job : Job) → WritesOfTextsJob replaying replays line old new Ends Stopped job last
               → WritesOfRun m hosts line old new Ends Stopped (first ++ middle) job last
-          behind (Stops why) of = of
           behind (Run units calls steps shown) of =
               subst (λ o. WithHostsBy m hosts o (IsReadLast (first ++ middle))
               (λ G n gs. WritesRun n gs line.journal units calls steps shown old new Ends Stopped last)) (sym named)
               (j, replays, (journal, (first, middle, refl, gives), is_journal), are, of)
-          behind (Write output unit) of = of
+          behind _ of = of
 
           go : WritesOfTexts replaying replays line texts text old new Ends Stopped last
               → ((last ≡ []) × StopsQuietly old new Stopped WantOfMemory)

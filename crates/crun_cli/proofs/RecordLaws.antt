@@ -1,5 +1,12 @@
 -- A run whose journal is written: from what its steps say to what the line asks for.
-use Rattle.crun_cli.proofs.Common.{◌≡◌, ℕ, Bool, ◌⊎◌, List, [], ◌∷◌, ◌++◌, map, Some, None, Option, sym, refl, ap, ◌∙◌, subst, inl, inr, map-append, Host, HostFunction, Name, Told, holding, IsBegun, are_distinct, SymbolCall, Ended, OutOfSteps, Stopped, Stuck, Trapped, Undefined, symbol_names, HostSymbol, hosts_of, HostModule, Asked, symbols_distinct, symbol_of, recorded, Recorded, journal_text, AreDistinct, symbols_of_modules, JournalFile, symbol_in, symbols_of_host, symbols_of_hosts, RunLine, IsTextsJob, Run, CallsLine, Reason, Refused, WantOfMemory, StopsTexts, AreOffered, HasPlayed, HasPlayedPart, IsJournaled, IsRunStatus, journal_of, symbols_of, IsUntouched, Outside, HasRecorded, IsBlank, IsBlankFor, IsFilled, IsNamed, IsText, IsWritten, IsWrittenPart, HasPart, HasRun, HasStatus, IsTextsPart, IsTextsRun, StopsRun}
+use Rattle.crun_cli.proofs.Common.{◌≡◌, ℕ, Bool, ◌⊎◌, List, [], ◌∷◌, ◌++◌, map, Some, None, Option, sym, refl, ap, ◌∙◌, subst, inl, inr}
+use Rattle.crun_cli.proofs.Common.{map-append, Host, HostFunction, Name, Told, holding, IsBegun, are_distinct, SymbolCall, Ended}
+use Rattle.crun_cli.proofs.Common.{OutOfSteps, Stopped, Stuck, Trapped, Undefined, symbol_names, HostSymbol, hosts_of, HostModule, Asked}
+use Rattle.crun_cli.proofs.Common.{symbols_distinct, symbol_of, recorded, Recorded, journal_text, AreDistinct, symbols_of_modules}
+use Rattle.crun_cli.proofs.Common.{JournalFile, symbol_in, symbols_of_host, symbols_of_hosts, RunLine, IsTextsJob, Run, CallsLine, Reason}
+use Rattle.crun_cli.proofs.Common.{Refused, WantOfMemory, StopsTexts, AreOffered, HasPlayed, HasPlayedPart, IsJournaled, IsRunStatus}
+use Rattle.crun_cli.proofs.Common.{journal_of, symbols_of, IsUntouched, Outside, HasRecorded, IsBlank, IsBlankFor, IsFilled, IsNamed}
+use Rattle.crun_cli.proofs.Common.{IsText, IsWritten, IsWrittenPart, HasPart, HasRun, HasStatus, IsTextsPart, IsTextsRun, StopsRun}
 use Rattle.c_tree.specs.Tree as tree
 use Rattle.c_meaning.specs.State.{Asks}
 use Rattle.c_meaning.specs.Run.{Outcome}

@@ -1,5 +1,7 @@
 -- The journal of a run, which a file takes.
-use Rattle.crun_cli.proofs.Common.{◌≡◌, ℕ, Bool, true, List, [], ◌++◌, map, Some, None, Option, sym, ap, ◌∙◌, append-nil, list_all, SymbolCall, lines_of, hosts_of, ask_of, HostModule, Asked, fits, run_with, Recorded, JournalFile, AreToFill, HasPartLeaving, HasTaken, IsBlank, IsFilled, HasRun}
+use Rattle.crun_cli.proofs.Common.{◌≡◌, ℕ, Bool, true, List, [], ◌++◌, map, Some, None, Option, sym, ap, ◌∙◌, append-nil, list_all}
+use Rattle.crun_cli.proofs.Common.{SymbolCall, lines_of, hosts_of, ask_of, HostModule, Asked, fits, run_with, Recorded, JournalFile}
+use Rattle.crun_cli.proofs.Common.{AreToFill, HasPartLeaving, HasTaken, IsBlank, IsFilled, HasRun}
 use Rattle.c_tree.specs.Tree as tree
 use Rattle.host_replay.proofs.Fits.{answered_fit}
 use Rattle.crun_cli.proofs.Lines.{asks_are}

@@ -1,5 +1,8 @@
 -- The hosts of a journal that is read offer each symbol once.
-use Rattle.crun_cli.proofs.Common.{◌≡◌, true, List, [], ◌∷◌, ◌++◌, map, sym, refl, ap, ◌∙◌, subst, map-append, Host, HostFunction, are_distinct, symbol_names, HostSymbol, hosts_of, symbols_distinct, hosts_same, none_distinct, read_distinct, IsJournal, empty, symbol_of, AreReplays, replaying, Recorded, AreDistinct, ReplayHost, symbol_in, symbols_of_host, symbols_of_hosts, AreOffered}
+use Rattle.crun_cli.proofs.Common.{◌≡◌, true, List, [], ◌∷◌, ◌++◌, map, sym, refl, ap, ◌∙◌, subst, map-append, Host, HostFunction}
+use Rattle.crun_cli.proofs.Common.{are_distinct, symbol_names, HostSymbol, hosts_of, symbols_distinct, hosts_same, none_distinct}
+use Rattle.crun_cli.proofs.Common.{read_distinct, IsJournal, empty, symbol_of, AreReplays, replaying, Recorded, AreDistinct, ReplayHost}
+use Rattle.crun_cli.proofs.Common.{symbol_in, symbols_of_host, symbols_of_hosts, AreOffered}
 use Rattle.host_replay.specs.Reading.{lines_of}
 use Rattle.host_replay.specs.Writable.{symbols_of}
 use Rattle.host_replay.proofs.Apart.{distinct_symbols}

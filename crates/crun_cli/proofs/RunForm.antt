@@ -1,5 +1,14 @@
 -- The run form: from what its steps say over texts and hosts to what the words ask for.
-use Rattle.crun_cli.proofs.Common.{◌≡◌, ℕ, ◌≤◌, List, Some, None, string_bytes, Option, MatchOption, sym, refl, ap, ◌∙◌, subst, inl, inr, Faulted, Contents, Name, Told, Tells, IsBegun, IsOneOf, SymbolCall, hosts_of, HostModule, hosts_same, AreReplays, replaying, Recorded, journal_text, ReplayHost, Line, RunLine, line_of, runs, AllRead, AreInputs, Held, IsInput, IsJournalReading, JournalReading, LongCalls, LongJournal, LongUnit, NoJournal, NotThere, StopsInputs, InputStop, IsTextsJob, Job, Stops, CallsLine, CallsTooLong, JournalLine, JournalTooLong, Reason, Refused, Unread, Unwritten, Usage, WantOfMemory, reason_of, stop_for, FilesSeen, HasPlayed, HasPlayedPart, IsJobWith, IsJournaled, IsUnwritten, Ran, RanPart, WithHosts, HasReading, IsReadBy, IsToRead, IsToWrite, IsUnitFile, HoldsJournal, IsJobOfTexts, IsLineJob, IsReplayJob, IsRunJob, symbols_of, IsUntouched, Outside, SinkSeen, IsRunUnwritten, IsTextsPart, IsTextsRun, StopsReplay, StopsRun, StopsWork}
+use Rattle.crun_cli.proofs.Common.{◌≡◌, ℕ, ◌≤◌, List, Some, None, string_bytes, Option, MatchOption, sym, refl, ap, ◌∙◌, subst, inl, inr}
+use Rattle.crun_cli.proofs.Common.{Faulted, Contents, Name, Told, Tells, IsBegun, IsOneOf, SymbolCall, hosts_of, HostModule, hosts_same}
+use Rattle.crun_cli.proofs.Common.{AreReplays, replaying, Recorded, journal_text, ReplayHost, Line, RunLine, line_of, runs, AllRead}
+use Rattle.crun_cli.proofs.Common.{AreInputs, Held, IsInput, IsJournalReading, JournalReading, LongCalls, LongJournal, LongUnit, NoJournal}
+use Rattle.crun_cli.proofs.Common.{NotThere, StopsInputs, InputStop, IsTextsJob, Job, Stops, CallsLine, CallsTooLong, JournalLine}
+use Rattle.crun_cli.proofs.Common.{JournalTooLong, Reason, Refused, Unread, Unwritten, Usage, WantOfMemory, reason_of, stop_for, FilesSeen}
+use Rattle.crun_cli.proofs.Common.{HasPlayed, HasPlayedPart, IsJobWith, IsJournaled, IsUnwritten, Ran, RanPart, WithHosts, HasReading}
+use Rattle.crun_cli.proofs.Common.{IsReadBy, IsToRead, IsToWrite, IsUnitFile, HoldsJournal, IsJobOfTexts, IsLineJob, IsReplayJob, IsRunJob}
+use Rattle.crun_cli.proofs.Common.{symbols_of, IsUntouched, Outside, SinkSeen, IsRunUnwritten, IsTextsPart, IsTextsRun, StopsReplay}
+use Rattle.crun_cli.proofs.Common.{StopsRun, StopsWork}
 use Rattle.w2c_io.proofs.Telling.{rose_from}
 use Rattle.c_tree.specs.Tree as tree
 use Rattle.crun_words.specs.declared.inputs.InputStop.TheVariants as input

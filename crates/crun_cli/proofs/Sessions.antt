@@ -1,7 +1,11 @@
 -- What a session has told stands in front of what every longer run tells.
-use Rattle.crun_cli.proofs.Common.{◌≡◌, ℕ, ◌+◌, ◌-◌, List, [], ◌∷◌, ◌++◌, map, length, is_some, Some, None, Option, option_map, sym, refl, ap, ◌∙◌, append-nil, arith, position_from, Call, Event, Init, Phase, Reply, Program, SymbolCall, defined_for_all, definition_at, CRun, Ended, Entry, Over, Pending, Progress, Stopped, after, begin_entry, begun, c_run, entries_of, over, run_of, Machine, Number, Stuck, UnitFunc, replies_in, HostModule, machine_with, Stands, State, objects_of, program_of, trail_of}
+use Rattle.crun_cli.proofs.Common.{◌≡◌, ℕ, ◌+◌, ◌-◌, List, [], ◌∷◌, ◌++◌, map, length, is_some, Some, None, Option, option_map, sym, refl}
+use Rattle.crun_cli.proofs.Common.{ap, ◌∙◌, append-nil, arith, position_from, Call, Event, Init, Phase, Reply, Program, SymbolCall}
+use Rattle.crun_cli.proofs.Common.{defined_for_all, definition_at, CRun, Ended, Entry, Over, Pending, Progress, Stopped, after, begin_entry}
+use Rattle.crun_cli.proofs.Common.{begun, c_run, entries_of, over, run_of, Machine, Number, Stuck, UnitFunc, replies_in, HostModule}
+use Rattle.crun_cli.proofs.Common.{machine_with, Stands, State, objects_of, program_of, trail_of}
 use Rattle.c_meaning.specs.Machine.{fresh}
-use Rattle.c_meaning.specs.Step.{Step, Next, Back, Stops, begin, call}
+use Rattle.c_meaning.specs.Step.{Step, Next, begin, call}
 use Rattle.c_meaning.proofs.Fronts.{entries_behind, entries_longer}
 use Rattle.c_meaning.proofs.Longer.{after_over, after_sum}
 use Rattle.c_meaning.proofs.Told.{machine_of}
@@ -13,8 +17,7 @@ use Rattle.c_sound.proofs.Trails.{begin_keeps}
 
 begun_same : (pending : Pending) (o : Step) → events_of (begun pending o) ≡ (machine_of o).trail.events
 begun_same pending (Next s) = refl
-begun_same pending (Back m value) = refl
-begun_same pending (Stops m why) = refl
+begun_same pending _ = refl
 
 entry_same : (p : Program) (m : Machine) (last : Phase) (k : ℕ) (more : List SymbolCall)
     → events_of (begin_entry p m last (entries_behind p k more)) ≡ m.trail.events

@@ -1,5 +1,8 @@
 -- What the calls of a session and the lines that were written of them make of where a run stands.
-use Rattle.crun_cli.proofs.Common.{◌≡◌, ℕ, List, [], ◌∷◌, ◌++◌, map, length, drop, IfSome, Some, None, Option, sym, ap, ◌∙◌, subst, Ask, Call, Event, Init, asks_in, extended, SaysPart, SymbolCall, c_run, hosts_of, ask_of, events_in, replies_in, Asks, HostModule, Asked, IsLast, IsOutcome, Stands, State, objects_of, program_of, standing_of, told_by, Outcome, lines_behind, status_of_outcome}
+use Rattle.crun_cli.proofs.Common.{◌≡◌, ℕ, List, [], ◌∷◌, ◌++◌, map, length, drop, IfSome, Some, None, Option, sym, ap, ◌∙◌, subst, Ask}
+use Rattle.crun_cli.proofs.Common.{Call, Event, Init, asks_in, extended, SaysPart, SymbolCall, c_run, hosts_of, ask_of, events_in}
+use Rattle.crun_cli.proofs.Common.{replies_in, Asks, HostModule, Asked, IsLast, IsOutcome, Stands, State, objects_of, program_of}
+use Rattle.crun_cli.proofs.Common.{standing_of, told_by, Outcome, lines_behind, status_of_outcome}
 use Rattle.crun.specs.declared.outcome.Standing.TheVariants as standing
 use Rattle.crun_cli.specs.Playing.{HasPlayed, IsBehind, IsLeft, IsSince, IsStored}
 use Rattle.crun_cli.proofs.Behind.{

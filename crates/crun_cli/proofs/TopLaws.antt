@@ -1,15 +1,14 @@
 -- What the top call says, from why its work stopped or what it came to.
-use Rattle.crun_cli.proofs.Common.{◌≡◌, ℕ, ◌≤◌, ◌⊎◌, List, Some, None, Option, MatchOption, sym, refl, ◌∙◌, subst, inl, inr, arith, Faulted, Rose, Contents, Name, Tells, SymbolCall, hosts_of, HostModule, RunLine, line_of, runs, AllRead, Held, IsJournalReading, JournalReading, LongCalls, LongJournal, LongUnit, NoJournal, NotThere, IsTextsJob, Job, Run, Stops, Write, Reason, Refused, Unread, Unwritten, Usage, WantOfMemory, status_of, RunsAgain, Begun, BegunIfAny, By_refusal, By_run, By_unit, Finished, HasAnswer, HasPlayed, IsAnswered, IsJobWith, IsRunStatus, IsUnread, IsUnwritten, Refuses, WithHosts, HasReading, IsToRead, IsUnitFile, IsLineJob, IsReplayJob, IsRunJob, symbols_of, IsUntouched, Outside, StopsWork}
+use Rattle.crun_cli.proofs.Common.{◌≡◌, ℕ, ◌≤◌, ◌⊎◌, List, Some, None, Option, MatchOption, sym, refl, ◌∙◌, subst, inl, inr, arith, Faulted}
+use Rattle.crun_cli.proofs.Common.{Rose, Contents, Name, Tells, SymbolCall, hosts_of, HostModule, RunLine, line_of, runs, AllRead, Held}
+use Rattle.crun_cli.proofs.Common.{IsJournalReading, JournalReading, LongCalls, LongJournal, LongUnit, NoJournal, NotThere, IsTextsJob, Job}
+use Rattle.crun_cli.proofs.Common.{Run, Stops, Write, Reason, Refused, Unread, Unwritten, Usage, WantOfMemory, status_of, RunsAgain, Begun}
+use Rattle.crun_cli.proofs.Common.{BegunIfAny, By_refusal, By_run, By_unit, Finished, HasAnswer, HasPlayed, IsAnswered, IsJobWith}
+use Rattle.crun_cli.proofs.Common.{IsRunStatus, IsUnread, IsUnwritten, Refuses, WithHosts, HasReading, IsToRead, IsUnitFile, IsLineJob}
+use Rattle.crun_cli.proofs.Common.{IsReplayJob, IsRunJob, symbols_of, IsUntouched, Outside, StopsWork}
 use Rattle.c_tree.specs.Tree as tree
 use Rattle.crun_cli.proofs.AgainLaws.{runs_again}
 use Rattle.crun_cli.proofs.OneJob.{one_job}
-
--- a status of a run is none of those by which the program stops
-pub run_apart : (status n : ℕ) → IsRunStatus status → status ≡ n → (n ≡ 2) ⊎ (n ≡ 3) ⊎ (n ≡ 4) ⊎ (n ≡ 5) ⊎ (n ≡ 6) → ⊥
-run_apart status n run same stop = omega (arith, run, same, stop)
-
-pub run_small : (status : ℕ) → IsRunStatus status → status ≤ 8
-run_small status run = omega (arith, run)
 
 abbrev IsStatus : ℕ → Reason → Type 0
 IsStatus status why = (status ≡ status_of why) ⊎ (status ≡ 5)
@@ -21,9 +20,6 @@ stop_range _ = (omega arith, omega arith)
 -- it is no status of a run
 pub stop_apart : (status : ℕ) (why : Reason) → IsStatus status why → IsRunStatus status → ⊥
 stop_apart status why is run = let range = stop_range why in omega (arith, is, run, range.0, range.1)
-
-pub stop_small : (status : ℕ) (why : Reason) → IsStatus status why → status ≤ 8
-stop_small status why is = let range = stop_range why in omega (arith, is, range.1)
 
 -- the reason of a status that has one
 pub of_status_3 : (why : Reason) → status_of why ≡ 3 → (file : Name) × (why ≡ Unread file)
@@ -135,8 +131,7 @@ module _ {H : Type 0} (hm : HostModule H) (hosts : List H) (words : List Name) w
     where
       IsOfStop : Job → Type 0
       IsOfStop (Stops w) = status ≡ status_of w
-      IsOfStop (Run units calls steps shown) = ⊥
-      IsOfStop (Write output unit) = ⊥
+      IsOfStop _ = ⊥
   decided m status why (By_unit output unit job is) refused = absurd (no_unit m output unit why job refused)
   decided m status why (By_run (line, units, calls, is, job, with)) refused = absurd
       (no_run m units calls line.steps line.shows_state why job refused)

@@ -1,5 +1,10 @@
 -- The forms that write a unit: from what is asked for over what files hold to what the words ask for.
-use Rattle.crun_cli.proofs.Common.{◌≡◌, ◌⊎◌, List, [], ◌∷◌, Some, None, Option, MatchOption, sym, refl, ◌∙◌, subst, inl, inr, Faulted, Contents, Name, holding, IsOneOf, CSpells, print_of, hosts_of, HostModule, Line, MergeLine, TrimLine, line_of, merges, trims, Job, Stops, Write, Reason, Refused, Unread, Unwritten, Usage, WantOfMemory, AreUntouched, FilesSeen, IsMergeJob, IsTrimJob, IsUnitPart, StopsWrite, BegunIfAny, Finished, IsJobWith, WrotePart, HasReading, IsReadBy, IsToRead, IsToWrite, IsUnitFile, IsUnitOf, IsWrittenBy, IsLineJob, symbols_of, IsUntouched, Outside, SinkSeen, StopsWork}
+use Rattle.crun_cli.proofs.Common.{◌≡◌, ◌⊎◌, List, [], ◌∷◌, Some, None, Option, MatchOption, sym, refl, ◌∙◌, subst, inl, inr, Faulted}
+use Rattle.crun_cli.proofs.Common.{Contents, Name, holding, IsOneOf, CSpells, print_of, hosts_of, HostModule, Line, MergeLine, TrimLine}
+use Rattle.crun_cli.proofs.Common.{line_of, merges, trims, Job, Stops, Write, Reason, Refused, Unread, Unwritten, Usage, WantOfMemory}
+use Rattle.crun_cli.proofs.Common.{AreUntouched, FilesSeen, IsMergeJob, IsTrimJob, IsUnitPart, StopsWrite, BegunIfAny, Finished, IsJobWith}
+use Rattle.crun_cli.proofs.Common.{WrotePart, HasReading, IsReadBy, IsToRead, IsToWrite, IsUnitFile, IsUnitOf, IsWrittenBy, IsLineJob}
+use Rattle.crun_cli.proofs.Common.{symbols_of, IsUntouched, Outside, SinkSeen, StopsWork}
 use Rattle.c_tree.specs.Tree as tree
 
 module _ {H : Type 0} (hm : HostModule H) (hosts : List H) (words : List Name) (form : Line) (is : line_of words ≡ Some form)
@@ -90,12 +95,6 @@ module _ {H : Type 0} (hm : HostModule H) (hosts : List H) (words : List Name) (
     only : (file : Name) → IsOneOf file (line.unit ∷ []) → file ≡ line.unit
     only file (inl same) = same
     only file (inr none) = absurd none
-
-    pub trim_done : (m : Contents) → (unit : List tree.Item) × IsTrimJob line m (Write line.output unit)
-        × CSpells unit (print_of unit) × (new.told ≡ holding start.told line.output (print_of unit))
-        → Finished hm hosts words m (record { files = start; out = out }) (record { files = new; out = out }) 0
-    trim_done = unit_done hm hosts words (trims line) is (IsTrimJob line) (λ m job of. of) (line.unit ∷ []) line.output only only refl out
-        start new
 
     pub trim_stop : (why : Reason) → StopsWrite (IsTrimJob line) (line.unit ∷ []) line.output start new why
         → StopsWork hm hosts words (record { files = start; out = out }) (record { files = new; out = out }) why

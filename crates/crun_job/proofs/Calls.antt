@@ -1,11 +1,15 @@
 -- Which call a line names.
-use Rattle.crun_job.proofs.Common.{◌≡◌, ℕ, Bool, true, ◌&&◌, List, [], ◌∷◌, map, Some, None, All, Option, sym, refl, ap, ◌∙◌, subst, and_parts, false≢true, list_all, list_any, is_number, number_of, types_of, Value, same_type, same_types, CType, Program, SymbolCall, c_params_of, fits, signature_of, takes, takes_if_any, AreArguments, Call, SaysCall, NumberedLine, AreCalls, Names, program_of, AllFit, call_seen, calls_seen, NamedCall}
+use Rattle.crun_job.proofs.Common.{◌≡◌, ℕ, Bool, true, ◌&&◌, List, [], ◌∷◌, map, Some, None, All, Option, sym, refl, ap, ◌∙◌, subst}
+use Rattle.crun_job.proofs.Common.{and_parts, false≢true, list_all, list_any, is_number, number_of, types_of, Value, same_type, same_types}
+use Rattle.crun_job.proofs.Common.{CType, Program, SymbolCall, c_params_of, fits, signature_of, takes, takes_if_any, AreArguments, Call}
+use Rattle.crun_job.proofs.Common.{SaysCall, NumberedLine, AreCalls, Names, program_of, AllFit, call_seen, calls_seen, NamedCall}
 use Rattle.std.proofs.lemmas.List.Elements.{All-cons, All-nil}
 use Rattle.c_tree.specs.Tree as tree
 use Rattle.c_tree.specs.declared.tree.CType.TheVariants.{Void, U32, U64}
+use Rattle.c_tree.proofs.SameTypes.{types_same}
 use Rattle.c_link.proofs.Programs.{fits_says}
 use Rattle.crun_words.proofs.Said.{one_call}
-use Rattle.crun_job.proofs.Values.{all_numbers, same_values, types_same}
+use Rattle.crun_job.proofs.Values.{all_numbers, same_values}
 
 -- a call that fits is one of a function that takes its arguments
 fitting : (units : List (List tree.Item)) (call : SymbolCall) (o : Option tree.FuncType) → signature_of units call.symbol ≡ o

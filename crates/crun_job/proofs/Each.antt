@@ -1,6 +1,7 @@
 -- Lists of which each element has its own in another list: an element more, the first that is refused, and that there is one
 -- such list or one such element.
-use Rattle.crun_job.proofs.Common.{◌≡◌, ℕ, suc, ◌<◌, List, [], ◌∷◌, ◌++◌, map, length, get_or, take, drop, sym, refl, ap, ◌∙◌, subst, arith, length-append, map_push}
+use Rattle.crun_job.proofs.Common.{◌≡◌, ℕ, suc, ◌<◌, List, [], ◌∷◌, ◌++◌, map, length, get_or, take, drop, sym, refl, ap, ◌∙◌, subst, arith}
+use Rattle.crun_job.proofs.Common.{length-append, map_push}
 use Rattle.crun_job.specs.Each.{AreEach, IsFirst}
 use Rattle.w2c_base.proofs.Nothing.{same_parts}
 use Rattle.crun_job.proofs.Taken.{split_at, in_front}

@@ -1,5 +1,7 @@
 -- Texts come to one job at most.
-use Rattle.crun_job.proofs.Common.{◌≡◌, ℕ, List, slice_get, Some, sym, refl, ap, ◌∙◌, subst, same_Some, SymbolCall, NumberedLine, call_lines_of, RunLine, AreCalls, IsFirstRefusedLine, IsRefusedLine, NamesFrom, CallsLine, Refused, AreLinked, IsRefusedUnit, Symbols, Cause}
+use Rattle.crun_job.proofs.Common.{◌≡◌, ℕ, List, slice_get, Some, sym, refl, ap, ◌∙◌, subst, same_Some, SymbolCall, NumberedLine}
+use Rattle.crun_job.proofs.Common.{call_lines_of, RunLine, AreCalls, IsFirstRefusedLine, IsRefusedLine, NamesFrom, CallsLine, Refused}
+use Rattle.crun_job.proofs.Common.{AreLinked, IsRefusedUnit, Symbols, Cause}
 use Rattle.w2c_io.specs.Contents.{Name}
 use Rattle.c_tree.specs.Tree as tree
 use Rattle.crun_job.specs.Job.{IsTextsJob, Job, Run, Stops}

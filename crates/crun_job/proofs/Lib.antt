@@ -1,12 +1,14 @@
-mod Common
-pub mod Taken
+-- What crates above cite.
 pub mod Each
 pub mod Texts
-pub mod Links
-pub mod Within
 pub mod UnitLaws
-pub mod Values
-pub mod Calls
-pub mod Lines
 pub mod JobLaws
-pub mod Tasks
+-- What the crate's own proofs cite.
+mod Common
+mod Taken
+mod Links
+mod Within
+mod Values
+mod Calls
+mod Lines
+mod Tasks

@@ -1,5 +1,7 @@
 -- The lines of a calls file that are gone through: one more that names a call, and the first that names none.
-use Rattle.crun_job.proofs.Common.{◌≡◌, ℕ, ◌+◌, ◌<◌, List, [], ◌∷◌, ◌++◌, length, get_or, take, sym, refl, ◌∙◌, subst, get_or_default, length-map, SymbolCall, seen_lines, seen_numbered, AreCalls, IsFirstRefusedLine, IsRefusedLine, Names, NamesFrom, call_seen, calls_seen, NamedCall}
+use Rattle.crun_job.proofs.Common.{◌≡◌, ℕ, ◌+◌, ◌<◌, List, [], ◌∷◌, ◌++◌, length, get_or, take, sym, refl, ◌∙◌, subst, get_or_default}
+use Rattle.crun_job.proofs.Common.{length-map, SymbolCall, seen_lines, seen_numbered, AreCalls, IsFirstRefusedLine, IsRefusedLine, Names}
+use Rattle.crun_job.proofs.Common.{NamesFrom, call_seen, calls_seen, NamedCall}
 use Rattle.std.proofs.Math.ListN.{get_or-map}
 use Rattle.c_tree.specs.Tree as tree
 use Rattle.crun_words.specs.CallsFile as file

@@ -1,5 +1,6 @@
 -- Refusals of texts and of the linker, as refusals of units.
-use Rattle.crun_job.proofs.Common.{ℕ, List, length, refl, inl, inr, arith, first_refusal, Symbols, IsWithin, RefusesTexts, RefusesUnits, refusal_for, AreUnitTexts, IsRefusedText, IsUnitText, UnitsRefusal}
+use Rattle.crun_job.proofs.Common.{ℕ, List, length, refl, inl, inr, arith, first_refusal, Symbols, IsWithin, RefusesTexts, RefusesUnits}
+use Rattle.crun_job.proofs.Common.{refusal_for, AreUnitTexts, IsRefusedText, IsUnitText, UnitsRefusal}
 use Rattle.c_tree.specs.Tree as tree
 use Rattle.c_meaning.specs.Linking as linking
 use Rattle.c_link.specs.declared.refusal.LinkRefusal.{LinkRefusal}

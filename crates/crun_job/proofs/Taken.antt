@@ -1,5 +1,6 @@
 -- A list that is gone through, at the element with a number.
-use Rattle.crun_job.proofs.Common.{◌≡◌, ℕ, suc, ◌+◌, ◌<◌, List, [], ◌∷◌, ◌++◌, length, get_or, take, drop, sym, ap, ◌∙◌, arith, take-append-drop, length-take-le, drop-cons, take_more}
+use Rattle.crun_job.proofs.Common.{◌≡◌, ℕ, suc, ◌+◌, ◌<◌, List, [], ◌∷◌, ◌++◌, length, get_or, take, drop, sym, ap, ◌∙◌, arith}
+use Rattle.crun_job.proofs.Common.{take-append-drop, length-take-le, drop-cons, take_more}
 
 module _ {X : Type 0} (xs : List X) (i : ℕ) (x : X) (less : i < length xs) (is : x ≡ get_or xs i x) where
   -- the elements in front of it, it, and those behind it

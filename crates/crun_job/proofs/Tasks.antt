@@ -1,5 +1,6 @@
 -- A unit that is refused, by its file.
-use Rattle.crun_job.proofs.Common.{ℕ, List, sym, subst, inl, inr, RunLine, Reason, Symbols, RefusesUnits, StopsTexts, StopsUnit, UnitsRefusal}
+use Rattle.crun_job.proofs.Common.{ℕ, List, sym, subst, inl, inr, RunLine, Reason, Symbols, RefusesUnits, StopsTexts, StopsUnit}
+use Rattle.crun_job.proofs.Common.{UnitsRefusal}
 use Rattle.crun_job.specs.declared.refusal.UnitsRefusal.TheVariants as refusal
 
 module _ (line : RunLine) (symbols : Symbols) (texts : List (List ℕ)) (text : List ℕ) where

@@ -1,5 +1,7 @@
 -- Texts of units: a text comes to one thing, and the first that is refused.
-use Rattle.crun_job.proofs.Common.{◌≡◌, ℕ, zero, suc, ◌<◌, ◌≤◌, List, [], ◌∷◌, length, get_or, take, Some, None, Option, sym, refl, ap, ◌∙◌, subst, arith, RefusesText, RefusesTexts, AreShort, AreUnitTexts, IsFirstRefusedText, IsRefusedText, IsUnitText, most_unit_bytes, UnitsRefusal, Cause}
+use Rattle.crun_job.proofs.Common.{◌≡◌, ℕ, zero, suc, ◌<◌, ◌≤◌, List, [], ◌∷◌, length, get_or, take, Some, None, Option, sym, refl, ap, ◌∙◌}
+use Rattle.crun_job.proofs.Common.{subst, arith, RefusesText, RefusesTexts, AreShort, AreUnitTexts, IsFirstRefusedText, IsRefusedText}
+use Rattle.crun_job.proofs.Common.{IsUnitText, most_unit_bytes, UnitsRefusal, Cause}
 use Rattle.c_tree.specs.declared.token.CReadFault.{CReadFault}
 use Rattle.c_tree.specs.declared.token.CReadFault.TheVariants as fault
 use Rattle.c_tree.specs.Tree as tree
@@ -39,10 +41,7 @@ text_apart text items (cause.Rule item statement rule) is (others, spelled, brok
     let same = one_unit items others text is.0 spelled in
     (let both : ◌≡◌ {A = Option BrokenAt} None (Some (record { item = item; statement = statement; rule = rule })) =
     sym is.1 ∙ ap first_broken same ∙ broken in cc)
-text_apart text items cause.TooLong is refused = refused
-text_apart text items (cause.Undefined symbol) is refused = refused
-text_apart text items (cause.Twice symbol) is refused = refused
-text_apart text items (cause.TypeDiffers symbol) is refused = refused
+text_apart text items _ is refused = refused
 
 -- the cause that a fault is refused by, and a broken rule
 abbrev cause_of : CReadFault → Cause
@@ -66,10 +65,7 @@ seen text (cause.Unexpected place wanted) refused = Faulty (fault.Unexpected pla
 seen text (cause.NumberTooLarge place) refused = Faulty (fault.NumberTooLarge place) refused refl
 seen text (cause.TooDeep place) refused = Faulty (fault.TooDeep place) refused refl
 seen text (cause.Rule item statement rule) (items, spells, broken) = Broken items spells (sym (ap cause_of_rule broken))
-seen text cause.TooLong refused = absurd refused
-seen text (cause.Undefined symbol) refused = absurd refused
-seen text (cause.Twice symbol) refused = absurd refused
-seen text (cause.TypeDiffers symbol) refused = absurd refused
+seen text _ refused = absurd refused
 
 pub one_cause : (text : List ℕ) (a b : Cause) → IsRefusedText text a → IsRefusedText text b → a ≡ b
 one_cause text a b refused refused' = by_seen (seen text a refused) (seen text b refused')

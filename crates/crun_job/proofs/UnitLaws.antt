@@ -1,5 +1,6 @@
 -- Texts are those of one list of units, or one unit is refused.
-use Rattle.crun_job.proofs.Common.{◌≡◌, ℕ, List, Some, None, Option, sym, ap, ◌∙◌, subst, inl, inr, same_Some, first_refusal, AreLinked, Concerns, IsRefusedUnit, Symbols, AreUnitTexts, IsFirstRefusedText, IsRefusedText, IsUnitText, Cause}
+use Rattle.crun_job.proofs.Common.{◌≡◌, ℕ, List, Some, None, Option, sym, ap, ◌∙◌, subst, inl, inr, same_Some, first_refusal, AreLinked}
+use Rattle.crun_job.proofs.Common.{Concerns, IsRefusedUnit, Symbols, AreUnitTexts, IsFirstRefusedText, IsRefusedText, IsUnitText, Cause}
 use Rattle.c_tree.specs.Tree as tree
 use Rattle.c_meaning.specs.Linking as linking
 use Rattle.crun_job.proofs.Each.{first_apart, one_each, one_first}
@@ -11,8 +12,7 @@ one_units texts a b first second = one_each IsUnitText one_items texts a b first
 -- the linker's refusal is of one unit and has one cause
 one_concern : (r : linking.LinkRefusal) (k n : ℕ) (why other : Cause) → Concerns r k why → Concerns r n other → (k ≡ n) × (why ≡ other)
 one_concern (linking.NotDefined unit symbol) k n why other a b = (a.0 ∙ sym b.0, a.1 ∙ sym b.1)
-one_concern (linking.Twice unit symbol) k n why other a b = (a.0 ∙ sym b.0, a.1 ∙ sym b.1)
-one_concern (linking.TypeDiffers unit symbol) k n why other a b = (a.0 ∙ sym b.0, a.1 ∙ sym b.1)
+one_concern _ k n why other a b = (a.0 ∙ sym b.0, a.1 ∙ sym b.1)
 
 -- a text that is refused is none of a unit
 pub texts_apart : (texts : List (List ℕ)) (k : ℕ) (why : Cause) (units : List (List tree.Item)) → IsFirstRefusedText texts k why

@@ -1,31 +1,9 @@
 -- Values that are told by the types of parameters and by their numbers.
-use Rattle.crun_job.proofs.Common.{◌≡◌, true, List, [], ◌∷◌, map, All, refl, ap, ◌∙◌, and_parts, false≢true, list_all, IsNumber, is_number, number_of, type_of, types_of, Value, same_type, same_types, CType, c_params_of, c_type_of}
+use Rattle.crun_job.proofs.Common.{◌≡◌, true, List, [], ◌∷◌, map, All, refl, ap, ◌∙◌, false≢true, list_all, IsNumber, is_number, number_of}
+use Rattle.crun_job.proofs.Common.{type_of, types_of, Value, c_params_of, c_type_of}
 use Rattle.std.proofs.lemmas.List.Sums.{AllPass-from_list_all}
 use Rattle.w2c_base.specs.declared.value.Value.TheVariants.{I32, I64}
 use Rattle.w2c_base.proofs.Numbers.{found_is_number}
-use Rattle.c_tree.specs.declared.tree.CType.TheVariants as type
-
--- types that are equal by the test for it are equal
-type_same : (t u : CType) → same_type t u ≡ true → t ≡ u
-type_same type.Void type.Void e = refl
-type_same type.U32 type.U32 e = refl
-type_same type.U64 type.U64 e = refl
-type_same type.PtrU32 type.PtrU32 e = refl
-type_same type.PtrU64 type.PtrU64 e = refl
-type_same type.Mem type.Mem e = refl
-type_same type.PtrMem type.PtrMem e = refl
-type_same type.Tab type.Tab e = refl
-type_same type.PtrTab type.PtrTab e = refl
-type_same type.FnPtr type.FnPtr e = refl
-type_same _ _ e = absurd (false≢true e)
-
-pub types_same : (ts us : List CType) → same_types ts us ≡ true → ts ≡ us
-types_same [] [] e = refl
-types_same (t ∷ ts) (u ∷ us) e =
-    let h = and_parts (same_type t u) (same_types ts us) e in
-    ap (λ x. x ∷ ts) (type_same t u h.0) ∙ ap (λ xs. u ∷ xs) (types_same ts us h.1)
-types_same [] (u ∷ us) e = absurd (false≢true e)
-types_same (t ∷ ts) [] e = absurd (false≢true e)
 
 same_value : (v w : Value) → c_type_of (type_of v) ≡ c_type_of (type_of w) → number_of v ≡ number_of w → v ≡ w
 same_value (I32 n) (I32 m) types numbers = ap I32 numbers

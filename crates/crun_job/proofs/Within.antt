@@ -10,5 +10,4 @@ concern_within units symbols r k why first concerns = by_kind r (refusal_within 
   where
     by_kind : (r : linking.LinkRefusal) → unit_named r < length units → Concerns r k why → k < length units
     by_kind (linking.NotDefined unit symbol) less is = omega (arith, less, is.0)
-    by_kind (linking.Twice unit symbol) less is = omega (arith, less, is.0)
-    by_kind (linking.TypeDiffers unit symbol) less is = omega (arith, less, is.0)
+    by_kind _ less is = omega (arith, less, is.0)

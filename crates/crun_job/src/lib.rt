@@ -11,7 +11,7 @@ mod refusal;
 mod stop;
 mod task;
 
-pub use calls_file::{NamedCall, read_calls};
+pub use calls_file::NamedCall;
 pub use checking::check_units;
 pub use law::{
     hosts_say_nothing, one_list_of_units, one_refused_text, one_refused_unit, one_texts_job,

@@ -1,5 +1,6 @@
 -- Objects by the numbers of their names.
-use Rattle.crun_lines.proofs.Common.{◌≡◌, ℕ, ◌+◌, List, [], ◌∷◌, map, length, get_or, drop, zip, sym, refl, ap, ◌∙◌, add-one, arith, drop-cons, insert_entry, match_ordering, Name, in_order, name_order, numbered_from, put_in_order}
+use Rattle.crun_lines.proofs.Common.{◌≡◌, ℕ, ◌+◌, List, [], ◌∷◌, map, length, get_or, drop, zip, sym, refl, ap, ◌∙◌, add-one, arith}
+use Rattle.crun_lines.proofs.Common.{drop-cons, insert_entry, match_ordering, Name, in_order, name_order, numbered_from, put_in_order}
 use Rattle.crun_lines.proofs.Placing.{map_matched}
 
 -- with something else beside each name

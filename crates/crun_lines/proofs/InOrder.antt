@@ -1,25 +1,21 @@
 -- Names in their order: each stands before those behind it, and none is lost where all differ.
-use Rattle.crun_lines.proofs.Common.{◌≡◌, ◌≢◌, List, [], ◌∷◌, ◌++◌, length, IsPermutation, nat_cmp, sym, refl, ap, ◌∙◌, subst, append-nil, insert_entry, nat_list_cmp_total, slice_cmp, AllByRecursion, keys_of, match_ordering, ordering_reverse, ordering_then, Ordering, Equal, Greater, Less, Name, in_order, name_order, put_in_order}
+use Rattle.crun_lines.proofs.Common.{◌≡◌, ◌≢◌, List, [], ◌∷◌, ◌++◌, length, IsPermutation, nat_cmp, sym, refl, ap, ◌∙◌, subst, append-nil}
+use Rattle.crun_lines.proofs.Common.{insert_entry, nat_list_cmp_total, slice_cmp, AllByRecursion, keys_of, match_ordering, ordering_reverse}
+use Rattle.crun_lines.proofs.Common.{ordering_then, Ordering, Equal, Greater, Less, Name, in_order, name_order, put_in_order}
 use Rattle.std.specs.List.Sorted.{IsStrictlySortedBy}
 use Rattle.std.specs.Cmp.{IsTotalOrder, nat_cmp_total, on_total, then_total}
-use Rattle.std.proofs.lemmas.List.Sorted.{IsPermutation-append_right, IsPermutation-cons, IsPermutation-middle, IsPermutation-refl, IsPermutation-sym, IsPermutation-trans}
+use Rattle.std.proofs.lemmas.List.Sorted.{IsPermutation-append_right, IsPermutation-cons, IsPermutation-middle, IsPermutation-refl}
+use Rattle.std.proofs.lemmas.List.Sorted.{IsPermutation-sym, IsPermutation-trans}
 use Rattle.std.proofs.lemmas.Map.Lookups.{exact_bytes}
 use Rattle.w2c_base.specs.Lookup.{AreDistinct}
+use Rattle.w2c_base.proofs.OfEach.{of_each}
 
 names_total : IsTotalOrder name_order
 names_total = then_total (on_total length nat_cmp_total) nat_list_cmp_total
 
 second_equal : (o p : Ordering) → ordering_then o p ≡ Equal → p ≡ Equal
-second_equal Less p e = absurd cc
 second_equal Equal p e = e
-second_equal Greater p e = absurd cc
-
-equal_names : (x y : Name) → name_order x y ≡ Equal → x ≡ y
-equal_names x y e = exact_bytes x y (second_equal (nat_cmp (length x) (length y)) (slice_cmp nat_cmp x y) e)
-
-all_map : {X : Type 0} (P Q : X → Type 0) → ((x : X) → P x → Q x) → (xs : List X) → AllByRecursion P xs → AllByRecursion Q xs
-all_map P Q f [] h = tt
-all_map P Q f (x ∷ xs) h = (f x h.0, all_map P Q f xs h.1)
+second_equal _ p e = absurd cc
 
 -- a name that is put in front of the first entry, in its place, or behind it
 abbrev put : {A : Type 0} → Ordering → Name → A → Name × A → List (Name × A) → List (Name × A)
@@ -44,7 +40,7 @@ insert_sorted (e ∷ entries) k v s = by (insert_sorted entries k v s.1) (name_o
       → IsStrictlySortedBy name_order (keys_of (put o k v e entries))
   by rest Less q =
       let below : AllByRecursion (λ y. name_order k y ≡ Less) (keys_of entries) =
-      all_map (λ y. name_order e.0 y ≡ Less) (λ y. name_order k y ≡ Less)
+      of_each (λ y. name_order e.0 y ≡ Less) (λ y. name_order k y ≡ Less)
       (λ y h. names_total.trans k e.0 y q h) (keys_of entries) s.0 in
       ((q, below), s)
   by rest Equal q = s
@@ -67,7 +63,7 @@ insert_permutes {A} (e ∷ entries) k v h = by (insert_permutes entries k v h.1)
   by : IsPermutation ((k, v) ∷ entries) (insert_entry name_order entries k v) → (o : Ordering) → name_order k e.0 ≡ o
       → IsPermutation ((k, v) ∷ e ∷ entries) (put o k v e entries)
   by rest Less q = IsPermutation-refl ((k, v) ∷ e ∷ entries)
-  by rest Equal q = absurd (h.0 (equal_names k e.0 q))
+  by rest Equal q = absurd (h.0 (exact_bytes k e.0 (second_equal (nat_cmp (length k) (length e.0)) (slice_cmp nat_cmp k e.0) q)))
   by rest Greater q =
       IsPermutation-trans ((k, v) ∷ e ∷ entries) (e ∷ (k, v) ∷ entries) (e ∷ insert_entry name_order entries k v)
       (IsPermutation-sym (e ∷ (k, v) ∷ entries) ((k, v) ∷ e ∷ entries) (IsPermutation-middle (e ∷ []) (k, v) entries))

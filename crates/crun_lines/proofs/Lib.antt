@@ -1,6 +1,8 @@
-mod Common
+-- What crates above cite.
 pub mod ByNumber
 pub mod Events
-pub mod InOrder
-pub mod Placing
-pub mod RowBytes
+-- What the crate's own proofs cite.
+mod Common
+mod InOrder
+mod Placing
+mod RowBytes

@@ -1,5 +1,7 @@
 -- Names that are put to their places beside their lengths.
-use Rattle.crun_lines.proofs.Common.{◌≡◌, ℕ, ◌+◌, ◌<◌, List, [], ◌∷◌, map, length, get_or, drop, All, nat_cmp, sym, refl, ap, ◌∙◌, add-one, drop-cons, Bor, insert_entry, slice_cmp, keys_of, match_ordering, ordering_then, Ordering, Equal, Greater, Less, Name, name_order, numbered_from, put_in_order, texts}
+use Rattle.crun_lines.proofs.Common.{◌≡◌, ℕ, ◌+◌, ◌<◌, List, [], ◌∷◌, map, length, get_or, drop, All, nat_cmp, sym, refl, ap, ◌∙◌, add-one}
+use Rattle.crun_lines.proofs.Common.{drop-cons, Bor, insert_entry, slice_cmp, keys_of, match_ordering, ordering_then, Ordering, Less, Name}
+use Rattle.crun_lines.proofs.Common.{name_order, numbered_from, put_in_order, texts}
 use Rattle.std.proofs.lemmas.List.Elements.{All-head, All-tail}
 use Rattle.std.proofs.lemmas.Map.Views.{All-keys-insert_entry}
 
@@ -18,8 +20,7 @@ shown e = (e.0.1.now, e.1)
 
 pub map_matched : {A B : Type 0} (f : A → B) (o : Ordering) (x y z : A) → f (match_ordering o x y z) ≡ match_ordering o (f x) (f y) (f z)
 map_matched f Less x y z = refl
-map_matched f Equal x y z = refl
-map_matched f Greater x y z = refl
+map_matched f _ x y z = refl
 
 same_order : (k l : Key) → TellsLength k → TellsLength l → key_order k l ≡ name_order k.1.now l.1.now
 same_order k l e f = ap (λ n. ordering_then (nat_cmp n l.0) (slice_cmp nat_cmp k.1.now l.1.now)) e

@@ -1,5 +1,7 @@
 -- Rows of bytes: in halves that are numbers, and one byte after another.
-use Rattle.crun_lines.proofs.Common.{◌≡◌, ℕ, suc, ◌+◌, ◌-◌, ◌*◌, ◌<◌, ◌&&◌, List, [], ◌∷◌, ◌++◌, length, get_or, take, drop, set, ◌==◌, slice_range, sym, refl, ap, ◌∙◌, add-one, arith, length-drop, get_or-drop, drop-cons, take-suc, drop-drop, take-suc-set, take-add, list_all, bytes_at, little_endian}
+use Rattle.crun_lines.proofs.Common.{◌≡◌, ℕ, suc, ◌+◌, ◌-◌, ◌*◌, ◌<◌, ◌&&◌, List, [], ◌∷◌, ◌++◌, length, get_or, take, drop, set, ◌==◌}
+use Rattle.crun_lines.proofs.Common.{slice_range, sym, refl, ap, ◌∙◌, add-one, arith, length-drop, get_or-drop, drop-cons, take-suc}
+use Rattle.crun_lines.proofs.Common.{drop-drop, take-suc-set, take-add, list_all, bytes_at, little_endian}
 use Rattle.std.proofs.Math.Seq.{take-length}
 use Rattle.std.proofs.lemmas.Bool.Decides.{nat_tests}
 use Rattle.std.proofs.lemmas.List.Folds.{list_all-append}

@@ -1,21 +1,16 @@
 -- In a checked unit the names of objects have letters, and no two of them are equal, within a kind and
 -- between kinds.
-use Rattle.crun_startup.proofs.Common.{◌≡◌, Bool, true, false, not, ◌&&◌, ◌||◌, List, [], ◌∷◌, is_some, if◌then◌else◌, Some, None, Option, bytes_eq, sym, refl, ◌∙◌, bytes_eq-Decides, AllByRecursion, cons_option, list_all, left_holds, right_holds, same_type, Name, name_of, IsName, NamedItem, CType, Num, none_clash, stands_behind, AreApart, AreNames, Differ, has_object, names_in, var_value}
+use Rattle.crun_startup.proofs.Common.{◌≡◌, Bool, true, false, not, ◌&&◌, ◌||◌, List, [], ◌∷◌, is_some, if◌then◌else◌, Some, None, Option}
+use Rattle.crun_startup.proofs.Common.{bytes_eq, sym, refl, ◌∙◌, AllByRecursion, cons_option, list_all, left_holds, right_holds, same_type}
+use Rattle.crun_startup.proofs.Common.{Name, name_of, IsName, NamedItem, CType, Num, none_clash, stands_behind, AreApart, AreNames, Differ}
+use Rattle.crun_startup.proofs.Common.{has_object, names_in, var_value, true≢false}
+use Rattle.std.proofs.lemmas.Bool.{false≢true}
+use Rattle.w2c_base.proofs.Tests.{unlike_back}
 use Rattle.c_tree.specs.declared.tree.CType.TheVariants as type
-use Rattle.c_tree.specs.declared.tree.Num.TheVariants.{N32, N64, Plain}
+use Rattle.c_tree.specs.declared.tree.Num.TheVariants.{N32}
 use Rattle.c_tree.specs.Tree as tree
 use Rattle.crun_startup.specs.declared.names.ObjectKind.{ObjectKind}
 use Rattle.crun_startup.specs.declared.names.ObjectKind.TheVariants as kind
-
-not_equal : (x y : Name) → bytes_eq x y ≡ false → bytes_eq y x ≡ false
-not_equal x y e = go (bytes_eq y x) refl
-  where
-    go : (b : Bool) → bytes_eq y x ≡ b → bytes_eq y x ≡ false
-    go false is = is
-    go true is = absurd (impossible (sym e ∙ (bytes_eq-Decides x y).1 (sym ((bytes_eq-Decides y x).0 is))))
-      where
-        impossible : false ≡ true → ⊥
-        impossible e = cc
 
 -- an item that declares an object is no function
 module _ (k : ObjectKind) where
@@ -24,8 +19,7 @@ module _ (k : ObjectKind) where
     where
       go : (k : ObjectKind) → has_object k (tree.Function f) ≡ true → ⊥
       go kind.Variable e = cc
-      go kind.Memory e = cc
-      go kind.Table e = cc
+      go _ e = cc
 
   -- behind an item of this name no object has it
   clash_here : (x item : tree.Item) → has_object k item ≡ true → stands_behind x item ≡ true → bytes_eq (name_of x) (name_of item) ≡ false
@@ -33,8 +27,7 @@ module _ (k : ObjectKind) where
     where
       no_array : (k : ObjectKind) → has_object k (tree.Array name count bytes) ≡ true → ⊥
       no_array kind.Variable e = cc
-      no_array kind.Memory e = cc
-      no_array kind.Table e = cc
+      no_array _ e = cc
   clash_here x (tree.Function f) has e = absurd (clash_function f has)
   clash_here (tree.Array name count bytes) (tree.Var ty y number) has e = differ (bytes_eq name y) e
     where
@@ -63,13 +56,10 @@ module _ (k : ObjectKind) where
       by_test false has rest = rest
       by_test true has rest =
           let one = clash_here x item has (left_holds (stands_behind x item) (list_all (stands_behind x) items) e) in
-          ((one, not_equal (name_of x) (name_of item) one), rest)
+          ((one, unlike_back (name_of x) (name_of item) one), rest)
 
 has_letters : (name : Name) → IsName name → Differ [] name
-has_letters [] is = absurd (impossible is)
-  where
-    impossible : false ≡ true → ⊥
-    impossible e = cc
+has_letters [] is = absurd (false≢true is)
 has_letters (b ∷ bs) is = (refl, refl)
 
 letters : (item : tree.Item) → NamedItem item → Differ [] (name_of item)
@@ -113,67 +103,35 @@ module _ (k l : ObjectKind) (only : (item : tree.Item) → has_object k item ≡
       by_tests true false e f rest = (differs_later l item items stands, rest)
       by_tests false true e f rest =
           apart_more (names_in k items) (name_of item) (names_in l items) (differs_later k item items stands) rest
-      by_tests true true e f rest = absurd (impossible (sym f ∙ only item e))
-        where
-          impossible : true ≡ false → ⊥
-          impossible e = cc
+      by_tests true true e f rest = absurd (true≢false (sym f ∙ only item e))
 
 -- an item declares an object of one kind
 no_memory_value : (ty : CType) (n : Option Num) (name : Name) → is_some (var_value (tree.Var ty name n)) ≡ true
     → same_type ty type.Mem ≡ false
-no_memory_value type.Void n name e = refl
-no_memory_value type.U32 n name e = refl
-no_memory_value type.U64 n name e = refl
-no_memory_value type.PtrU32 n name e = refl
-no_memory_value type.PtrU64 n name e = refl
-no_memory_value type.PtrMem n name e = refl
-no_memory_value type.Tab n name e = refl
-no_memory_value type.PtrTab n name e = refl
-no_memory_value type.FnPtr n name e = refl
 no_memory_value type.Mem None name e = cc
 no_memory_value type.Mem (Some (N32 n)) name e = cc
-no_memory_value type.Mem (Some (N64 n)) name e = cc
-no_memory_value type.Mem (Some (Plain n)) name e = cc
+no_memory_value type.Mem (Some _) name e = cc
+no_memory_value _ n name e = refl
 
 no_table_value : (ty : CType) (n : Option Num) (name : Name) → is_some (var_value (tree.Var ty name n)) ≡ true
     → same_type ty type.Tab ≡ false
-no_table_value type.Void n name e = refl
-no_table_value type.U32 n name e = refl
-no_table_value type.U64 n name e = refl
-no_table_value type.PtrU32 n name e = refl
-no_table_value type.PtrU64 n name e = refl
-no_table_value type.PtrMem n name e = refl
-no_table_value type.Mem n name e = refl
-no_table_value type.PtrTab n name e = refl
-no_table_value type.FnPtr n name e = refl
 no_table_value type.Tab None name e = cc
 no_table_value type.Tab (Some (N32 n)) name e = cc
-no_table_value type.Tab (Some (N64 n)) name e = cc
-no_table_value type.Tab (Some (Plain n)) name e = cc
+no_table_value type.Tab (Some _) name e = cc
+no_table_value _ n name e = refl
 
 pub no_memory : (item : tree.Item) → has_object kind.Variable item ≡ true → has_object kind.Memory item ≡ false
-no_memory (tree.Array name count bytes) e = refl
 no_memory (tree.Var ty name n) e = no_memory_value ty n name e
-no_memory (tree.Function f) e = refl
+no_memory _ e = refl
 
 pub no_table : (item : tree.Item) → has_object kind.Variable item ≡ true → has_object kind.Table item ≡ false
-no_table (tree.Array name count bytes) e = refl
 no_table (tree.Var ty name n) e = no_table_value ty n name e
-no_table (tree.Function f) e = refl
+no_table _ e = refl
 
 memory_no_table : (ty : CType) → same_type ty type.Mem ≡ true → same_type ty type.Tab ≡ false
-memory_no_table type.Void e = refl
-memory_no_table type.U32 e = refl
-memory_no_table type.U64 e = refl
-memory_no_table type.PtrU32 e = refl
-memory_no_table type.PtrU64 e = refl
-memory_no_table type.PtrMem e = refl
-memory_no_table type.Mem e = refl
 memory_no_table type.Tab e = cc
-memory_no_table type.PtrTab e = refl
-memory_no_table type.FnPtr e = refl
+memory_no_table _ e = refl
 
 pub memory_or_table : (item : tree.Item) → has_object kind.Memory item ≡ true → has_object kind.Table item ≡ false
-memory_or_table (tree.Array name count bytes) e = refl
 memory_or_table (tree.Var ty name n) e = memory_no_table ty e
-memory_or_table (tree.Function f) e = refl
+memory_or_table _ e = refl

@@ -1,5 +1,7 @@
 -- What arrays stand for by number is what they stand for in the meaning of C.
-use Rattle.crun_startup.proofs.Common.{◌≡◌, ℕ, ◌+◌, Bool, true, false, List, [], ◌∷◌, ◌++◌, map, length, if◌then◌else◌, slice_get, Some, None, Option, filter_map, bytes_eq, sym, refl, ap, ◌∙◌, append_assoc, length_push, cons_option, option_or, right_behind, if_found, Name, array_bytes, entry_in, item_bytes, array_name}
+use Rattle.crun_startup.proofs.Common.{◌≡◌, ℕ, ◌+◌, Bool, true, false, List, [], ◌∷◌, ◌++◌, map, length, if◌then◌else◌, slice_get, Some}
+use Rattle.crun_startup.proofs.Common.{None, Option, filter_map, bytes_eq, sym, refl, ap, ◌∙◌, append_assoc, length_push, cons_option}
+use Rattle.crun_startup.proofs.Common.{option_or, right_behind, if_found, Name, array_bytes, entry_in, item_bytes, array_name}
 use Rattle.c_tree.specs.Tree as tree
 
 module _ (q : Name) where

@@ -1,6 +1,15 @@
 -- What stands for a symbol by number is the first definition that units have of it.
-use Rattle.crun_startup.proofs.Common.{◌≡◌, ℕ, zero, suc, ◌+◌, Bool, true, false, ◌&&◌, List, [], ◌∷◌, map, length, is_some, IfSome, if◌then◌else◌, IsSome, slice_get, Some, None, filter, Option, option_map, zip, flat_map, bytes_eq, sym, refl, ap, ◌∙◌, subst, arith, bytes_eq-Decides, list_all, list_any, position_from, range_with_len, option_or, if_found, named, named-append, same_type, same_types, Name, CType, U32, U64, Void, Definition, Program, SymbolCall, c_params_of, called_func, defined, defined_for_all, definition_of, fits, func_type, host_symbol, is_external, typed, FuncAddress, UnitFunc, definitions_from, first_under, seen_under, IsProgramOf, HostSymbol, Naming, func_of, FuncId, definition_in, items_at, symbol_in, Symbols, AreSymbols, IsSeenAt, unit_item, HaveCounts, entries, host_entries, host_ids, ids_of, symbol_of, unit_entries, UnitItem, address_in, naming_of}
+use Rattle.crun_startup.proofs.Common.{◌≡◌, ℕ, zero, suc, ◌+◌, Bool, true, false, ◌&&◌, List, [], ◌∷◌, map, length, is_some, IfSome}
+use Rattle.crun_startup.proofs.Common.{if◌then◌else◌, IsSome, slice_get, Some, None, filter, Option, option_map, zip, flat_map, bytes_eq}
+use Rattle.crun_startup.proofs.Common.{sym, refl, ap, ◌∙◌, subst, arith, bytes_eq-Decides, list_all, list_any, position_from}
+use Rattle.crun_startup.proofs.Common.{range_with_len, option_or, if_found, named, named-append, same_type, same_types, Name, CType, U32}
+use Rattle.crun_startup.proofs.Common.{U64, Void, Definition, Program, SymbolCall, c_params_of, called_func, defined, defined_for_all}
+use Rattle.crun_startup.proofs.Common.{definition_of, fits, func_type, host_symbol, is_external, typed, FuncAddress, UnitFunc}
+use Rattle.crun_startup.proofs.Common.{definitions_from, first_under, seen_under, IsProgramOf, HostSymbol, Naming, func_of, FuncId}
+use Rattle.crun_startup.proofs.Common.{definition_in, items_at, symbol_in, Symbols, AreSymbols, IsSeenAt, unit_item, HaveCounts, entries}
+use Rattle.crun_startup.proofs.Common.{host_entries, host_ids, ids_of, symbol_of, unit_entries, UnitItem, address_in, naming_of, true≢false}
 use Rattle.std.proofs.lemmas.List.Folds.{list_all-append}
+use Rattle.std.proofs.lemmas.Bool.{and_from}
 use Rattle.w2c_base.specs.declared.value.Value.{Value}
 use Rattle.w2c_base.specs.Values.{is_number, types_of}
 use Rattle.c_tree.specs.Tree as tree
@@ -121,10 +130,6 @@ is_host : FuncId → Bool
 is_host (func.Unit u i) = false
 is_host (func.Host h f) = true
 
-both_hosts : (a b : Bool) → a ≡ true → b ≡ true → (a && b) ≡ true
-both_hosts true b e f = f
-both_hosts false b e f = absurd cc
-
 functions_hosts : (h : ℕ) (fs : List ℕ) → list_all is_host (map (func.Host h) fs) ≡ true
 unfolding is_host
 functions_hosts h [] = refl
@@ -134,7 +139,7 @@ ids_hosts : (k : ℕ) (counts : List ℕ) → list_all is_host (flat_map ids_of 
 ids_hosts k [] = refl
 ids_hosts k (n ∷ counts) =
     list_all-append is_host (ids_of (k, n)) _
-    ∙ both_hosts (list_all is_host (ids_of (k, n))) _ (functions_hosts k (range_with_len 0 n)) (ids_hosts (k + 1) counts)
+    ∙ and_from (list_all is_host (ids_of (k, n))) _ (functions_hosts k (range_with_len 0 n)) (ids_hosts (k + 1) counts)
 
 host_found : (q : Name) (xs : List Name) (ids : List FuncId) (u i : ℕ) → list_all is_host ids ≡ true
     → named q (zip xs ids) ≡ Some (func.Unit u i) → ⊥
@@ -193,9 +198,6 @@ module _ (p : Program) (q : Name) (u i : ℕ) where
 some_none : (d : Definition) → Some d ≡ None → ⊥
 some_none d e = cc
 
-true_false : true ≡ false → ⊥
-true_false e = cc
-
 -- whether a call fits, by the type of what it calls
 abbrev fits_by : SymbolCall → Option tree.FuncType → Bool
 fits_by c o = elim o [
@@ -240,7 +242,7 @@ module _ (names : Naming) (p : Program) (s : Symbols) (are : AreSymbols names p 
       at (Some items) e =
           let whole : defined_for_all items q ≡ Some there.definition =
           sym (ap (λ (o : Option (List tree.Item)). defined_for_all (elim o [ None ↦ [] | Some items ↦ items ]) q) e) ∙ there.seen in
-          absurd (true_false (sym (ap is_some whole) ∙ not_first q 0 p.units u items none e))
+          absurd (true≢false (sym (ap is_some whole) ∙ not_first q 0 p.units u items none e))
 
   abbrev called_by : Option FuncId → Option FuncAddress
   called_by o = option_map (address_in names) (if_found o unit_item)
@@ -273,7 +275,7 @@ module _ (names : Naming) (p : Program) (s : Symbols) (are : AreSymbols names p 
   fits_some args None is fit =
       let call : SymbolCall = record { symbol = q; args = args } in
       let none : called_func p call ≡ None = sym (called_is args) ∙ ap (option_map (address_in names)) (sym is) in
-      absurd (true_false (sym fit ∙ ap (λ o. fits_by call (if_found o (func_type p))) none))
+      absurd (true≢false (sym fit ∙ ap (λ o. fits_by call (if_found o (func_type p))) none))
 
 pub some_seen : (s : Symbols) (q : Name) (r : Option UnitItem) → r ≡ if_found (symbol_in s q) unit_item
     → IfSome r (λ f. (names : Naming) (p : Program) → AreSymbols names p s → IsSeenAt p q f)

@@ -1,15 +1,14 @@
 -- In a checked unit each name has letters, and what is defined under a name stands at one item.
-use Rattle.crun_startup.proofs.Common.{◌≡◌, ℕ, zero, suc, ◌+◌, Bool, true, false, ◌&&◌, ◌||◌, List, [], ◌∷◌, map, get_or, is_some, if◌then◌else◌, slice_get, Some, None, Option, bytes_eq, sym, refl, ap, ◌∙◌, subst, arith, bytes_eq-Decides, AllByRecursion, list_all, option_or, left_holds, right_holds, if_found, Name, IsName, NamedItem, CType, none_clash, stands_behind, defined, definition_of, not_both, defined_is, defined_name, entry_in, found_at, function_in, definition_in, function_name}
+use Rattle.crun_startup.proofs.Common.{◌≡◌, ℕ, zero, suc, ◌+◌, Bool, true, false, ◌&&◌, ◌||◌, List, [], ◌∷◌, map, get_or, is_some}
+use Rattle.crun_startup.proofs.Common.{if◌then◌else◌, slice_get, Some, None, Option, bytes_eq, sym, refl, ap, ◌∙◌, subst, arith}
+use Rattle.crun_startup.proofs.Common.{bytes_eq-Decides, AllByRecursion, list_all, option_or, left_holds, right_holds, if_found, Name}
+use Rattle.crun_startup.proofs.Common.{IsName, NamedItem, CType, none_clash, stands_behind, defined, definition_of, not_both, defined_is}
+use Rattle.crun_startup.proofs.Common.{defined_name, entry_in, found_at, function_in, definition_in, function_name}
+use Rattle.std.proofs.lemmas.Bool.{false≢true}
+use Rattle.w2c_base.proofs.Tests.{test_at}
 use Rattle.c_tree.specs.Tree as tree
 use Rattle.c_tree.specs.Rules.{are_alike}
-
-pub all_at : {A : Type 0} (p : A → Bool) (xs : List A) (i : ℕ) (x : A) → list_all p xs ≡ true → slice_get xs i ≡ Some x → p x ≡ true
-all_at p [] i x all at = absurd cc
-all_at p (y ∷ xs) zero x all at = let same : y ≡ x = cc in ap p (sym same) ∙ left_holds (p y) (list_all p xs) all
-all_at p (y ∷ xs) (suc i) x all at = all_at p xs i x (right_holds (p y) (list_all p xs) all) at
-
-same_self : (q : Name) → bytes_eq q q ≡ true
-same_self q = (bytes_eq-Decides q q).1 refl
+use Rattle.c_meaning.proofs.Lookups.{bytes_equal}
 
 -- ---- items that define
 
@@ -32,9 +31,8 @@ function_of is_static result name params (Some body) q e =
     some_is x y e = cc
 
 pub defines : (item : tree.Item) (q : Name) → defined_name item ≡ Some q → Defines item q
-defines (tree.Array name count bytes) q e = absurd cc
-defines (tree.Var ty name number) q e = absurd cc
 defines (tree.Function f) q e = function_of f.is_static f.result f.name f.params f.body q e
+defines _ q e = absurd cc
 
 -- two definitions of a name clash
 pub clash : (x item : tree.Item) (r q : Name) → defined_name x ≡ Some r → defined_name item ≡ Some q → bytes_eq r q ≡ true
@@ -56,7 +54,7 @@ first_is k (x ∷ items) zero item q kept at is =
     let same : x ≡ item = cc in
     let here : k ≡ k + 0 = omega arith in
     ap (λ o. option_or (found_at k o q) (entry_in (k + 1) q (map defined_name items))) (ap defined_name same ∙ is)
-    ∙ ap (λ b. option_or (if b then Some k else None) (entry_in (k + 1) q (map defined_name items))) (same_self q)
+    ∙ ap (λ b. option_or (if b then Some k else None) (entry_in (k + 1) q (map defined_name items))) (bytes_equal q)
     ∙ ap Some here
 first_is k (x ∷ items) (suc i) item q kept at is =
     let here : (k + 1) + i ≡ k + suc i = omega arith in
@@ -71,7 +69,7 @@ first_is k (x ∷ items) (suc i) item q kept at is =
         by_test false same = refl
         by_test true same =
             absurd (clash x item r q e is same
-            (all_at (stands_behind x) items i item (left_holds (list_all (stands_behind x) items) (none_clash items) kept) at))
+            (test_at (stands_behind x) items i item (left_holds (list_all (stands_behind x) items) (none_clash items) kept) at))
 
 -- no item defines the name of no letters
 nameless_item : (item : tree.Item) → NamedItem item → (r : Name) → defined_name item ≡ Some r → bytes_eq r [] ≡ false
@@ -81,10 +79,7 @@ nameless_item item named r e =
     go r (subst IsName d.named is_name)
   where
     go : (r : Name) → IsName r → bytes_eq r [] ≡ false
-    go [] is = absurd (impossible is)
-      where
-        impossible : false ≡ true → ⊥
-        impossible e = cc
+    go [] is = absurd (false≢true is)
     go (b ∷ bs) is = refl
 
 pub nameless : (k : ℕ) (items : List tree.Item) → AllByRecursion NamedItem items → entry_in k [] (map defined_name items) ≡ None
@@ -106,9 +101,8 @@ function_nothing i is_static result name params None e = refl
 function_nothing i is_static result name params (Some body) e = absurd cc
 
 nothing_defined : (i : ℕ) (item : tree.Item) → defined_name item ≡ None → definition_of (i, item) ≡ None
-nothing_defined i (tree.Array name count bytes) e = refl
-nothing_defined i (tree.Var ty name number) e = refl
 nothing_defined i (tree.Function f) e = function_nothing i f.is_static f.result f.name f.params f.body e
+nothing_defined i _ e = refl
 
 name_past : (items : List tree.Item) (i : ℕ) → slice_get items i ≡ None → get_or (map function_name items) i [] ≡ []
 name_past [] i e = refl

@@ -1,5 +1,8 @@
 -- Loops that gather what the items of a list give.
-use Rattle.crun_startup.proofs.Common.{◌≡◌, ℕ, zero, suc, ◌+◌, ◌<◌, ◌≤◌, List, [], ◌∷◌, ◌++◌, map, length, get_or, take, drop, slice_get, Some, None, Option, flat_map, filter_map, sym, refl, ap, ◌∙◌, append_assoc, append-nil, add-one, arith, drop_all, length-map, map-append, cons_option, range_with_len, numbered_at, numbered_past, drop_front, mapped_at, seen_at, take_next, numbered}
+use Rattle.crun_startup.proofs.Common.{◌≡◌, ℕ, zero, suc, ◌+◌, ◌<◌, ◌≤◌, List, [], ◌∷◌, ◌++◌, map, length, get_or, take, drop, slice_get}
+use Rattle.crun_startup.proofs.Common.{Some, None, Option, flat_map, filter_map, sym, refl, ap, ◌∙◌, append_assoc, append-nil, add-one}
+use Rattle.crun_startup.proofs.Common.{arith, drop_all, length-map, map-append, cons_option, range_with_len, numbered_at, numbered_past}
+use Rattle.crun_startup.proofs.Common.{drop_front, mapped_at, seen_at, take_next, numbered}
 use Rattle.std.proofs.lemmas.List.Elements.{filter_map-append}
 
 -- what a list gives is what its first item gives, and then what the others give

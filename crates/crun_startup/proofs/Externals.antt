@@ -1,5 +1,8 @@
 -- In a checked unit the first definition of a symbol is the first of its name.
-use Rattle.crun_startup.proofs.Common.{◌≡◌, ℕ, ◌+◌, Bool, true, false, List, [], ◌∷◌, if◌then◌else◌, slice_get, Some, None, filter, Option, bytes_eq, sym, refl, ◌∙◌, bytes_eq-Decides, list_all, left_holds, right_holds, Name, CType, none_clash, stands_behind, Definition, defined, defined_for_all, definitions_from, first_under, seen_under, first_defined, none_under}
+use Rattle.crun_startup.proofs.Common.{◌≡◌, ℕ, ◌+◌, Bool, true, false, List, [], ◌∷◌, if◌then◌else◌, slice_get, Some, None, filter, Option}
+use Rattle.crun_startup.proofs.Common.{bytes_eq, sym, refl, ◌∙◌, bytes_eq-Decides, list_all, left_holds, right_holds, Name, CType}
+use Rattle.crun_startup.proofs.Common.{none_clash, stands_behind, Definition, defined, defined_for_all, definitions_from, first_under}
+use Rattle.crun_startup.proofs.Common.{seen_under, first_defined, none_under}
 use Rattle.c_tree.specs.Tree as tree
 
 function_first : (k : ℕ) (q : Name) (d : Definition) (items : List tree.Item) (is_static : Bool) (result : CType) (name : Name)

@@ -1,5 +1,11 @@
 -- The first objects of units are those of the meaning of C.
-use Rattle.crun_startup.proofs.Common.{◌≡◌, zero, suc, Bool, true, false, List, [], ◌∷◌, ◌++◌, map, length, is_some, if◌then◌else◌, Some, None, Option, option_map, zip, filter_map, sym, refl, ap, ◌∙◌, length-map, cons_option, Reply, well_formed, Name, name_of, CType, Num, Program, c_objects_of, file_memory, file_table, file_var, fresh, initial_of, no_memory, no_table, zero_of, CValue, Memory, Objects, Table, clash_none, AllChecked, IsChecked, memory_of, table_of, AreStored, IsStored, machine_of, objects_of, units_of, Naming, value_of, has_object, names_in, naming_of, unit_names, AreFirst, memory_value, table_value, var_value, AreAllFirst}
+use Rattle.crun_startup.proofs.Common.{◌≡◌, zero, suc, Bool, true, false, List, [], ◌∷◌, ◌++◌, map, length, is_some, if◌then◌else◌, Some}
+use Rattle.crun_startup.proofs.Common.{None, Option, option_map, zip, filter_map, sym, refl, ap, ◌∙◌, length-map, cons_option, Reply}
+use Rattle.crun_startup.proofs.Common.{well_formed, Name, name_of, CType, Num, Program, c_objects_of, file_memory, file_table, file_var}
+use Rattle.crun_startup.proofs.Common.{fresh, initial_of, no_memory, no_table, zero_of, CValue, Memory, Objects, Table, clash_none}
+use Rattle.crun_startup.proofs.Common.{AllChecked, IsChecked, memory_of, table_of, AreStored, IsStored, machine_of, objects_of, units_of}
+use Rattle.crun_startup.proofs.Common.{Naming, value_of, has_object, names_in, naming_of, unit_names, AreFirst, memory_value, table_value}
+use Rattle.crun_startup.proofs.Common.{var_value, AreAllFirst}
 use Rattle.c_tree.specs.declared.tree.CType.TheVariants as type
 use Rattle.c_tree.specs.Tree as tree
 use Rattle.c_objects.specs.declared.store.UnitObjects.{UnitObjects}
@@ -38,16 +44,8 @@ memories_at : (ty : CType) (name : Name) (n : Option Num) (names : List Name) (v
     → zip (cons_option (if has_object kind.Memory (tree.Var ty name n) then Some name else None) names)
     (cons_option (memory_value (tree.Var ty name n)) values)
     ≡ cons_option (file_memory (tree.Var ty name n)) rest
-memories_at type.Void name n names values rest e = e
-memories_at type.U32 name n names values rest e = e
-memories_at type.U64 name n names values rest e = e
-memories_at type.PtrU32 name n names values rest e = e
-memories_at type.PtrU64 name n names values rest e = e
 memories_at type.Mem name n names values rest e = ap (λ l. (name, no_memory) ∷ l) e
-memories_at type.PtrMem name n names values rest e = e
-memories_at type.Tab name n names values rest e = e
-memories_at type.PtrTab name n names values rest e = e
-memories_at type.FnPtr name n names values rest e = e
+memories_at _ name n names values rest e = e
 
 memories_are : (items : List tree.Item) → zip (names_in kind.Memory items) (filter_map memory_value items) ≡ filter_map file_memory items
 memories_are [] = refl
@@ -61,16 +59,8 @@ tables_at : (ty : CType) (name : Name) (n : Option Num) (names : List Name) (val
     → zip (cons_option (if has_object kind.Table (tree.Var ty name n) then Some name else None) names)
     (cons_option (table_value (tree.Var ty name n)) values)
     ≡ cons_option (file_table (tree.Var ty name n)) rest
-tables_at type.Void name n names values rest e = e
-tables_at type.U32 name n names values rest e = e
-tables_at type.U64 name n names values rest e = e
-tables_at type.PtrU32 name n names values rest e = e
-tables_at type.PtrU64 name n names values rest e = e
-tables_at type.Mem name n names values rest e = e
-tables_at type.PtrMem name n names values rest e = e
 tables_at type.Tab name n names values rest e = ap (λ l. (name, no_table) ∷ l) e
-tables_at type.PtrTab name n names values rest e = e
-tables_at type.FnPtr name n names values rest e = e
+tables_at _ name n names values rest e = e
 
 tables_are : (items : List tree.Item) → zip (names_in kind.Table items) (filter_map table_value items) ≡ filter_map file_table items
 tables_are [] = refl

@@ -1,5 +1,6 @@
 -- A name is the symbol of an init function exactly where the escape of a module's name stands between w2cZ_ and Z_i.
-use Rattle.crun_startup.proofs.Common.{◌≡◌, ℕ, ◌<◌, ◌≤◌, Bool, true, false, ◌≢◌, ◌↔◌, List, ◌++◌, length, IsTrue, codes, All, sym, refl, ◌∙◌, subst, append_cancel_left, append_cancel_right, is_init_symbol, init_symbol_around}
+use Rattle.crun_startup.proofs.Common.{◌≡◌, ℕ, ◌<◌, ◌≤◌, Bool, true, false, ◌≢◌, ◌↔◌, List, ◌++◌, length, IsTrue, codes, All, sym, refl}
+use Rattle.crun_startup.proofs.Common.{◌∙◌, subst, append_cancel_left, append_cancel_right, is_init_symbol, init_symbol_around}
 use Rattle.w2c_mangle.specs.Escaping.{escaped}
 use Rattle.w2c_mangle.proofs.EscapedNames.{escaped-injective}
 use Rattle.c_meaning.proofs.InitSymbols.{found_are_init_symbols, init_symbols_found}
@@ -34,9 +35,3 @@ escape_found name text b is bytes told =
     (λ t. let found = found_are_init_symbols (init_symbol_around text) t in
     let same : found.0 ≡ name = escaped-injective found.0 name (around_one (escaped found.0) text (sym found.1) ∙ sym is) in
     told.1 (subst (λ n. (1 ≤ length n) × (length n ≤ 1024)) same (found.2, found.3)))
-
-pub stripped_none : (name rest : List ℕ) → name ≡ codes "w2cZ_" ++ rest → ((front : List ℕ) → rest ≢ front ++ codes "Z_i")
-    → (text : List ℕ) → name ≢ init_symbol_around text
-stripped_none name rest is none text e =
-    let whole : codes "w2cZ_" ++ rest ≡ codes "w2cZ_" ++ (text ++ codes "Z_i") = sym is ∙ e in
-    none text (append_cancel_left (codes "w2cZ_") rest (text ++ codes "Z_i") whole)

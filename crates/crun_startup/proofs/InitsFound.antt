@@ -1,5 +1,11 @@
 -- The items that define functions which run first are those of the meaning of C.
-use Rattle.crun_startup.proofs.Common.{◌≡◌, ℕ, zero, suc, ◌+◌, ◌≤◌, Bool, true, false, ◌&&◌, ◌⊎◌, List, [], ◌∷◌, ◌++◌, map, length, get_or, if◌then◌else◌, slice_get, Some, None, filter, Option, zip, flat_map, filter_map, sym, refl, ap, ◌∙◌, subst, inl, inr, append-nil, arith, map-append, cons_option, range_with_len, if_found, numbered, same_type, same_types, unit_of, CType, Void, Definition, Program, definition_of, definitions, init_functions, is_init, FuncAddress, UnitFunc, definitions_from, defined_func, item_name, definition_in, items_at, IsInitAt, UnitItem, address_in, init_entry, init_items, is_init_func, is_init_item, unit_inits, function_name, naming_of}
+use Rattle.crun_startup.proofs.Common.{◌≡◌, ℕ, zero, suc, ◌+◌, ◌≤◌, Bool, true, false, ◌&&◌, ◌⊎◌, List, [], ◌∷◌, ◌++◌, map, length, get_or}
+use Rattle.crun_startup.proofs.Common.{if◌then◌else◌, slice_get, Some, None, filter, Option, zip, flat_map, filter_map, sym, refl, ap, ◌∙◌}
+use Rattle.crun_startup.proofs.Common.{subst, inl, inr, arith, map-append, cons_option, range_with_len, if_found, numbered, same_type}
+use Rattle.crun_startup.proofs.Common.{same_types, unit_of, CType, Void, Definition, Program, definition_of, definitions, init_functions}
+use Rattle.crun_startup.proofs.Common.{is_init, FuncAddress, UnitFunc, definitions_from, defined_func, item_name, definition_in, items_at}
+use Rattle.crun_startup.proofs.Common.{IsInitAt, UnitItem, address_in, init_entry, init_items, is_init_func, is_init_item, unit_inits}
+use Rattle.crun_startup.proofs.Common.{function_name, naming_of}
 use Rattle.c_tree.specs.declared.tree.Item.{Item}
 use Rattle.c_tree.specs.Tree as tree
 use Rattle.c_meaning.specs.State.{Name}
@@ -48,10 +54,9 @@ module _ (name : ℕ → ℕ → Name) where
       first = let here : j + 0 ≡ j = omega arith in ap (name u) (sym here) ∙ named 0
 
       by_item : (x : tree.Item) → item ≡ x → Alike u (j + 1) items → Alike u j (x ∷ items)
-      by_item (tree.Array n count bytes) e rest = rest
-      by_item (tree.Var ty n number) e rest = rest
       by_item (tree.Function f) e rest = function_alike u j items f.is_static f.result f.name f.params f.body (first ∙ ap function_name e)
           rest
+      by_item _ e rest = rest
 
   pub units_alike : (k : ℕ) (us : List (List tree.Item))
       → ((u i : ℕ) (items : List tree.Item) → slice_get us u ≡ Some items → name (k + u) i ≡ get_or (map function_name items) i [])
@@ -150,9 +155,8 @@ function_defines i is_static result own params None is = absurd cc
 function_defines i is_static result own params (Some body) is = (_, refl, is)
 
 item_defines : (i : ℕ) (item : tree.Item) → is_init_item item ≡ true → Defines i item
-item_defines i (tree.Array n count bytes) is = absurd cc
-item_defines i (tree.Var ty n number) is = absurd cc
 item_defines i (tree.Function f) is = function_defines i f.is_static f.result f.name f.params f.body is
+item_defines i _ is = absurd cc
 
 pub init_at : (p : Program) (n : ℕ) (f : UnitItem) → slice_get (init_items p.units) n ≡ Some f → IsInitAt p f
 init_at p n f at =
@@ -193,26 +197,13 @@ function_tested true result own params (Some body) = refl
 function_tested false result own params (Some body) = refl
 
 pub item_tested : (item : tree.Item) → Tested item
-item_tested (tree.Array n count bytes) = refl
-item_tested (tree.Var ty n number) = refl
 item_tested (tree.Function f) = function_tested f.is_static f.result f.name f.params f.body
+item_tested _ = refl
 
 pub tested : (item : tree.Item) (f : tree.Func) → Some f ≡ defined_func item → is_init_func f ≡ is_init_item item
 tested item f is = ap (λ (o : Option tree.Func). elim o [ None ↦ false | Some f ↦ is_init_func f ]) is ∙ item_tested item
 
-pub untested : (item : tree.Item) → None ≡ defined_func item → false ≡ is_init_item item
-untested item is = ap (λ (o : Option tree.Func). elim o [ None ↦ false | Some f ↦ is_init_func f ]) is ∙ item_tested item
-
 -- ---- the loops
-
-pub put_init : (u n : ℕ) (item : tree.Item) (before after : List UnitItem) → is_init_item item ≡ true → after ≡ before ++ (u, n) ∷ []
-    → after ≡ before ++ filter_map (init_entry u) ((n, item) ∷ [])
-put_init u n item before after is grown = grown ∙ ap (λ b. before ++ cons_option (if b then Some (u, n) else None) []) (sym is)
-
-pub pass_init : (u n : ℕ) (item : tree.Item) (before : List UnitItem) → is_init_item item ≡ false
-    → before ≡ before ++ filter_map (init_entry u) ((n, item) ∷ [])
-pass_init u n item before is =
-    sym (append-nil before) ∙ ap (λ b. before ++ cons_option (if b then Some (u, n) else None) []) (sym is)
 
 module _ (us : List (List Item)) (found : List UnitItem) (n u : ℕ) (same : n ≡ length us) (past : n ≤ u)
     (so_far : Gathered (flat_map unit_inits) (flats unit_inits) (numbered (map unit_of us)) [] found u) where

@@ -1,3 +1,4 @@
+-- What the crate's own proofs cite.
 mod Common
 mod Collected
 mod Checked

@@ -1,5 +1,12 @@
 -- What symbols stand for by number is what they stand for in the meaning of C.
-use Rattle.crun_startup.proofs.Common.{◌≡◌, ℕ, suc, ◌+◌, Bool, true, false, cond, List, [], ◌∷◌, ◌++◌, map, length, get_or, is_some, if◌then◌else◌, slice_get, Some, None, filter, Option, option_map, zip, flat_map, filter_map, bytes_eq, sym, refl, ap, ◌∙◌, arith, map-append, slice_get-map, bytes_eq-Decides, position_from, range_with_len, option_or, named, numbered, Host, HostFunction, named-append, Name, CType, symbol_pair, Definition, Program, c_func_type_of, defined_for_all, external_func, FuncAddress, HostFunc, UnitFunc, definitions_from, first_under, seen_under, c_symbols, IsProgramOf, HostSymbol, Naming, func_of, item_name, FuncId, Entry, HaveCounts, entries, entry_of, func_in, host_entries, host_ids, item_entry, name_in, unit_entries, function_name, naming_of, unit_names}
+use Rattle.crun_startup.proofs.Common.{◌≡◌, ℕ, suc, ◌+◌, Bool, true, false, cond, List, [], ◌∷◌, ◌++◌, map, length, get_or, is_some}
+use Rattle.crun_startup.proofs.Common.{if◌then◌else◌, slice_get, Some, None, filter, Option, option_map, zip, flat_map, filter_map}
+use Rattle.crun_startup.proofs.Common.{bytes_eq, sym, refl, ap, ◌∙◌, arith, map-append, slice_get-map, bytes_eq-Decides, position_from}
+use Rattle.crun_startup.proofs.Common.{range_with_len, option_or, named, numbered, Host, HostFunction, named-append, Name, CType}
+use Rattle.crun_startup.proofs.Common.{symbol_pair, Definition, Program, c_func_type_of, defined_for_all, external_func, FuncAddress}
+use Rattle.crun_startup.proofs.Common.{HostFunc, UnitFunc, definitions_from, first_under, seen_under, c_symbols, IsProgramOf, HostSymbol}
+use Rattle.crun_startup.proofs.Common.{Naming, func_of, item_name, FuncId, Entry, HaveCounts, entries, entry_of, func_in, host_entries}
+use Rattle.crun_startup.proofs.Common.{host_ids, item_entry, name_in, unit_entries, function_name, naming_of, unit_names}
 use Rattle.w2c_mangle.specs.declared.symbol.SymbolKind.TheVariants as symbol
 use Rattle.w2c_mangle.specs.Symbols.{export_symbol_of}
 use Rattle.c_tree.specs.Tree as tree

@@ -1,5 +1,11 @@
 -- The tables of units find what their names stand for.
-use Rattle.crun_startup.proofs.Common.{◌≡◌, ℕ, true, List, [], map, get_or, slice_get, Some, None, Option, option_map, filter_map, sym, refl, ap, ◌∙◌, slice_get-map, AllByRecursion, option_or, if_found, named, well_formed, Name, unit_of, NamedItem, none_clash, Definition, Program, array_bytes, array_named, defined, definition_at, external_func, func_named, UnitFunc, clash_none, AllChecked, IsProgramOf, HostSymbol, Naming, func_of, item_name, FuncId, defined_is, definition_there, function_in, definition_in, AreObjectTables, HaveUnitTables, IsLinked, items_at, func_at, item_bytes, symbol_in, LinkedUnit, Symbols, HaveCounts, entries, function_name, naming_of, unit_names, AreTables, AreUnits}
+use Rattle.crun_startup.proofs.Common.{◌≡◌, ℕ, true, List, [], map, get_or, slice_get, Some, None, Option, option_map, filter_map, sym}
+use Rattle.crun_startup.proofs.Common.{refl, ap, ◌∙◌, slice_get-map, AllByRecursion, option_or, if_found, named, well_formed, Name, unit_of}
+use Rattle.crun_startup.proofs.Common.{NamedItem, none_clash, Definition, Program, array_bytes, array_named, defined, definition_at}
+use Rattle.crun_startup.proofs.Common.{external_func, func_named, UnitFunc, clash_none, AllChecked, IsProgramOf, HostSymbol, Naming}
+use Rattle.crun_startup.proofs.Common.{func_of, item_name, FuncId, defined_is, definition_there, function_in, definition_in}
+use Rattle.crun_startup.proofs.Common.{AreObjectTables, HaveUnitTables, IsLinked, items_at, func_at, item_bytes, symbol_in, LinkedUnit}
+use Rattle.crun_startup.proofs.Common.{Symbols, HaveCounts, entries, function_name, naming_of, unit_names, AreTables, AreUnits}
 use Rattle.c_tree.specs.Tree as tree
 use Rattle.c_objects.specs.declared.held.FuncId.TheVariants as func
 use Rattle.c_thread.specs.declared.scope.ObjectTables.{ObjectTables}

@@ -1,5 +1,10 @@
 -- The types of functions by number are those of the meaning of C.
-use Rattle.crun_startup.proofs.Common.{◌≡◌, ℕ, ◌+◌, Bool, true, List, [], ◌∷◌, ◌++◌, map, length, take, drop, slice_get, Some, None, Option, option_map, zip, flat_map, sym, refl, ap, ◌∙◌, map-append, slice_get-map, range_with_len, option_or, if_found, numbered, Host, HostFunction, Name, CType, none_clash, symbol_pair, Definition, Program, c_func_type_of, defined, defined_for_all, definition_of, func_type, typed, c_symbols, AllChecked, IsProgramOf, HostSymbol, func_of, item_name, definition_in, HaveCounts, host_type, item_type, parts, types_in, naming_of}
+use Rattle.crun_startup.proofs.Common.{◌≡◌, ℕ, ◌+◌, Bool, true, List, [], ◌∷◌, ◌++◌, map, length, take, drop, slice_get, Some, None, Option}
+use Rattle.crun_startup.proofs.Common.{option_map, zip, flat_map, sym, refl, ap, ◌∙◌, map-append, slice_get-map, range_with_len, option_or}
+use Rattle.crun_startup.proofs.Common.{if_found, numbered, Host, HostFunction, Name, CType, none_clash, symbol_pair, Definition, Program}
+use Rattle.crun_startup.proofs.Common.{c_func_type_of, defined, defined_for_all, definition_of, func_type, typed, c_symbols, AllChecked}
+use Rattle.crun_startup.proofs.Common.{IsProgramOf, HostSymbol, func_of, item_name, definition_in, HaveCounts, host_type, item_type, parts}
+use Rattle.crun_startup.proofs.Common.{types_in, naming_of}
 use Rattle.c_tree.specs.Tree as tree
 use Rattle.c_tree.specs.Scope.{func_type_of}
 use Rattle.c_tree.specs.View.{func_type_of as type_of_c}
@@ -52,9 +57,8 @@ function_type i is_static result name params None = refl
 function_type i is_static result name params (Some body) = refl
 
 item_said : (i : ℕ) (item : tree.Item) → its_type (definition_of (i, item)) ≡ item_type item
-item_said i (tree.Array name count bytes) = refl
-item_said i (tree.Var ty name number) = refl
 item_said i (tree.Function f) = function_type i f.is_static f.result f.name f.params f.body
+item_said i _ = refl
 
 items_said : (items : List tree.Item) (i : ℕ) → its_type (definition_in items i) ≡ if_found (slice_get (map item_type items) i) (λ o. o)
 items_said items i = go (slice_get items i) ∙ sym (ap (λ o. if_found o (λ o. o)) (slice_get-map item_type items i))

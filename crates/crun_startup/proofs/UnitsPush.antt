@@ -1,5 +1,6 @@
 -- Units that get their tables one by one.
-use Rattle.crun_startup.proofs.Common.{◌≡◌, ℕ, zero, suc, ◌+◌, List, [], ◌∷◌, ◌++◌, length, slice_get, Some, sym, ap, ◌∙◌, subst, arith, map-append, unit_of, LinkedUnit, Symbols, AreUnits, IsUnit}
+use Rattle.crun_startup.proofs.Common.{◌≡◌, ℕ, zero, suc, ◌+◌, List, [], ◌∷◌, ◌++◌, length, slice_get, Some, sym, ap, ◌∙◌, subst, arith}
+use Rattle.crun_startup.proofs.Common.{map-append, unit_of, LinkedUnit, Symbols, AreUnits, IsUnit, zero-add}
 use Rattle.c_tree.specs.Tree as tree
 
 each_push : {A : Type 0} (P : ℕ → A → Type 0) (k : ℕ) (made : List A) (l : A) → ((u : ℕ) (x : A) → slice_get made u ≡ Some x → P (k + u) x)
@@ -19,10 +20,7 @@ pub units_push : (symbols : Symbols) (units : List (List tree.Item)) (items : Li
 units_push symbols units items made l is one are = record {
   items = map-append (λ (l : LinkedUnit). unit_of l.items.value) made (l ∷ [])
       ∙ ap (λ us. us ++ unit_of l.items.value ∷ []) are.items ∙ ap (λ x. units ++ x ∷ []) is;
-  each = λ u x at. subst (λ n. IsUnit symbols n x) (front u)
-      (each_push (IsUnit symbols) 0 made l (λ v z e. subst (λ n. IsUnit symbols n z) (sym (front v)) (are.each v z e))
-      (subst (λ n. IsUnit symbols n l) (sym (front (length made))) one) u x at);
+  each = λ u x at. subst (λ n. IsUnit symbols n x) (zero-add u)
+      (each_push (IsUnit symbols) 0 made l (λ v z e. subst (λ n. IsUnit symbols n z) (sym (zero-add v)) (are.each v z e))
+      (subst (λ n. IsUnit symbols n l) (sym (zero-add (length made))) one) u x at);
 }
-  where
-    front : (n : ℕ) → 0 + n ≡ n
-    front n = omega arith

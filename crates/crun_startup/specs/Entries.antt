@@ -27,7 +27,7 @@ use Rattle.w2c_base.specs.Run.{Host}
 use Rattle.c_tree.specs.Tree as tree
 use Rattle.c_tree.specs.Scope.{Name, func_type_of}
 use Rattle.c_tree.specs.View.{func_type_of as type_of_c}
-use Rattle.c_meaning.specs.Linking.{c_func_type_of}
+use Rattle.c_tree.specs.TypesInC.{c_func_type_of}
 use Rattle.c_link.specs.declared.host_symbol.HostSymbol.{HostSymbol}
 use Rattle.c_link.specs.Offers.{defined_func}
 use Rattle.c_objects.specs.declared.held.FuncId.{FuncId}

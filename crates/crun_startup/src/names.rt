@@ -1,6 +1,5 @@
 // The tables of a unit's names.
 ghost use Rattle.std.specs.Prelude.{◌≡◌, ◌∷◌, ◌++◌, [], map, option_copied, IfOk, OnOk};
-ghost use Rattle.c_tree.specs.Scope.{name_of};
 ghost use Rattle.c_tree.specs.View.{item_of, unit_of};
 ghost use Rattle.c_machine.specs.Names.{entry_in, number_in, texts, Finds};
 ghost use Rattle.crun_startup.specs.Names.{array_name as array_name_of, has_object as declares_object, names_in};
@@ -52,7 +51,7 @@ fn put_object_name<'a>(
     ensures { OnOk result (texts names.new.items ≡ texts names.old.items ++ names_in kind (item_of item.now ∷ [])) }
 {
     if has_object(kind, item) {
-        names.push(item_name(item))?;
+        names.push(item.name())?;
         Ok(())
     } else {
         Ok(())
@@ -67,16 +66,6 @@ fn has_object(kind: ObjectKind, item: &Item) -> bool
         ObjectKind::Variable => first_value(item).is_some(),
         ObjectKind::Memory => is_of(CType::Mem, item),
         ObjectKind::Table => is_of(CType::Tab, item),
-    }
-}
-
-fn item_name(item: &Item) -> &[u8]
-    ensures { result.now ≡ name_of (item_of item.now) }
-{
-    match item {
-        Item::Array(name, _, _) => name.as_slice(),
-        Item::Var(_, name, _) => name.as_slice(),
-        Item::Func(f) => f.name.as_slice(),
     }
 }
 

@@ -1,13 +1,14 @@
 // The objects of a unit before the first statement.
 ghost use Rattle.std.specs.Prelude.{◌≡◌, ◌∷◌, ◌++◌, [], map, filter_map, IfOk, OnOk, option_map};
 ghost use Rattle.c_tree.specs.View.{item_of, unit_of};
-ghost use Rattle.c_meaning.specs.Machine.{initial_of, no_table, zero_of};
+ghost use Rattle.c_meaning.specs.Machine.{no_table, zero_of};
 ghost use Rattle.c_objects.specs.Objects.{memory_of, table_of};
 ghost use Rattle.c_objects.specs.Views.{value_of, Naming};
 ghost use Rattle.crun_startup.specs.Objects.{first_of, is_of as declares, memory_value, table_value, var_value, AreFirst};
 
 use c_objects::{Held, MemoryCell, TableCell, UnitObjects};
 use c_rules::same_type;
+use c_thread::initial_value;
 use c_tree::{CType, Item, Num};
 use std::alloc::Global;
 use w2c_base::{Memory, Value};
@@ -62,7 +63,7 @@ fn value_of_var(ty: CType, number: &Option<Num>) -> Option<Held>
 {
     match number {
         None => zero(ty),
-        Some(number) => initial(ty, *number),
+        Some(number) => initial_value(ty, *number),
     }
 }
 
@@ -80,30 +81,6 @@ fn zero(ty: CType) -> Option<Held>
         CType::Void => None,
         CType::Mem => None,
         CType::Tab => None,
-    }
-}
-
-fn initial(ty: CType, number: Num) -> Option<Held>
-    ensures { (names : Naming) → option_map (value_of names) result ≡ initial_of ty number }
-{
-    match ty {
-        CType::U32 => match number {
-            Num::N32(n) => Some(Held::Number(Value::I32(n))),
-            _ => None,
-        },
-        CType::U64 => match number {
-            Num::N64(n) => Some(Held::Number(Value::I64(n))),
-            _ => None,
-        },
-        CType::PtrU32 | CType::PtrU64 | CType::PtrMem | CType::PtrTab => match number {
-            Num::Plain(_) => Some(Held::Pointer(None)),
-            _ => None,
-        },
-        CType::FnPtr => match number {
-            Num::Plain(_) => Some(Held::FuncPointer(None)),
-            _ => None,
-        },
-        CType::Void | CType::Mem | CType::Tab => None,
     }
 }
 

@@ -3,9 +3,9 @@ ghost use Rattle.std.specs.Prelude.{◌≡◌, if◌then◌else◌, map, nat_lt,
 ghost use Rattle.c_tree.specs.View.{func_type_of, item_of, unit_of};
 ghost use Rattle.crun_startup.specs.Entries.{host_type, item_type as item_type_of, parts, types_in};
 
-use c_link::{HostSymbol, Linked, c_func_type, function_type};
+use c_link::{HostSymbol, Linked, function_type};
 use c_thread::{FuncTypes, TypeList};
-use c_tree::{CFuncType, Item};
+use c_tree::{CFuncType, Item, c_func_type};
 use std::alloc::Global;
 use w2c_base::Memory;
 

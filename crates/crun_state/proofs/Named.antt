@@ -1,5 +1,7 @@
 -- The names of hosts and of functions by number.
-use Rattle.crun_state.proofs.Common.{◌≡◌, ℕ, zero, suc, ◌<◌, List, [], ◌∷◌, map, length, get_or, slice_get, Some, None, Option, option_map, sym, ap, ◌∙◌, arith, slice_get-map, Host, item_of, unit_of, Item, UnitNames, item_name, host_of, hosts_of, name_of_function, naming_of, unit_names, name_among}
+use Rattle.crun_state.proofs.Common.{◌≡◌, ℕ, zero, suc, ◌<◌, List, [], ◌∷◌, map, length, get_or, slice_get, Some, None, Option, option_map}
+use Rattle.crun_state.proofs.Common.{sym, ap, ◌∙◌, arith, slice_get-map, Host, item_of, unit_of, Item, UnitNames, item_name, host_of}
+use Rattle.crun_state.proofs.Common.{hosts_of, name_of_function, naming_of, unit_names, name_among}
 use Rattle.c_hosts.specs.declared.host.HostModule.{Ghosts as HostModule}
 use Rattle.crun_lines.specs.HostLines.{function_name, host_name}
 

@@ -1,5 +1,9 @@
 -- The lines of objects by the numbers of their names.
-use Rattle.crun_state.proofs.Common.{◌≡◌, ℕ, zero, suc, ◌+◌, ◌<◌, ◌≤◌, List, [], ◌∷◌, ◌++◌, map, length, get_or, slice_get, Some, None, Option, option_map, zip, flat_map, sym, refl, ap, ◌∙◌, arith, length-map, AllByRecursion, range_with_len, Host, element_of, Naming, value_of, element_lines, length_line, variable_lines, entry_of, mapped_get, entry_at, entry_lines, held_lines, length_and_elements, lines_at, lines_at_place, lines_if_there, lines_in_order, table_cell_lines}
+use Rattle.crun_state.proofs.Common.{◌≡◌, ℕ, zero, suc, ◌+◌, ◌<◌, ◌≤◌, List, [], ◌∷◌, ◌++◌, map, length, get_or, slice_get, Some, None}
+use Rattle.crun_state.proofs.Common.{Option, option_map, zip, flat_map, sym, refl, ap, ◌∙◌, arith, length-map, AllByRecursion}
+use Rattle.crun_state.proofs.Common.{range_with_len, Host, element_of, Naming, value_of, element_lines, length_line, variable_lines}
+use Rattle.crun_state.proofs.Common.{entry_of, mapped_get, entry_at, entry_lines, held_lines, length_and_elements, lines_at, lines_at_place}
+use Rattle.crun_state.proofs.Common.{lines_if_there, lines_in_order, table_cell_lines}
 use Rattle.std.specs.declared.cmp.Ordering.{Ordering}
 use Rattle.std.specs.declared.cmp.Ordering.TheVariants.{Less, Equal, Greater}
 use Rattle.std.specs.Ordering.{match_ordering}
@@ -74,8 +78,7 @@ module _ {A B : Type 0} (view : A → B) (lines : Name × B → List ℕ) (own :
 
 pub held_seen : (names : Naming) (u : ℕ) (name : Name) (h : Held) → held_lines u (name, h) ≡ variable_lines u (name, value_of names h)
 held_seen names u name (held.Number v) = refl
-held_seen names u name (held.Pointer to) = refl
-held_seen names u name (held.FuncPointer to) = refl
+held_seen names u name _ = refl
 
 -- what was found under the name at a place
 pub found_named : {A : Type 0} (lines : Name × A → List ℕ) (objects stood : List A) (names : List Numbered) (k : ℕ) (n : Numbered)

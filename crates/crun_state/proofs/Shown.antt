@@ -1,5 +1,9 @@
 -- The lines of the state are those of the objects of each unit.
-use Rattle.crun_state.proofs.Common.{◌≡◌, ℕ, suc, ◌+◌, List, [], ◌∷◌, ◌++◌, map, length, slice_get, Some, None, Option, option_map, zip, flat_map, sym, refl, ap, ◌∙◌, arith, length-map, slice_get-map, range_with_len, Host, unit_of, Item, memory_of, table_of, Naming, UnitNames, value_of, memory_lines, state_lines, table_lines, unit_lines, variable_lines, naming_of, unit_names, cell_lines, held_lines, items_at, lines_if_made, lines_of_objects, lines_of_unit, table_cell_lines}
+use Rattle.crun_state.proofs.Common.{◌≡◌, ℕ, suc, ◌+◌, List, [], ◌∷◌, ◌++◌, map, length, slice_get, Some, None, Option, option_map, zip}
+use Rattle.crun_state.proofs.Common.{flat_map, sym, refl, ap, ◌∙◌, arith, length-map, slice_get-map, range_with_len, Host, unit_of, Item}
+use Rattle.crun_state.proofs.Common.{memory_of, table_of, Naming, UnitNames, value_of, memory_lines, state_lines, table_lines, unit_lines}
+use Rattle.crun_state.proofs.Common.{variable_lines, naming_of, unit_names, cell_lines, held_lines, items_at, lines_if_made}
+use Rattle.crun_state.proofs.Common.{lines_of_objects, lines_of_unit, table_cell_lines, zero-add}
 use Rattle.c_tree.specs.Tree as tree
 use Rattle.c_objects.specs.declared.store.UnitObjects.{UnitObjects}
 use Rattle.c_objects.specs.Stores.{objects_of, units_of, AreStored, IsStored}
@@ -44,10 +48,7 @@ module _ (hosts : List Host) (units : List (List tree.Item)) where
     all_shown : AreStored names objects
         → state_lines hosts (units_of names names objects) ≡ flat_map (lines_of_unit hosts units objects) (range_with_len 0 (length units))
     all_shown stored =
-        shown_from 0 units objects stored (λ j. ap (slice_get objects) (from_none j)) (λ j. ap (slice_get units) (from_none j))
-      where
-        from_none : (j : ℕ) → 0 + j ≡ j
-        from_none j = omega arith
+        shown_from 0 units objects stored (λ j. ap (slice_get objects) (zero-add j)) (λ j. ap (slice_get units) (zero-add j))
 
 pub state_shown : (hosts : List Host) (units : List (List Item)) (objects : List UnitObjects)
     → AreStored (naming_of (map unit_of units)) objects

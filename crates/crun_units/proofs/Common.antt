@@ -1,5 +1,6 @@
 -- What proofs of this crate cite of std, of the crates below and of specs/, passed on from one place. Declares nothing.
-pub use Rattle.std.proofs.Common.{◌≡◌, ℕ, zero, suc, ◌<◌, ◌⊎◌, List, [], ◌∷◌, ◌++◌, map, length, get_or, slice_get, Some, Ok, Err, string_bytes, Option, sym, refl, ap, ◌∙◌, subst, inl, inr, append-nil, arith}
+pub use Rattle.std.proofs.Common.{◌≡◌, ℕ, zero, suc, ◌<◌, ◌⊎◌, List, [], ◌∷◌, ◌++◌, map, length, get_or, slice_get, Some, Ok, Err}
+pub use Rattle.std.proofs.Common.{string_bytes, Option, sym, refl, ap, ◌∙◌, subst, inl, inr, append-nil, arith}
 pub use Rattle.w2c_io.proofs.Passed.{both_passed, passed_so}
 pub use Rattle.w2c_io.specs.Contents.{Contents, Name, Told, holding}
 pub use Rattle.w2c_io.specs.Passed.{BreaksOff, Passes, WritesFile}
@@ -13,11 +14,11 @@ pub use Rattle.crun_words.specs.Inputs.{AreUnits, NoUnit, StopsUnits, UnitTooLon
 pub use Rattle.crun_words.specs.Passing.{GivesUnits, TriesUnits}
 pub use Rattle.crun_words.specs.Seen.{seen_merge, seen_trim}
 pub use Rattle.crun_words.specs.declared.inputs.InputStop.{InputStop}
-pub use Rattle.crun_job.proofs.Each.{first_within, many_each, one_first}
+pub use Rattle.crun_job.proofs.Each.{many_each, one_first}
 pub use Rattle.crun_job.specs.Job.{Job, Run, Stops, Write}
 pub use Rattle.crun_job.specs.Lines.{Reason, Refused, Unwritten, WantOfMemory}
 pub use Rattle.crun_job.specs.Links.{AreLinked, Symbols}
-pub use Rattle.crun_job.specs.Refusals.{IsWithin, RefusesTexts, RefusesUnits}
+pub use Rattle.crun_job.specs.Refusals.{RefusesTexts, RefusesUnits}
 pub use Rattle.crun_job.specs.Seen.{reason_of, stop_for}
 pub use Rattle.crun_job.specs.Stopping.{StopsUnit}
 pub use Rattle.crun_job.specs.Texts.{AreUnitTexts, IsRefusedText, IsUnitText}

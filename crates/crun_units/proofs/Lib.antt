@@ -3,6 +3,6 @@ mod Common
 -- what lines ask for
 pub mod WriteJobs
 -- why a unit is not written
-pub mod WriteStops
+mod WriteStops
 -- what passes through the files
 pub mod Passing

@@ -1,5 +1,8 @@
 -- What passes through the files where a unit is written, from what its steps say.
-use Rattle.crun_units.proofs.Common.{◌≡◌, ℕ, ◌⊎◌, List, [], ◌++◌, slice_get, Some, string_bytes, sym, refl, subst, inl, inr, append-nil, Name, NoUnit, UnitTooLong, UnitsRead, most_unit_bytes, GivesUnits, TriesUnits, InputStop, Job, Run, Stops, Write, Reason, Refused, WantOfMemory, reason_of, stop_for, StopsUnit, UnitsRefusal, Cause, IsUnitsJobOver, PassesBy, PassesUnits, WritesOutput, WritesUnit, reason_for, TriesUnit}
+use Rattle.crun_units.proofs.Common.{◌≡◌, ℕ, ◌⊎◌, List, [], ◌++◌, slice_get, Some, string_bytes, sym, refl, subst, inl, inr, append-nil}
+use Rattle.crun_units.proofs.Common.{Name, NoUnit, UnitTooLong, UnitsRead, most_unit_bytes, GivesUnits, TriesUnits, InputStop, Job, Run}
+use Rattle.crun_units.proofs.Common.{Stops, Write, Reason, Refused, WantOfMemory, reason_of, stop_for, StopsUnit, UnitsRefusal, Cause}
+use Rattle.crun_units.proofs.Common.{IsUnitsJobOver, PassesBy, PassesUnits, WritesOutput, WritesUnit, reason_for, TriesUnit}
 use Rattle.w2c_io.specs.Events.{Event}
 use Rattle.c_tree.specs.Tree as tree
 use Rattle.crun_words.specs.declared.inputs.InputStop.TheVariants as input

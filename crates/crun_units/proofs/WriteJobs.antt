@@ -1,5 +1,8 @@
 -- A line that has a unit written asks for at most one job.
-use Rattle.crun_units.proofs.Common.{◌≡◌, ℕ, List, [], ◌∷◌, slice_get, Some, Option, sym, ap, ◌∙◌, subst, inl, inr, Contents, Name, IsTrimmed, MergeLine, TrimLine, NoUnit, UnitTooLong, UnitsRead, UnitsReading, one_first, Job, Stops, Write, Refused, Symbols, IsRefusedText, IsUnitText, IsBehindUnits, IsMergeJob, IsMerged, IsTrimJob, IsTrimmedText, IsUnitsJob}
+use Rattle.crun_units.proofs.Common.{◌≡◌, ℕ, List, [], ◌∷◌, slice_get, Some, Option, sym, ap, ◌∙◌, subst, inl, inr, Contents, Name}
+use Rattle.crun_units.proofs.Common.{IsTrimmed, MergeLine, TrimLine, UnitsRead, UnitsReading, one_first, Job, Stops, Write, Refused}
+use Rattle.crun_units.proofs.Common.{Symbols, IsRefusedText, IsUnitText, IsBehindUnits, IsMergeJob, IsMerged, IsTrimJob, IsTrimmedText}
+use Rattle.crun_units.proofs.Common.{IsUnitsJob}
 use Rattle.c_tree.specs.Tree as tree
 use Rattle.c_merge.specs.Merge.{merged}
 use Rattle.c_trim.proofs.Needed.{one_trimmed}
@@ -13,8 +16,7 @@ module _ (IsOf : List (List ℕ) → Job → Type 0)
     (one_of : (texts : List (List ℕ)) (a b : Job) → IsOf texts a → IsOf texts b → a ≡ b) where
   one_behind : (reading : UnitsReading) (a b : Job) → IsBehindUnits IsOf reading a → IsBehindUnits IsOf reading b → a ≡ b
   one_behind (UnitsRead texts) a b first second = one_of texts a b first second
-  one_behind (NoUnit file) a b first second = first ∙ sym second
-  one_behind (UnitTooLong file) a b first second = first ∙ sym second
+  one_behind _ a b first second = first ∙ sym second
 
   one_units_job : (m : Contents) (units : List Name) (a b : Job) → IsUnitsJob m units IsOf a → IsUnitsJob m units IsOf b → a ≡ b
   one_units_job m units a b (reading, is, behind) (other, is', behind') =

@@ -1,5 +1,10 @@
 -- Where a unit that is to be written is not, from what each step says of its stop.
-use Rattle.crun_units.proofs.Common.{◌≡◌, ℕ, zero, suc, ◌<◌, ◌⊎◌, List, [], ◌∷◌, map, length, get_or, slice_get, Some, string_bytes, sym, refl, ap, ◌∙◌, subst, inl, inr, arith, Contents, Name, Told, holding, Tells, print_of, IsTrimmed, MergeLine, TrimLine, AreUnits, NoUnit, StopsUnits, UnitTooLong, UnitsRead, InputStop, first_within, many_each, Job, Stops, Write, Reason, Refused, Unwritten, WantOfMemory, Symbols, IsWithin, RefusesTexts, RefusesUnits, reason_of, stop_for, StopsUnit, AreUnitTexts, IsRefusedText, IsUnitText, UnitsRefusal, Cause, AreUntouched, FilesSeen, IsMerged, IsTrimmedText, IsUnitsJob, StopsWrite}
+use Rattle.crun_units.proofs.Common.{◌≡◌, ℕ, zero, suc, ◌<◌, ◌⊎◌, List, [], ◌∷◌, map, length, get_or, slice_get, Some, string_bytes, sym}
+use Rattle.crun_units.proofs.Common.{refl, ap, ◌∙◌, subst, inl, inr, arith, Contents, Name, Told, holding, Tells, print_of, IsTrimmed}
+use Rattle.crun_units.proofs.Common.{MergeLine, TrimLine, AreUnits, NoUnit, StopsUnits, UnitTooLong, UnitsRead, InputStop, many_each, Job}
+use Rattle.crun_units.proofs.Common.{Stops, Write, Reason, Refused, Unwritten, WantOfMemory, Symbols, RefusesTexts, RefusesUnits, reason_of}
+use Rattle.crun_units.proofs.Common.{stop_for, StopsUnit, AreUnitTexts, IsUnitText, UnitsRefusal, Cause, AreUntouched, FilesSeen, IsMerged}
+use Rattle.crun_units.proofs.Common.{IsTrimmedText, IsUnitsJob, StopsWrite}
 use Rattle.std.proofs.lemmas.List.{length-map}
 use Rattle.w2c_files.specs.Standing.{IsBegun}
 use Rattle.c_tree.specs.Spelled.{CSpells}
@@ -65,11 +70,6 @@ pub trim_refused : (line : TrimLine) (texts : List (List ℕ)) (r : UnitsRefusal
 trim_refused line texts r refuses number why file is at =
     inr (number, why, subst (RefusesTexts texts) is refuses, ap (λ name. Stops (Refused name why)) (only_file line.unit number file at))
 
-pub trim_within : (texts : List (List ℕ)) (r : UnitsRefusal) → RefusesTexts texts r → length texts ≡ 1 → IsWithin 1 r
-trim_within texts (refusal.Unit number why) refuses one =
-    subst (λ many. number < many) one (first_within IsUnitText IsRefusedText texts number why refuses)
-trim_within texts refusal.Memory refuses one = tt
-
 -- the only unit of the only text
 pub one_unit : {A : Type 0} (f : A → List tree.Item) (texts : List (List ℕ)) (xs : List A) → AreUnitTexts texts (map f xs)
     → length texts ≡ 1 → length xs ≡ 1
@@ -126,8 +126,3 @@ pub wrote : (Asks : Contents → Job → Type 0) (output : Name) (unit : List tr
     × (new ≡ holding old output (print_of unit)))
 wrote Asks output unit old mid new asks same spells whole =
     λ m tells. (unit, asks m tells, spells, whole ∙ ap (λ told. holding told output (print_of unit)) same)
-
-pub whole_keeps : (output : Name) (unit : List tree.Item) (old mid new : Told) → mid ≡ old → new ≡ holding mid output (print_of unit)
-    → KeepsOthers old new output
-whole_keeps output unit old mid new same whole =
-    inr (print_of unit, whole ∙ ap (λ told. holding told output (print_of unit)) same)

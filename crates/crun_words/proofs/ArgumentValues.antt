@@ -1,12 +1,11 @@
 -- The values that numbers are for parameters.
-use Rattle.crun_words.proofs.Common.{◌≡◌, ℕ, zero, suc, ◌+◌, ◌<◌, Bool, true, false, ◌&&◌, List, [], ◌∷◌, ◌++◌, map, length, take, slice_get, Some, All, sym, refl, ap, ◌∙◌, subst, arith, map_push, All-head, All-nil, All-push, All-tail, same_Some, take_next, Value, same_type, same_types, CType, FnPtr, Mem, PtrMem, PtrTab, PtrU32, PtrU64, Tab, U32, U64, Void, AreArguments, IsArgument}
-use Rattle.w2c_base.specs.declared.value.ValType.{ValType}
+use Rattle.crun_words.proofs.Common.{◌≡◌, ℕ, zero, suc, ◌+◌, ◌<◌, Bool, true, false, ◌&&◌, List, [], ◌∷◌, ◌++◌, map, length, take}
+use Rattle.crun_words.proofs.Common.{slice_get, Some, All, sym, refl, ap, ◌∙◌, subst, arith, map_push, All-head, All-nil, All-push}
+use Rattle.crun_words.proofs.Common.{All-tail, same_Some, take_next, Value, same_type, same_types, CType, Void, AreArguments, IsArgument}
 use Rattle.w2c_base.specs.Values.{IsNumber, number_of, type_of, types_of}
-use Rattle.c_meaning.specs.Linking.{c_params_of, c_type_of}
-
-types_push : (values : List Value) (v : Value) → types_of (values ++ v ∷ []) ≡ types_of values ++ type_of v ∷ []
-types_push [] v = refl
-types_push (w ∷ values) v = ap (λ (l : List ValType). type_of w ∷ l) (types_push values v)
+use Rattle.c_tree.specs.TypesInC.{c_params_of, c_type_of}
+use Rattle.std.proofs.Math.Seq.{take-length}
+use Rattle.w2c_base.proofs.Types.{types_push}
 
 -- the values for the parameters in front of a place
 pub record AreSome (params : List CType) (numbers : List ℕ) (k : ℕ) (values : List Value) : Type 0 where
@@ -30,12 +29,8 @@ one_more params numbers k t n values new v at at_number so_far is pushed = recor
   fit = subst (λ (l : List Value). All IsNumber l) (sym pushed) (All-push IsNumber values v so_far.fit is.fits);
 }
 
-take_length : {A : Type 0} (xs : List A) → take (length xs) xs ≡ xs
-take_length [] = refl
-take_length (x ∷ xs) = ap (λ l. x ∷ l) (take_length xs)
-
 take_all : {A : Type 0} (xs : List A) (k : ℕ) → k ≡ length xs → take k xs ≡ xs
-take_all xs k end = ap (λ n. take n xs) end ∙ take_length xs
+take_all xs k end = ap (λ n. take n xs) end ∙ take-length xs
 
 -- some value, so the types are no list void
 params_are : (values : List Value) (numbers : List ℕ) → 0 < length numbers → numbers ≡ map number_of values
@@ -99,15 +94,7 @@ no_number_void params (v ∷ values) are = absurd (let none = ap length are.numb
 
 type_is_void : (t : CType) → (same_type t Void && true) ≡ true → t ≡ Void
 type_is_void Void e = refl
-type_is_void U32 e = absurd cc
-type_is_void U64 e = absurd cc
-type_is_void PtrU32 e = absurd cc
-type_is_void PtrU64 e = absurd cc
-type_is_void Mem e = absurd cc
-type_is_void PtrMem e = absurd cc
-type_is_void Tab e = absurd cc
-type_is_void PtrTab e = absurd cc
-type_is_void FnPtr e = absurd cc
+type_is_void _ e = absurd cc
 
 pub void_is : (params : List CType) → same_types params (Void ∷ []) ≡ true → params ≡ Void ∷ []
 void_is [] e = absurd cc

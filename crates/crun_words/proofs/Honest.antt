@@ -1,9 +1,14 @@
 -- Over files that behave as files reading comes to what it comes to over what they hold, but where the last read failed.
-use Rattle.crun_words.proofs.Common.{◌≡◌, ℕ, ◌+◌, ◌-◌, ◌≤◌, ◌⊎◌, List, [], ◌∷◌, ◌++◌, length, Some, Ok, Err, Option, Result, sym, refl, ap, ◌∙◌, subst, inl, inr, arith, length-append, AllByRecursion, Contents, Name, Told, Event, Read, ReadAnswer, FailsLast, ReadsAll, AreHeld, AreRead, total, AllRead, Held, IsJournalReading, IsReading, IsUnitsReading, JournalReading, LongCalls, LongJournal, LongUnit, NoJournal, NoUnit, NotThere, Reading, UnitTooLong, UnitsRead, UnitsReading, most_calls_bytes, most_journal_bytes, most_unit_bytes, most_units_bytes, GivesInputs, GivesJournal, GivesUnits, IsAway, IsOver, ReadsUnto}
+use Rattle.crun_words.proofs.Common.{◌≡◌, ℕ, ◌+◌, ◌-◌, ◌≤◌, ◌⊎◌, List, [], ◌∷◌, ◌++◌, length, Some, Ok, Err, Option, Result, sym, refl, ap}
+use Rattle.crun_words.proofs.Common.{◌∙◌, subst, inl, inr, arith, length-append, AllByRecursion, Contents, Name, Told, Event, Read}
+use Rattle.crun_words.proofs.Common.{ReadAnswer, FailsLast, ReadsAll, AreHeld, AreRead, total, AllRead, Held, IsJournalReading, IsReading}
+use Rattle.crun_words.proofs.Common.{IsUnitsReading, JournalReading, LongCalls, LongJournal, LongUnit, NoJournal, NoUnit, NotThere, Reading}
+use Rattle.crun_words.proofs.Common.{UnitTooLong, UnitsRead, UnitsReading, most_calls_bytes, most_journal_bytes, most_unit_bytes}
+use Rattle.crun_words.proofs.Common.{most_units_bytes, GivesInputs, GivesJournal, GivesUnits, IsAway, IsOver, ReadsUnto}
 use Rattle.w2c_io.specs.Honest.{AreHonest, Does}
 use Rattle.w2c_io.specs.declared.answers.ReadAnswer.TheVariants as reading
-use Rattle.w2c_files.proofs.Honest.{honest_both, reads_fit, reads_held, reads_kept}
-use Rattle.crun_words.proofs.InputStops.{as_many, units_bytes}
+use Rattle.w2c_files.proofs.Honest.{honest_both, reads_fit, reads_held, reads_kept, as_many}
+use Rattle.crun_words.proofs.InputStops.{units_bytes}
 
 -- ---- the file that was read last could not be read
 
@@ -117,8 +122,7 @@ module _ (m : Contents) where
         by (Err reading.TooLong) over front (short, read, (c, does)) rest split =
             (inl (record { front = front; rest = rest; all = texts; split = split; read = read; stops = does.0 }), does.1)
         by (Err reading.Absent) over front last rest split = absurd over
-        by (Err reading.Failed) over front last rest split = absurd over
-        by (Err reading.Memory) over front last rest split = absurd over
+        by (Err _) over front last rest split = absurd over
 
     pub inputs_honest : (calls : Name) (r : Reading) (events : List Event) → GivesInputs units calls r events
         → AreHonest events (Some m) current new after → (IsReading m units calls r ⊎ FailsInputs r events) × (new ≡ Some m)

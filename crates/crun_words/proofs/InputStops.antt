@@ -1,21 +1,22 @@
 -- Where reading the units and the calls file stops.
-use Rattle.crun_words.proofs.Common.{◌≡◌, ℕ, zero, suc, ◌*◌, ◌<◌, ◌≤◌, ◌⊎◌, List, [], ◌∷◌, length, slice_get, Some, None, Option, sym, refl, ap, ◌∙◌, subst, inl, inr, arith, length-append, same_Some, AllByRecursion, rose_from, Contents, Name, Told, AreHeld, IsUnreadable, Missing, Past, StopsReading, TooLong, total, ReadStop, AllRead, AreUnits, HasUnits, Held, IsJournalReading, IsLongUnit, IsReading, IsUnitsReading, JournalReading, LongCalls, LongJournal, LongUnit, NoJournal, NoUnit, NotThere, Reading, StopsCalls, StopsInputs, StopsUnits, UnitTooLong, UnitsRead, UnitsReading, most_calls_bytes, most_journal_bytes, most_unit_bytes, most_units_bytes, InputStop}
+use Rattle.crun_words.proofs.Common.{◌≡◌, ℕ, ◌*◌, ◌<◌, ◌≤◌, ◌⊎◌, List, [], ◌∷◌, length, slice_get, Some, None, Option, sym, refl, ap, ◌∙◌}
+use Rattle.crun_words.proofs.Common.{subst, inl, inr, arith, length-append, same_Some, AllByRecursion, rose_from, Contents, Name, Told}
+use Rattle.crun_words.proofs.Common.{IsUnreadable, Missing, Past, StopsReading, TooLong, total, ReadStop, AllRead, AreUnits, HasUnits, Held}
+use Rattle.crun_words.proofs.Common.{IsJournalReading, IsLongUnit, IsReading, IsUnitsReading, JournalReading, LongCalls, LongJournal}
+use Rattle.crun_words.proofs.Common.{LongUnit, NoJournal, NoUnit, NotThere, Reading, StopsCalls, StopsInputs, StopsUnits, UnitTooLong}
+use Rattle.crun_words.proofs.Common.{UnitsRead, UnitsReading, most_calls_bytes, most_journal_bytes, most_unit_bytes, most_units_bytes}
+use Rattle.crun_words.proofs.Common.{InputStop, slice_get_within}
 use Rattle.std.specs.FinMap.{get}
 use Rattle.w2c_io.specs.Causes.{Faulted}
 use Rattle.w2c_io.specs.Telling.{Tells}
 use Rattle.w2c_files.specs.declared.reading.ReadStop.TheVariants as read
 use Rattle.w2c_files.specs.Stopping.{StopsAt}
 use Rattle.w2c_files.proofs.Stops.{one_stop, no_stop, same_bytes}
+use Rattle.w2c_files.proofs.Honest.{as_many}
 use Rattle.crun_words.specs.declared.inputs.InputStop.TheVariants as stop
 
 same_name : (names : List Name) (k : ℕ) (name other : Name) → slice_get names k ≡ Some name → slice_get names k ≡ Some other → other ≡ name
 same_name names k name other at is = same_Some other name (sym is ∙ at)
-
--- the number of a file that is not read is that of one of so many
-pub at_within : {A : Type 0} (xs : List A) (k : ℕ) (x : A) → slice_get xs k ≡ Some x → k < length xs
-at_within [] k x at = absurd cc
-at_within (y ∷ xs) zero x at = omega arith
-at_within (y ∷ xs) (suc k) x at = let more = at_within xs k x at in omega (arith, more)
 
 module _ (each most : ℕ) (told : Told) (names : List Name) (before after : ℕ) (named : Option Name) (k : ℕ) (why : ReadStop)
     (stops : StopsAt each most told names before after named why) where
@@ -23,13 +24,13 @@ module _ (each most : ℕ) (told : Told) (names : List Name) (before after : ℕ
   long_within is = by_name (subst (StopsAt each most told names before after named) is stops)
     where
       by_name : StopsAt each most told names before after named (read.TooLong k) → k < length names
-      by_name (name, at, long) = at_within names k name at
+      by_name (name, at, long) = slice_get_within names k name at
 
   pub past_within : (place : ℕ) → why ≡ read.Past k place → k < length names
   past_within place is = by_name (subst (StopsAt each most told names before after named) is stops)
     where
       by_name : StopsAt each most told names before after named (read.Past k place) → k < length names
-      by_name (within, name, at, past) = at_within names k name at
+      by_name (within, name, at, past) = slice_get_within names k name at
 
 -- ---- 16 units do not pass the limit of all
 
@@ -37,13 +38,6 @@ pub units_bytes : (texts : List (List ℕ)) → AllByRecursion (λ text. length 
     → total texts ≤ most_unit_bytes * length texts
 units_bytes [] fit = omega arith
 units_bytes (text ∷ texts) fit = let more = units_bytes texts fit.1 in omega (arith, more, fit.0)
-
-pub as_many : (contents : Contents) (names : List Name) (texts : List (List ℕ)) → AreHeld contents names texts
-    → length texts ≡ length names
-as_many contents [] [] held = refl
-as_many contents (n ∷ names) (t ∷ texts) held = ap suc (as_many contents names texts held.1)
-as_many contents [] (t ∷ texts) held = absurd held
-as_many contents (n ∷ names) [] held = absurd held
 
 pub never_past : (contents : Contents) (names : List Name) (name : Name) (place : ℕ) → length names ≤ 16
     → StopsReading most_unit_bytes most_units_bytes contents names name (Past place) → ⊥

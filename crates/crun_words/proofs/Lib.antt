@@ -1,9 +1,11 @@
-mod Common
-pub mod Lists
-pub mod Names
+-- What crates above cite.
 pub mod Said
-pub mod NumberedLines
-pub mod ArgumentValues
 pub mod InputStops
 pub mod Passing
 pub mod Honest
+-- What the crate's own proofs cite.
+mod Common
+mod Lists
+mod Names
+mod NumberedLines
+mod ArgumentValues

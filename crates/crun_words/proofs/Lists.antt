@@ -1,5 +1,6 @@
 -- Lists whose items are each given by a function.
-use Rattle.crun_words.proofs.Common.{◌≡◌, ℕ, zero, suc, ◌+◌, List, [], ◌∷◌, ◌++◌, map, take, slice_get, Some, None, Option, sym, refl, ap, ◌∙◌, map_push, same_Some, same_parts, take_next}
+use Rattle.crun_words.proofs.Common.{◌≡◌, ℕ, zero, suc, ◌+◌, List, [], ◌∷◌, ◌++◌, map, take, slice_get, Some, None, Option, sym, refl, ap}
+use Rattle.crun_words.proofs.Common.{◌∙◌, map_push, same_Some, same_parts, take_next}
 
 module _ {A B : Type 0} (f : A → Option B) where
   abbrev Gives : List A → List B → Type 0

@@ -1,18 +1,10 @@
 -- Two words name one symbol at most.
-use Rattle.crun_words.proofs.Common.{◌≡◌, ℕ, ◌<◌, false, List, [], ◌∷◌, ◌++◌, length, IfNone, Some, None, codes, Option, bytes_eq, sym, refl, ap, ◌∙◌, subst, inl, inr, arith, IsBytes, IsSymbolOf, word_of_name}
+use Rattle.crun_words.proofs.Common.{◌≡◌, ℕ, ◌<◌, false, List, [], ◌∷◌, ◌++◌, length, IfNone, Some, None, codes, Option, bytes_eq, sym}
+use Rattle.crun_words.proofs.Common.{refl, ap, ◌∙◌, subst, inl, inr, arith, IsBytes, IsSymbolOf, word_of_name}
 use Rattle.w2c_mangle.specs.declared.symbol.SymbolKind.TheVariants.{Func}
 use Rattle.w2c_mangle.specs.Escaping.{escaped}
 use Rattle.w2c_mangle.specs.Symbols.{export_symbol_of}
-use Rattle.w2c_mangle.proofs.EscapedNames.{escaped-injective, escaped_byte-cases, stays-not_Z, z_escape}
-
--- no escape is the word Z
-escaped_apart : (name : List ℕ) → escaped name ≡ codes "Z" → ⊥
-escaped_apart [] e = absurd cc
-escaped_apart (b ∷ name) e =
-    elim (escaped_byte-cases b) [
-      | inl p ↦ let same : b ∷ escaped name ≡ codes "Z" = sym (ap (λ l. l ++ escaped name) p.1) ∙ e in absurd (stays-not_Z b p.0 (cc))
-      | inr p ↦ let same : z_escape b ++ escaped name ≡ codes "Z" = sym (ap (λ l. l ++ escaped name) p.1) ∙ e in cc
-    ]
+use Rattle.w2c_mangle.proofs.EscapedNames.{escaped-injective, escaped_byte-cases, z_escape, escaped_apart}
 
 -- an export's word is that of one name
 pub word_is_of_one : (x y : List ℕ) → word_of_name x ≡ word_of_name y → x ≡ y
@@ -25,14 +17,6 @@ word_is_of_one (a ∷ x) (b ∷ y) e = escaped-injective (a ∷ x) (b ∷ y) e
 word_is_escape : (word x : List ℕ) → (word ≡ codes "Z" → ⊥) → word_of_name x ≡ word → escaped x ≡ word
 word_is_escape word [] apart e = absurd (apart (sym e))
 word_is_escape word (b ∷ x) apart e = e
-
-pub escape_is_word : (word x : List ℕ) → 0 < length word → escaped x ≡ word → word_of_name x ≡ word
-escape_is_word word [] some e = absurd (let none = ap length e in grind (arith, some, none))
-escape_is_word word (b ∷ x) some e = e
-
-pub word_is_there : (x : List ℕ) → word_of_name x ≡ [] → ⊥
-word_is_there [] e = cc
-word_is_there (b ∷ x) e = (let same = escaped-injective (b ∷ x) [] e in cc)
 
 pub one_symbol : (m x symbol other : List ℕ) → IsSymbolOf m x symbol → IsSymbolOf m x other → symbol ≡ other
 one_symbol m x symbol other a b =
@@ -57,9 +41,6 @@ no_module m x symbol empty is = by_name is.module_name is.module_is_there (sym (
 -- words that are escapes of no names
 pub no_name : (m x symbol : List ℕ) → ((name : List ℕ) → IsBytes name → escaped name ≡ m → ⊥) → IsSymbolOf m x symbol → ⊥
 no_name m x symbol none is = none is.module_name is.module_bytes (sym is.module_is)
-
-pub no_export : (m x symbol : List ℕ) → ((name : List ℕ) → IsBytes name → word_of_name name ≡ x → ⊥) → IsSymbolOf m x symbol → ⊥
-no_export m x symbol none is = none is.export_name is.export_bytes (sym is.export_is)
 
 -- a word that is not Z and the escape of no name is the word of none
 not_z : (word : List ℕ) → bytes_eq word (codes "Z") ≡ false → word ≡ codes "Z" → ⊥

@@ -1,5 +1,6 @@
 -- The lines that are to name calls, a line more.
-use Rattle.crun_words.proofs.Common.{◌≡◌, ℕ, zero, suc, ◌+◌, ◌<◌, List, [], ◌∷◌, ◌++◌, length, take, slice_get, Some, sym, refl, ap, ◌∙◌, append-nil, arith, map_push, take_next, numbered, seen_lines, seen_numbered, NumberedLine}
+use Rattle.crun_words.proofs.Common.{◌≡◌, ℕ, zero, suc, ◌+◌, ◌<◌, List, [], ◌∷◌, ◌++◌, length, take, slice_get, Some, sym, refl, ap, ◌∙◌}
+use Rattle.crun_words.proofs.Common.{append-nil, arith, map_push, take_next, numbered, seen_lines, seen_numbered, NumberedLine}
 use Rattle.crun_words.specs.CallsFile as file
 
 -- the last line has the number behind those in front of it

@@ -1,5 +1,11 @@
 -- What passes through the files that are read, from what each step says.
-use Rattle.crun_words.proofs.Common.{◌≡◌, ℕ, List, [], ◌∷◌, ◌++◌, length, slice_get, Some, Ok, Err, Result, sym, refl, ap, ◌∙◌, subst, inl, inr, append_assoc, same_Some, Name, Event, Read, ReadAnswer, all_in_order, all_then, both_limited, last_read, longer, unto_last, ReadsAll, ReadsInOrder, ReadsSome, StopsBy, limited, ReadStop, AllRead, Held, JournalReading, LongCalls, LongJournal, LongUnit, NoJournal, NoUnit, NotThere, Reading, UnitTooLong, UnitsRead, UnitsReading, most_calls_bytes, most_journal_bytes, most_unit_bytes, most_units_bytes, GivesInputs, GivesJournal, GivesUnits, IsAway, IsOver, ReadsFile, ReadsUnto, TriesCalls, TriesInputs, TriesUnits, InputStop}
+use Rattle.crun_words.proofs.Common.{◌≡◌, ℕ, List, [], ◌∷◌, ◌++◌, length, slice_get, Some, Ok, Err, Result, sym, refl, ap, ◌∙◌, subst, inl}
+use Rattle.crun_words.proofs.Common.{inr, append_assoc, same_Some, Name, Event, Read, ReadAnswer, all_in_order, all_then, both_limited}
+use Rattle.crun_words.proofs.Common.{last_read, longer, unto_last, ReadsAll, ReadsInOrder, ReadsSome, StopsBy, limited, ReadStop, AllRead}
+use Rattle.crun_words.proofs.Common.{Held, JournalReading, LongCalls, LongJournal, LongUnit, NoJournal, NoUnit, NotThere, Reading}
+use Rattle.crun_words.proofs.Common.{UnitTooLong, UnitsRead, UnitsReading, most_calls_bytes, most_journal_bytes, most_unit_bytes}
+use Rattle.crun_words.proofs.Common.{most_units_bytes, GivesInputs, GivesJournal, GivesUnits, IsAway, IsOver, ReadsFile, ReadsUnto}
+use Rattle.crun_words.proofs.Common.{TriesCalls, TriesInputs, TriesUnits, InputStop}
 use Rattle.w2c_io.specs.declared.answers.ReadAnswer.TheVariants as reading
 use Rattle.w2c_files.specs.declared.reading.ReadStop.TheVariants as read
 use Rattle.crun_words.specs.declared.inputs.InputStop.TheVariants as stop
@@ -100,17 +106,14 @@ module _ (names : List Name) (k : ℕ) (name : Name) (at : slice_get names k ≡
       → IsOver left answer × (k ≡ number)
   is_long left number (Ok bytes) stops = absurd stops
   is_long left number (Err reading.Absent) stops = absurd stops
-  is_long left number (Err reading.Failed) stops = absurd stops
   is_long left number (Err reading.TooLong) stops = (tt, stops)
-  is_long left number (Err reading.Memory) stops = absurd stops
+  is_long left number (Err _) stops = absurd stops
 
   is_past : (left number place : ℕ) (answer : Result (List ℕ) ReadAnswer) → StopsBy left number answer (read.Past k place)
       → IsOver left answer × (k ≡ number)
   is_past left number place (Ok bytes) (is, at, over) = (over, is)
   is_past left number place (Err reading.Absent) stops = absurd stops
-  is_past left number place (Err reading.Failed) stops = absurd stops
-  is_past left number place (Err reading.TooLong) stops = absurd stops
-  is_past left number place (Err reading.Memory) stops = absurd stops
+  is_past left number place (Err _) stops = absurd stops
 
   pub unread_tried : (why : ReadStop) → why ≡ read.Unread k → ReadsSome most_unit_bytes most_units_bytes names why events
       → GivesUnits names (NoUnit name) events
@@ -161,8 +164,3 @@ calls_tried units calls texts stop.Memory first last gave (answer, is) =
     unto_last most_unit_bytes units calls most_calls_bytes [] texts first (first ++ last) answer gave
     (ap (λ (l : List Event). first ++ l) is)
 calls_tried units calls texts _ first last gave tried = absurd tried
-
-pub inputs_read : (units : List Name) (calls : Name) (texts : List (List ℕ)) (text : List ℕ) (first last : List Event)
-    → ReadsAll most_unit_bytes units texts first → last ≡ Read calls most_calls_bytes (Ok text) ∷ []
-    → GivesInputs units calls (AllRead texts text) (first ++ last)
-inputs_read units calls texts text first last gave is = (first, gave, ap (λ (l : List Event). first ++ l) is)

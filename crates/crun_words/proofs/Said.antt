@@ -1,5 +1,6 @@
 -- The call that words say.
-use Rattle.crun_words.proofs.Common.{◌≡◌, ℕ, List, [], ◌∷◌, sym, ◌∙◌, subst, same_parts, AreNumbers, Call, IsSymbolOf, SayCall, SaysCall, words_in}
+use Rattle.crun_words.proofs.Common.{◌≡◌, ℕ, List, [], ◌∷◌, sym, ◌∙◌, subst, same_parts, AreNumbers, Call, IsSymbolOf, SayCall, SaysCall}
+use Rattle.crun_words.proofs.Common.{words_in}
 use Rattle.crun_words.proofs.Lists.{same_items}
 use Rattle.crun_words.proofs.Names.{one_symbol}
 

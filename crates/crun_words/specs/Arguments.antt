@@ -3,7 +3,7 @@ use Rattle.std.specs.Prelude.{◌≡◌, ℕ, All, List, map}
 use Rattle.w2c_base.specs.declared.value.Value.{Value}
 use Rattle.w2c_base.specs.Values.{IsNumber, number_of, type_of, types_of}
 use Rattle.c_tree.specs.declared.tree.CType.{CType}
-use Rattle.c_meaning.specs.Linking.{c_params_of, c_type_of}
+use Rattle.c_tree.specs.TypesInC.{c_params_of, c_type_of}
 
 -- a number is this value for a parameter of a type: u32 or u64, and within the type
 pub record IsArgument (ty : CType) (number : ℕ) (value : Value) : Type 0 where

@@ -1,6 +1,7 @@
 -- The readings of a command line: --steps N --calls FILE [--state] [--record J] [--replay J] UNIT.c .., --merge OUT.c UNIT.c .. and
 -- --trim OUT.c UNIT.c.
-use Rattle.std.specs.Prelude.{ℕ, ◌^◌, ◌&&◌, nat_le, Bool, true, false, not, List, [], ◌∷◌, length, Option, Some, None, if◌then◌else◌, option_and_then}
+use Rattle.std.specs.Prelude.{ℕ, ◌^◌, ◌&&◌, nat_le, Bool, true, false, not, List, [], ◌∷◌, length, Option, Some, None, if◌then◌else◌}
+use Rattle.std.specs.Prelude.{option_and_then}
 use Rattle.w2c_io.specs.Contents.{Name}
 use Rattle.w2c_files.specs.CFile.{is_c_file}
 use Rattle.crun_words.specs.Command.{Values, values_of}

@@ -1,5 +1,9 @@
 -- A run whose hosts reply again what another run was replied asks the same as that one.
-use Rattle.host_replay.proofs.Common.{◌≡◌, ℕ, suc, ◌⊎◌, List, [], ◌∷◌, ◌++◌, length, Option, sym, refl, ap, ◌∙◌, subst, inl, inr, append_assoc, arith, length-map, map-append, Ask, CallEnded, Event, Host, Reply, asks_in, Program, SymbolCall, CRun, c_run, Answered, hosts_of, ask_of, event_in, events_in, replies_in, reply_in, HostModule, Asked, AreReplays, replaying, Replays, IsAnsweredRun, asked_events, program_with, run_with, Recorded, ReplayHost}
+use Rattle.host_replay.proofs.Common.{◌≡◌, ℕ, suc, ◌⊎◌, List, [], ◌∷◌, ◌++◌, length, Option, sym, refl, ap, ◌∙◌, subst, inl, inr}
+use Rattle.host_replay.proofs.Common.{append_assoc, arith, length-map, map-append, Ask, CallEnded, Event, Host, Reply, asks_in, Program}
+use Rattle.host_replay.proofs.Common.{SymbolCall, CRun, c_run, Answered, hosts_of, ask_of, event_in, events_in, replies_in, reply_in}
+use Rattle.host_replay.proofs.Common.{HostModule, Asked, AreReplays, replaying, Replays, IsAnsweredRun, asked_events, program_with}
+use Rattle.host_replay.proofs.Common.{run_with, Recorded, ReplayHost}
 use Rattle.w2c_base.specs.Run as run
 use Rattle.c_tree.specs.Tree as tree
 use Rattle.host_replay.proofs.Given.{hosts_same}

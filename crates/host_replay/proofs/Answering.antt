@@ -1,5 +1,6 @@
 -- Asks that hosts answer as their functions' types say.
-use Rattle.host_replay.proofs.Common.{◌≡◌, true, Some, None, Ask, CallEnded, Event, Gave, HostTrapped, Reply, equal_types, is_result, types_of, FuncType, Program, host_type}
+use Rattle.host_replay.proofs.Common.{◌≡◌, true, Some, None, Ask, CallEnded, Event, Gave, HostTrapped, Reply, equal_types, is_result}
+use Rattle.host_replay.proofs.Common.{types_of, FuncType, Program, host_type}
 use Rattle.std.specs.Prelude.{⊤}
 use Rattle.w2c_base.specs.Run.{Asked}
 

@@ -1,11 +1,18 @@
 -- A statement does the same whatever was told and whatever is replied, unless it asks a host.
-use Rattle.host_replay.proofs.Common.{◌≡◌, ℕ, ◌+◌, ◌/◌, ◌%◌, ◌^◌, min, Bool, true, false, ◌||◌, ◌⊎◌, List, [], ◌∷◌, length, drop, is_some, if◌then◌else◌, nat_lt, nat_le, ◌==◌, slice_get, slice_set, Some, None, Option, find, bytes_eq, refl, ap, ◌∙◌, subst, inl, inr, AllByRecursion, by_test, named, Ask, Trail, equal_type, equal_types, number_of, type_of, types_of, FuncType, ValType, Value, Definition, Program, array_named, definition_at, func_named, func_type, host_type, memory_in, table_in, var_in, with_objects, with_trail, with_var, CValue, Frame, FuncAddress, FuncPointer, Machine, Number, Pointer, Stuck, Trapped}
+use Rattle.host_replay.proofs.Common.{◌≡◌, ℕ, ◌+◌, ◌/◌, ◌%◌, ◌^◌, min, Bool, true, false, ◌||◌, ◌⊎◌, List, [], ◌∷◌, length, drop, is_some}
+use Rattle.host_replay.proofs.Common.{if◌then◌else◌, nat_lt, nat_le, ◌==◌, slice_get, slice_set, Some, None, Option, find, bytes_eq, refl}
+use Rattle.host_replay.proofs.Common.{ap, ◌∙◌, subst, inl, inr, AllByRecursion, by_test, named, Ask, Trail, equal_type, equal_types}
+use Rattle.host_replay.proofs.Common.{number_of, type_of, types_of, FuncType, ValType, Value, Definition, Program, array_named}
+use Rattle.host_replay.proofs.Common.{definition_at, func_named, func_type, host_type, memory_in, table_in, var_in, with_objects}
+use Rattle.host_replay.proofs.Common.{with_trail, with_var, CValue, Frame, FuncAddress, FuncPointer, Machine, Number, Pointer, Stuck}
+use Rattle.host_replay.proofs.Common.{Trapped}
 use Rattle.w2c_base.specs.declared.value.ValType.TheVariants as type
 use Rattle.w2c_base.specs.declared.value.Value.TheVariants.{I32, I64}
 use Rattle.w2c_base.specs.Trap.{code_of}
 use Rattle.c_tree.specs.Tree as tree
 use Rattle.c_tree.specs.Runtime.{same_func_type}
-use Rattle.c_meaning.specs.State.{Name, UnitFunc, HostFunc, ObjectAddress, Memory, Table, Objects, Running, Place, Stop, Undefined, Evaluated, Is, Bad, NoRule, then_evaluate, found, of_one_type}
+use Rattle.c_meaning.specs.State.{Name, UnitFunc, HostFunc, ObjectAddress, Memory, Table, Objects, Running, Place, Stop, Undefined}
+use Rattle.c_meaning.specs.State.{Evaluated, Is, Bad, NoRule, then_evaluate, found, of_one_type}
 use Rattle.c_meaning.specs.Operators.{operate}
 use Rattle.c_meaning.specs.Primitives as prim
 use Rattle.c_meaning.specs.Step as step
@@ -71,15 +78,13 @@ on_memory_free : (v : CValue) (m : Machine) (go : Trail → ObjectAddress → Me
     → ((a : ObjectAddress) (memory : Memory) → FreeEffect (λ t. go t a memory)) → FreeEffect (λ t. prim.on_memory v (with_trail m t) (go t))
 on_memory_free (Pointer None) m go h = undefined 4
 on_memory_free (Pointer (Some a)) m go h = there FreeEffect (memory_in m a) no_effect (h a)
-on_memory_free (Number v) m go h = no_effect
-on_memory_free (FuncPointer f) m go h = no_effect
+on_memory_free _ m go h = no_effect
 
 on_table_free : (v : CValue) (m : Machine) (go : Trail → ObjectAddress → Table → prim.Effect)
     → ((a : ObjectAddress) (table : Table) → FreeEffect (λ t. go t a table)) → FreeEffect (λ t. prim.on_table v (with_trail m t) (go t))
 on_table_free (Pointer None) m go h = undefined 4
 on_table_free (Pointer (Some a)) m go h = there FreeEffect (table_in m a) no_effect (h a)
-on_table_free (Number v) m go h = no_effect
-on_table_free (FuncPointer f) m go h = no_effect
+on_table_free _ m go h = no_effect
 
 trap_free : IsFree prim.trap
 trap_free (Number (I32 code) ∷ []) m =
@@ -177,23 +182,20 @@ found_free name (e ∷ bodies) all does found = by_test (bytes_eq e.0 name)
 
 evaluate_free : (p : Program) (m : Machine) (t : Trail) (r : Running) (e : tree.Expr)
     → step.evaluate p (with_trail m t) r e ≡ step.evaluate p m r e
-evaluate_free p m t r (tree.Name name) = refl
 evaluate_free p m t r (tree.At name index) =
     ap (λ x. then_evaluate x (λ i. then_evaluate (found (array_named p r.unit name)) (λ bytes. step.element bytes (number_of i))))
     (evaluate_free p m t r index)
-evaluate_free p m t r (tree.Number number) = refl
 evaluate_free p m t r (tree.To32 e) = ap (λ x. then_evaluate x (λ v. Is (I32 (number_of v % 2 ^ 32)))) (evaluate_free p m t r e)
 evaluate_free p m t r (tree.To64 e) = ap (λ x. then_evaluate x (λ v. Is (I64 (number_of v)))) (evaluate_free p m t r e)
-evaluate_free p m t r (tree.Star name) = refl
 evaluate_free p m t r (tree.Op op left right) =
     λ i. then_evaluate (evaluate_free p m t r left i) (λ x. then_evaluate (evaluate_free p m t r right i) (λ y. operate op x y))
+evaluate_free p m t r _ = refl
 
 arg_free : (p : Program) (m : Machine) (t : Trail) (r : Running) (a : tree.Arg)
     → step.evaluate_arg p (with_trail m t) r a ≡ step.evaluate_arg p m r a
 arg_free p m t r (tree.Value (tree.Name name)) = refl
 arg_free p m t r (tree.Value e) = ap (λ x. then_evaluate x (λ v. Is (Number v))) (evaluate_free p m t r e)
-arg_free p m t r (tree.Address name) = refl
-arg_free p m t r (tree.OfFunction name) = refl
+arg_free p m t r _ = refl
 
 args_free : (p : Program) (m : Machine) (t : Trail) (r : Running) (args : List tree.Arg)
     → step.evaluate_args p (with_trail m t) r args ≡ step.evaluate_args p m r args
@@ -221,8 +223,7 @@ goes m r below = (step.next m r below, λ t. refl)
 assign_depth_free : (m : Machine) (r : Running) (v : CValue) (below : List Frame) → Free (λ t. step.assign_depth (with_trail m t) r v below)
 assign_depth_free m r (Number (I32 n)) below = (step.assign_depth m r (Number (I32 n)) below, λ t. refl)
 assign_depth_free m r (Number (I64 n)) below = stops m Stuck
-assign_depth_free m r (Pointer to) below = stops m Stuck
-assign_depth_free m r (FuncPointer to) below = stops m Stuck
+assign_depth_free m r _ below = stops m Stuck
 
 put_in_free : (m : Machine) (held : Option CValue) (v : CValue) (does : Trail → step.Step) → Free does
     → Free (λ t. step.put_in (with_trail m t) held v (does t))

@@ -1,5 +1,8 @@
 -- Where each symbol belongs to one function, none comes twice.
-use Rattle.host_replay.proofs.Common.{◌≡◌, ℕ, zero, suc, Bool, true, false, not, ◌&&◌, ◌||◌, List, [], ◌∷◌, ◌++◌, map, slice_get, Some, option_map, bytes_eq, sym, refl, ap, ◌∙◌, slice_get-map, bytes_eq-Decides, Host, among-append, are_distinct, Name, is_among, symbol_at, symbol_of, AreDistinct, symbols_of}
+use Rattle.host_replay.proofs.Common.{◌≡◌, ℕ, zero, suc, Bool, true, false, not, ◌&&◌, ◌||◌, List, [], ◌∷◌, ◌++◌, map, slice_get, Some}
+use Rattle.host_replay.proofs.Common.{option_map, bytes_eq, sym, refl, ap, ◌∙◌, slice_get-map, bytes_eq-Decides, Host, among-append}
+use Rattle.host_replay.proofs.Common.{are_distinct, Name, is_among, symbol_at, symbol_of, AreDistinct, symbols_of, and_from, or_right}
+use Rattle.host_replay.proofs.Common.{right_holds, left_holds}
 
 -- a name that is among others has a place there
 place_of : (xs : List Name) (s : Name) → is_among s xs ≡ true → (k : ℕ) × (slice_get xs k ≡ Some s)
@@ -15,13 +18,10 @@ fresh : (b : Bool) → (b ≡ true → ⊥) → not b ≡ true
 fresh true denied = absurd (denied refl)
 fresh false denied = refl
 
-both : (a b : Bool) → a ≡ true → b ≡ true → (a && b) ≡ true
-both a b x y = λ i. x i && y i
-
 -- names of which each has one place
 one_placed : (xs : List Name) → ((f g : ℕ) (s : Name) → slice_get xs f ≡ Some s → slice_get xs g ≡ Some s → f ≡ g) → are_distinct xs ≡ true
 one_placed [] one = refl
-one_placed (x ∷ xs) one = both (not (is_among x xs)) (are_distinct xs)
+one_placed (x ∷ xs) one = and_from (not (is_among x xs)) (are_distinct xs)
     (fresh (is_among x xs) (λ there. let found = place_of xs x there in
     let same : zero ≡ suc found.0 = one zero (suc found.0) x refl found.1 in cc))
     (one_placed xs (λ f g s at at'. let same : suc f ≡ suc g = one (suc f) (suc g) s at at' in cc))
@@ -30,28 +30,16 @@ one_placed (x ∷ xs) one = both (not (is_among x xs)) (are_distinct xs)
 distinct_together : (xs ys : List Name) → are_distinct xs ≡ true → are_distinct ys ≡ true
     → ((s : Name) → is_among s xs ≡ true → is_among s ys ≡ true → ⊥) → are_distinct (xs ++ ys) ≡ true
 distinct_together [] ys first second none = second
-distinct_together (x ∷ xs) ys first second none = both (not (is_among x (xs ++ ys))) (are_distinct (xs ++ ys))
+distinct_together (x ∷ xs) ys first second none = and_from (not (is_among x (xs ++ ys))) (are_distinct (xs ++ ys))
     (fresh (is_among x (xs ++ ys)) (λ there. by (is_among x xs) refl (sym (among-append x xs ys) ∙ there)))
-    (distinct_together xs ys (right (not (is_among x xs)) (are_distinct xs) first) second
-    (λ s here there. none s (later (bytes_eq s x) (is_among s xs) here) there))
+    (distinct_together xs ys (right_holds (not (is_among x xs)) (are_distinct xs) first) second
+    (λ s here there. none s (or_right (bytes_eq s x) (is_among s xs) here) there))
   where
-    right : (a b : Bool) → (a && b) ≡ true → b ≡ true
-    right true b e = e
-    right false b e = cc
-
-    left : (a b : Bool) → (a && b) ≡ true → a ≡ true
-    left true b e = refl
-    left false b e = cc
-
-    later : (a b : Bool) → b ≡ true → (a || b) ≡ true
-    later true b e = refl
-    later false b e = e
-
     here_ : is_among x (x ∷ xs) ≡ true
     here_ = ap (λ b. b || is_among x xs) ((bytes_eq-Decides x x).1 refl)
 
     by : (b : Bool) → is_among x xs ≡ b → (b || is_among x ys) ≡ true → ⊥
-    by true is e = (let no : not true ≡ true = ap not (sym is) ∙ left (not (is_among x xs)) (are_distinct xs) first in cc)
+    by true is e = (let no : not true ≡ true = ap not (sym is) ∙ left_holds (not (is_among x xs)) (are_distinct xs) first in cc)
     by false is e = none x here_ e
 
 -- ---- functions of hosts

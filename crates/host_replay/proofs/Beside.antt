@@ -1,5 +1,11 @@
 -- Two runs of one program whose hosts reply the same so many times.
-use Rattle.host_replay.proofs.Common.{◌≡◌, ℕ, zero, suc, ◌+◌, Bool, true, false, ◌⊎◌, List, [], ◌∷◌, ◌++◌, map, length, if◌then◌else◌, Some, None, Option, option_map, sym, refl, ap, ◌∙◌, subst, inl, inr, append_assoc, arith, Ask, Call, CallEnded, Event, Gave, HostTrapped, Init, Phase, Reply, Trail, asked, asks_in, equal_types, is_result, types_of, FuncType, Value, machine_of, Program, SymbolCall, host_type, fresh, with_trail, CRun, Entry, Going, Over, Pending, Progress, Stopped, after, begin_entry, begun, c_run, c_start, came_back, entries_of, go_on, over, run_of, Asks, CValue, Frame, FuncAddress, FuncPointer, Machine, Number, Pointer, State, Stuck, Trapped, events_of}
+use Rattle.host_replay.proofs.Common.{◌≡◌, ℕ, zero, suc, ◌+◌, Bool, true, false, ◌⊎◌, List, [], ◌∷◌, ◌++◌, map, length, if◌then◌else◌, Some}
+use Rattle.host_replay.proofs.Common.{None, Option, option_map, sym, refl, ap, ◌∙◌, subst, inl, inr, append_assoc, arith, Ask, Call}
+use Rattle.host_replay.proofs.Common.{CallEnded, Event, Gave, HostTrapped, Init, Phase, Reply, Trail, asked, asks_in, equal_types}
+use Rattle.host_replay.proofs.Common.{is_result, types_of, FuncType, Value, machine_of, Program, SymbolCall, host_type, fresh, with_trail}
+use Rattle.host_replay.proofs.Common.{CRun, Entry, Going, Over, Pending, Progress, Stopped, after, begin_entry, begun, c_run, c_start}
+use Rattle.host_replay.proofs.Common.{came_back, entries_of, go_on, over, run_of, Asks, CValue, Frame, FuncAddress, FuncPointer, Machine}
+use Rattle.host_replay.proofs.Common.{Number, Pointer, State, Stuck, Trapped, events_of}
 use Rattle.w2c_base.specs.Run.{Asked}
 use Rattle.w2c_base.specs.declared.trap.TrapKind.TheVariants.{HostTrap}
 use Rattle.c_meaning.specs.Step as step
@@ -140,8 +146,7 @@ module _ (p : Program) (rest others : List Reply) (n : ℕ) where
   begun_in_both : (pending : Pending) (o : step.Step) (told : List Event) (front : List Reply) → SoMany told front
       → Beside (begun pending (in_trail (Left told front) o)) (begun pending (in_trail (Right told front) o))
   begun_in_both pending (step.Next s) told front so = both_go pending s told front so
-  begun_in_both pending (step.Back m value) told front so = both_over _
-  begun_in_both pending (step.Stops m why) told front so = both_over _
+  begun_in_both pending _ told front so = both_over _
 
   entry_beside : (m : Machine) (last : Phase) (entries : List Entry) (told : List Event) (front : List Reply) → SoMany told front
       → Beside (begin_entry p (with_trail m (Left told front)) last entries) (begin_entry p (with_trail m (Right told front)) last entries)
@@ -186,10 +191,6 @@ module _ (p : Program) (rest others : List Reply) (n : ℕ) where
   -- what the runs are in the end
   abbrev EndBeside : ℕ → Progress → Progress → Type 0
   EndBeside k x y = (run_of (after p k x) ≡ run_of (after p k y)) ⊎ PartAt n (run_of (after p k x)).events (run_of (after p k y)).events
-
-  over_stays : (k : ℕ) (run : CRun) → after p k (Over run) ≡ Over run
-  over_stays zero run = refl
-  over_stays (suc k) run = refl
 
   still_parted : (k : ℕ) (x y : Progress) → PartAt n (events_of x) (events_of y) → EndBeside k x y
   still_parted k x y h =

@@ -1,5 +1,8 @@
 -- The lines of a journal that can be written add up to it.
-use Rattle.host_replay.proofs.Common.{◌≡◌, ℕ, zero, suc, true, false, ◌&&◌, List, [], ◌∷◌, ◌++◌, map, length, slice_get, Some, None, Option, option_map, flat_map, sym, refl, ap, ◌∙◌, subst, append_assoc, append-nil, list_all, both_hold, if_found, Host, HostFunction, function_name, host_name, JournalLine, Asked, fits, fits_function, Adds, symbol_at, symbol_of, Recorded, AreDistinct}
+use Rattle.host_replay.proofs.Common.{◌≡◌, ℕ, zero, suc, true, false, ◌&&◌, List, [], ◌∷◌, ◌++◌, map, length, slice_get, Some, None, Option}
+use Rattle.host_replay.proofs.Common.{option_map, flat_map, sym, refl, ap, ◌∙◌, subst, append_assoc, append-nil, list_all, both_hold}
+use Rattle.host_replay.proofs.Common.{if_found, Host, HostFunction, function_name, host_name, JournalLine, Asked, fits, fits_function, Adds}
+use Rattle.host_replay.proofs.Common.{symbol_at, symbol_of, Recorded, AreDistinct}
 use Rattle.w2c_mangle.specs.declared.symbol.SymbolKind.TheVariants as symbol
 use Rattle.w2c_mangle.specs.Symbols.{export_symbol_of}
 use Rattle.journal_lines.specs.declared.line.JournalLine.TheVariants as line

@@ -1,24 +1,16 @@
 -- Symbols of which none comes twice belong to one function each.
-use Rattle.host_replay.proofs.Common.{◌≡◌, ℕ, zero, suc, Bool, true, false, not, ◌&&◌, ◌||◌, List, [], ◌∷◌, ◌++◌, map, slice_get, Some, option_map, bytes_eq, sym, refl, ap, ◌∙◌, slice_get-map, bytes_eq-Decides, left_holds, right_holds, Host, among-append, are_distinct, Name, is_among, symbol_at, symbol_of, AreDistinct, symbols_of}
-
-or_right : (a b : Bool) → b ≡ true → (a || b) ≡ true
-or_right true b e = refl
-or_right false b e = e
-
-or_left : (a b : Bool) → a ≡ true → (a || b) ≡ true
-or_left true b e = refl
-or_left false b e = absurd cc
+use Rattle.host_replay.proofs.Common.{◌≡◌, ℕ, zero, suc, Bool, true, false, not, ◌&&◌, ◌||◌, List, [], ◌∷◌, ◌++◌, map, slice_get, Some}
+use Rattle.host_replay.proofs.Common.{option_map, bytes_eq, sym, refl, ap, ◌∙◌, slice_get-map, bytes_eq-Decides, left_holds, right_holds}
+use Rattle.host_replay.proofs.Common.{Host, among-append, are_distinct, Name, is_among, symbol_at, symbol_of, AreDistinct, symbols_of}
+use Rattle.host_replay.proofs.Common.{or_right, or_left}
 
 among_here : (s x : Name) (xs : List Name) → x ≡ s → is_among s (x ∷ xs) ≡ true
 among_here s x xs is = or_left (bytes_eq s x) (is_among s xs) ((bytes_eq-Decides s x).1 (sym is))
 
-among_later : (s x : Name) (xs : List Name) → is_among s xs ≡ true → is_among s (x ∷ xs) ≡ true
-among_later s x xs h = or_right (bytes_eq s x) (is_among s xs) h
-
 is_there : (xs : List Name) (f : ℕ) (s : Name) → slice_get xs f ≡ Some s → is_among s xs ≡ true
 is_there [] f s at = absurd cc
 is_there (x ∷ xs) zero s at = (let same : x ≡ s = cc in among_here s x xs same)
-is_there (x ∷ xs) (suc f) s at = among_later s x xs (is_there xs f s at)
+is_there (x ∷ xs) (suc f) s at = or_right (bytes_eq s x) (is_among s xs) (is_there xs f s at)
 
 -- the first is not among the others
 first_apart : (s x : Name) (xs : List Name) → are_distinct (x ∷ xs) ≡ true → x ≡ s → is_among s xs ≡ true → ⊥

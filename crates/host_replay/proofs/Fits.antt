@@ -1,5 +1,9 @@
 -- What hosts have answered fits their functions, where a run has told it.
-use Rattle.host_replay.proofs.Common.{◌≡◌, ℕ, true, ◌&&◌, List, [], ◌∷◌, slice_get, Some, None, Option, option_map, sym, refl, ◌∙◌, subst, AllByRecursion, list_all, if_found, CallEnded, Event, Host, HostFunction, equal_types, types_of, FuncType, Program, SymbolCall, host_type, HostReply, hosts_of, event_in, events_in, replies_in, reply_in, reply_of, HostModule, Asked, fits, fits_function, function_at, is_reply, IsAnsweredRun, asked_events, program_with, run_with}
+use Rattle.host_replay.proofs.Common.{◌≡◌, ℕ, true, ◌&&◌, List, [], ◌∷◌, slice_get, Some, None, Option, option_map, sym, refl, ◌∙◌, subst}
+use Rattle.host_replay.proofs.Common.{AllByRecursion, list_all, if_found, CallEnded, Event, Host, HostFunction, equal_types, types_of}
+use Rattle.host_replay.proofs.Common.{FuncType, Program, SymbolCall, host_type, HostReply, hosts_of, event_in, events_in, replies_in}
+use Rattle.host_replay.proofs.Common.{reply_in, reply_of, HostModule, Asked, fits, fits_function, function_at, is_reply, IsAnsweredRun}
+use Rattle.host_replay.proofs.Common.{asked_events, program_with, run_with}
 use Rattle.w2c_base.specs.Run as run
 use Rattle.c_tree.specs.Tree as tree
 use Rattle.c_meaning.specs.declared.reply.HostReply.TheVariants as reply

@@ -1,8 +1,13 @@
 -- Hosts that reply again: what they offer, and that they stay such where one has a call more.
-use Rattle.host_replay.proofs.Common.{◌≡◌, ℕ, zero, suc, ◌+◌, ◌<◌, ◌≤◌, Bool, true, false, ◌⊎◌, List, [], ◌∷◌, ◌++◌, map, length, get_or, take, IfSome, ◌==◌, slice_get, slice_set, Some, None, Option, option_map, sym, refl, ap, ◌∙◌, subst, inl, inr, append-nil, arith, length-append, length-set, eq-eqb, eqb-true, eqb-false, length-map, take_more, filter-append, slice_get-map, slice_get_within, list_all, get_front, by_test, Host, function_of, host_of, hosts_of, Asked, fits, HasMore, IsGiven, AreReplays, IsReplayOf, replaying, calls_of, fits_own, Recorded, ReplayHost}
+use Rattle.host_replay.proofs.Common.{◌≡◌, ℕ, zero, suc, ◌+◌, ◌<◌, ◌≤◌, Bool, true, false, ◌⊎◌, List, [], ◌∷◌, ◌++◌, map, length, get_or}
+use Rattle.host_replay.proofs.Common.{take, IfSome, ◌==◌, slice_get, slice_set, Some, None, Option, option_map, sym, refl, ap, ◌∙◌, subst}
+use Rattle.host_replay.proofs.Common.{inl, inr, append-nil, arith, length-append, length-set, eq-eqb, eqb-true, eqb-false, length-map}
+use Rattle.host_replay.proofs.Common.{take_more, filter-append, slice_get-map, slice_get_within, list_all, get_front, by_test, Host}
+use Rattle.host_replay.proofs.Common.{function_of, host_of, hosts_of, Asked, fits, HasMore, IsGiven, AreReplays, IsReplayOf, replaying}
+use Rattle.host_replay.proofs.Common.{calls_of, fits_own, Recorded, ReplayHost, right_behind, beside}
 use Rattle.std.proofs.lemmas.List.Folds.{list_all_at}
 use Rattle.host_replay.proofs.Replays.{own}
-use Rattle.host_replay.proofs.Used.{get-behind, other_call, own_call, set_other, set_same}
+use Rattle.host_replay.proofs.Used.{other_call, own_call, set_other, set_same}
 
 -- ---- lists
 
@@ -64,7 +69,7 @@ module_more hosts replays h r are is none unused = record {
       unused = old.unused;
     })
     | inr last ↦ subst (IsReplayOf (without_calls (hosts ++ h ∷ [])) k) last.1 (record {
-      module_is = ap (slice_get (hosts ++ h ∷ [])) (last.0 ∙ are.so_many) ∙ get-behind hosts h [] ∙ ap Some is;
+      module_is = ap (slice_get (hosts ++ h ∷ [])) (last.0 ∙ are.so_many) ∙ right_behind hosts h [] ∙ ap Some is;
       calls_are = none;
       unused = unused;
     })
@@ -73,19 +78,12 @@ module_more hosts replays h r are is none unused = record {
 
 -- ---- a call more
 
-get_there : {A B : Type 0} (xs : List A) (ys : List B) (k : ℕ) (x : A) → length xs ≡ length ys → slice_get xs k ≡ Some x
-    → (y : B) × (slice_get ys k ≡ Some y)
-get_there [] ys k x n at = absurd cc
-get_there (z ∷ xs) [] k x n at = absurd (omega (arith, n))
-get_there (z ∷ xs) (y ∷ ys) zero x n at = (y, refl)
-get_there (z ∷ xs) (y ∷ ys) (suc k) x n at = get_there xs ys k x (omega (arith, n)) at
-
 pub call_more : (j : Recorded) (a : Asked) (before after : List ReplayHost) → AreReplays j before → IsGiven before a after
     → AreReplays (record { hosts = j.hosts; entries = j.entries ++ a ∷ [] }) after
 call_more j a before after are given = record {
   so_many = given.so_many ∙ are.so_many;
   each = λ k new at.
-      let found = get_there after before k new given.so_many at in
+      let found = beside after before k new given.so_many at in
       let old = are.each k found.0 found.1 in
       let more = given.each k found.0 new found.1 at in
       record {

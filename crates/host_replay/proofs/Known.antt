@@ -1,16 +1,13 @@
 -- What a table of symbols finds, where there is a module or a function more.
-use Rattle.host_replay.proofs.Common.{◌≡◌, ℕ, Bool, true, false, List, [], ◌∷◌, ◌++◌, length, is_some, IfSome, if◌then◌else◌, Some, None, Option, bytes_eq, sym, refl, ap, ◌∙◌, subst, inl, inr, arith, same_from_push, bytes_eq-Decides, named, Host, HostFunction, FunctionLine, Knows, IsNewIn, AddsFunction, IsOffered, named_function, symbol_at, symbol_of, with_function, Recorded}
+use Rattle.host_replay.proofs.Common.{◌≡◌, ℕ, Bool, true, false, List, [], ◌∷◌, ◌++◌, length, is_some, IfSome, if◌then◌else◌, Some, None}
+use Rattle.host_replay.proofs.Common.{Option, bytes_eq, sym, refl, ap, ◌∙◌, subst, inl, inr, same_from_push, bytes_eq-Decides, named, Host}
+use Rattle.host_replay.proofs.Common.{HostFunction, FunctionLine, Knows, IsNewIn, AddsFunction, IsOffered, named_function, symbol_at}
+use Rattle.host_replay.proofs.Common.{symbol_of, with_function, Recorded}
 use Rattle.std.specs.Option.{option_or}
+use Rattle.w2c_base.proofs.Options.{none_is}
 use Rattle.host_replay.specs.declared.place.Place.{Place}
 use Rattle.host_replay.specs.declared.place.NewFunction.{NewFunction}
 use Rattle.host_replay.proofs.Symbols.{function_kept, function_more, function_there, module_more}
-
-pub nothing_known : (table : List (List ℕ × Place)) (hosts : List Host) → table ≡ [] → hosts ≡ [] → Knows table hosts
-nothing_known table hosts no_names no_hosts = record {
-  found = λ q p e. (let none : named {A = Place} q []
-      ≡ Some p = subst (λ (t : List (List ℕ × Place)). named q t ≡ Some p) no_names e in cc);
-  every = λ q h f e. (let none : symbol_at [] h f ≡ Some q = subst (λ (l : List Host). symbol_at l h f ≡ Some q) no_hosts e in cc);
-}
 
 pub module_known : (table : List (List ℕ × Place)) (hosts new : List Host) (name : List ℕ) → Knows table hosts
     → new ≡ hosts ++ record { name = name; functions = [] } ∷ [] → Knows table new
@@ -67,14 +64,6 @@ pub at_some : {A : Type 0} (P : A → Type 0) (o : Option A) (x : A) → o ≡ S
 at_some P (Some y) x is h = let same : y ≡ x = cc in subst P same h
 at_some P None x is h = absurd cc
 
-pub no_items : {A : Type 0} (xs : List A) → length xs ≡ 0 → xs ≡ []
-no_items [] e = refl
-no_items (x ∷ xs) e = absurd (omega (arith, e))
-
-is_none : {A : Type 0} (o : Option A) → is_some o ≡ false → o ≡ None
-is_none None e = refl
-is_none (Some x) e = absurd cc
-
 module _ (before : Recorded) (f : FunctionLine) (new : NewFunction) (is : IsNewIn before.hosts f new) (table : List (List ℕ × Place))
     (knows : Knows table before.hosts) where
   symbol_there : (o : Option Place) → named new.symbol table ≡ o → is_some o ≡ true → IsOffered before.hosts new.symbol
@@ -89,7 +78,7 @@ module _ (before : Recorded) (f : FunctionLine) (new : NewFunction) (is : IsNewI
       adds.is_new (subst (IsOffered before.hosts) symbols (symbol_there (named new.symbol table) refl e))
 
   is_unknown : is_some (named new.symbol table) ≡ false → named (symbol_of is.last (named_function f)) table ≡ None
-  is_unknown e = ap (λ (q : List ℕ). named q table) (sym is.symbol_is) ∙ is_none (named new.symbol table) e
+  is_unknown e = ap (λ (q : List ℕ). named q table) (sym is.symbol_is) ∙ none_is (named new.symbol table) e
 
   pub added : is_some (named new.symbol table) ≡ false → before.entries ≡ [] → (after : Recorded)
       → ((front : List Host) (last : Host) → before.hosts ≡ front ++ last ∷ []

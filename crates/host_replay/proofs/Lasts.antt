@@ -1,5 +1,6 @@
 -- The last of some modules, with a function more.
-use Rattle.host_replay.proofs.Common.{◌≡◌, ℕ, zero, suc, ◌-◌, List, [], ◌∷◌, ◌++◌, length, slice_index_or, slice_set, ap, arith, Host, module_of, modules_of, JournalModule}
+use Rattle.host_replay.proofs.Common.{◌≡◌, ℕ, zero, suc, ◌-◌, List, [], ◌∷◌, ◌++◌, length, slice_index_or, slice_set, ap, arith, Host}
+use Rattle.host_replay.proofs.Common.{module_of, modules_of, JournalModule}
 
 last_in : (items : List JournalModule) (front : List Host) (last : Host) (k : ℕ) (d : JournalModule) → modules_of items ≡ front ++ last ∷ []
     → length items ≡ suc k → module_of (slice_index_or items k d) ≡ last

@@ -1,7 +1,6 @@
 -- What the proofs of this crate cite from elsewhere
 mod Common
 -- Journals: their texts, and what lines say
-mod Arguments
 mod Chains
 pub mod Distinct
 pub mod Apart

@@ -1,6 +1,11 @@
 -- Lines that are read, one more; and the first that is refused.
-use Rattle.host_replay.proofs.Common.{◌≡◌, ℕ, zero, suc, ◌+◌, ◌≤◌, Bool, true, false, cond, not, ◌&&◌, List, [], ◌∷◌, ◌++◌, map, length, take, drop, ◌==◌, slice_get, Some, codes, sym, refl, ap, ◌∙◌, subst, append_assoc, append-nil, arith, map_push, length-slice_split, AllByRecursion, join_with_byte, onto_first, take_next, AllLack, cut, lacks, joined, IsLine, line_text, line_words, JournalLine, Adds, IsRefused, Read, Says, empty, ended, Recorded}
+use Rattle.host_replay.proofs.Common.{◌≡◌, ℕ, zero, suc, ◌+◌, ◌≤◌, Bool, true, false, cond, not, ◌&&◌, List, [], ◌∷◌, ◌++◌, map, length}
+use Rattle.host_replay.proofs.Common.{take, drop, ◌==◌, slice_get, Some, codes, sym, refl, ap, ◌∙◌, subst, append_assoc, append-nil, arith}
+use Rattle.host_replay.proofs.Common.{map_push, length-slice_split, AllByRecursion, join_with_byte, onto_first, take_next, AllLack, cut}
+use Rattle.host_replay.proofs.Common.{lacks, joined, IsLine, line_text, line_words, JournalLine, Adds, IsRefused, Read, Says, empty, ended}
+use Rattle.host_replay.proofs.Common.{Recorded}
 use Rattle.std.proofs.lemmas.List.Sums.{count_by-le-length}
+use Rattle.std.proofs.Math.Bool.{and-false}
 
 abbrev pub with_newline : List ℕ → List ℕ
 with_newline text = text ++ codes "\n"
@@ -76,14 +81,10 @@ length_kept : (parts : List (List ℕ)) → length (with_newlines parts) ≡ len
 length_kept [] = refl
 length_kept (p ∷ parts) = ap suc (length_kept parts)
 
-none_left : (b : Bool) → (b && false) ≡ false
-none_left true = refl
-none_left false = refl
-
 -- a line has a newline at its end
 ends : (text : List ℕ) → lacks 10 (text ++ codes "\n") ≡ false
 ends [] = refl
-ends (b ∷ text) = ap (λ (v : Bool). not (b == 10) && v) (ends text) ∙ none_left (not (b == 10))
+ends (b ∷ text) = ap (λ (v : Bool). not (b == 10) && v) (ends text) ∙ and-false (not (b == 10))
 
 no_line : (text : List ℕ) (l : JournalLine) → lacks 10 text ≡ true → line_text l ≡ text → ⊥
 no_line text l h is =

@@ -1,5 +1,9 @@
 -- The calls of a module fit its functions.
-use Rattle.host_replay.proofs.Common.{◌≡◌, ℕ, zero, suc, ◌+◌, ◌<◌, Bool, true, false, cond, ◌&&◌, List, [], ◌∷◌, map, length, IfSome, ◌==◌, slice_get, slice_index_or, Some, None, Option, option_map, sym, refl, ap, ◌∙◌, subst, inl, arith, eqb-true, slice_get-map, list_all, both_hold, if_found, Host, equal_types, types_of, Value, HostReply, function_of, Asked, fits, fits_function, is_reply, module_of, modules_of, Replays, calls_of, fits_own, JournalModule}
+use Rattle.host_replay.proofs.Common.{◌≡◌, ℕ, zero, suc, ◌+◌, ◌<◌, Bool, true, false, cond, ◌&&◌, List, [], ◌∷◌, map, length, IfSome, ◌==◌}
+use Rattle.host_replay.proofs.Common.{slice_get, slice_index_or, Some, None, Option, option_map, sym, refl, ap, ◌∙◌, subst, inl, arith}
+use Rattle.host_replay.proofs.Common.{eqb-true, slice_get-map, list_all, both_hold, if_found, Host, equal_types, types_of, Value, HostReply}
+use Rattle.host_replay.proofs.Common.{function_of, Asked, fits, fits_function, is_reply, module_of, modules_of, Replays, calls_of, fits_own}
+use Rattle.host_replay.proofs.Common.{JournalModule}
 use Rattle.c_hosts.specs.declared.host.HostFunction.{HostFunction}
 use Rattle.c_meaning.specs.declared.reply.HostReply.TheVariants as reply
 use Rattle.c_hosts.specs.Hosts.{IsReply}

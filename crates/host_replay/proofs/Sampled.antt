@@ -1,5 +1,7 @@
 -- The sample can be written; a module behind its calls is refused.
-use Rattle.host_replay.proofs.Common.{◌≡◌, ℕ, zero, suc, ◌+◌, ◌<◌, List, [], ◌∷◌, ◌++◌, length, get_or, Some, None, codes, Option, sym, refl, ap, ◌∙◌, subst, arith, lit<, All-from_recursion, AllByRecursion, IsBytes, JournalLine, Adds, AddsModule, IsRefusedAt, Says, lines_of, env, ticks, Recorded, journal_text, AreDistinct, IsWritable}
+use Rattle.host_replay.proofs.Common.{◌≡◌, ℕ, zero, suc, ◌+◌, ◌<◌, List, [], ◌∷◌, ◌++◌, length, get_or, Some, None, codes, Option, sym}
+use Rattle.host_replay.proofs.Common.{refl, ap, ◌∙◌, subst, arith, lit<, All-from_recursion, AllByRecursion, IsBytes, JournalLine, Adds}
+use Rattle.host_replay.proofs.Common.{AddsModule, IsRefusedAt, Says, lines_of, env, ticks, Recorded, journal_text, AreDistinct, IsWritable}
 use Rattle.journal_lines.specs.declared.line.JournalLine.TheVariants as line
 use Rattle.host_replay.proofs.Spelled.{spelled}
 use Rattle.host_replay.proofs.Verdicts.{one_said}
@@ -19,14 +21,7 @@ distinct zero (suc zero) zero zero s a b = (let e : 54 ≡ 51 = ap (letter 18) (
 distinct zero (suc zero) zero (suc (suc zero)) s a b = (let e : 112 ≡ 116 = ap (letter 13) (a ∙ sym b) in absurd (grind (arith, e)))
 distinct zero (suc (suc zero)) zero zero s a b = (let e : 116 ≡ 112 = ap (letter 13) (a ∙ sym b) in absurd (grind (arith, e)))
 distinct zero (suc (suc zero)) zero (suc zero) s a b = (let e : 116 ≡ 112 = ap (letter 13) (a ∙ sym b) in absurd (grind (arith, e)))
-distinct zero (suc (suc (suc f))) k g s a b = absurd cc
-distinct (suc h) f k g s a b = absurd cc
-distinct zero zero zero (suc (suc (suc g))) s a b = absurd cc
-distinct zero (suc zero) zero (suc (suc (suc g))) s a b = absurd cc
-distinct zero (suc (suc zero)) zero (suc (suc (suc g))) s a b = absurd cc
-distinct zero zero (suc k) g s a b = absurd cc
-distinct zero (suc zero) (suc k) g s a b = absurd cc
-distinct zero (suc (suc zero)) (suc k) g s a b = absurd cc
+distinct _ _ _ _ s a b = absurd cc
 
 bytes : (name : List ℕ) → AllByRecursion (λ b. b < 256) name → IsBytes name
 bytes name each = All-from_recursion (λ b. b < 256) name each

@@ -1,6 +1,14 @@
 -- The text of a journal that can be written is that journal.
-use Rattle.host_replay.proofs.Common.{◌≡◌, ℕ, zero, suc, ◌^◌, ◌<◌, true, ◌&&◌, List, [], ◌∷◌, ◌++◌, map, length, ◌==◌, slice_get, Some, None, codes, Option, flat_map, sym, refl, ap, ◌∙◌, subst, append_assoc, arith, lit<, ltb-true, All-from_recursion, length-slice_split, AllByRecursion, join_with_byte, list_all, both_hold, all_append, Host, HostFunction, IsNumber, bits, equal_type, is_number, number_of, type_of, ValType, Value, HostReply, function_name, host_name, AllLack, cut, cut-first, lacks, lacks-append, joined, words_are_high, IsBytes, line_text, function_words, host_words, line_words, JournalLine, Asked, fits, fits_function, function_at, is_reply, IsJournal, Read, empty, ended, lines_of, Recorded, entry_text, function_texts, journal_text, module_text, HasName, HasNames, HasNumbers, IsWritable}
+use Rattle.host_replay.proofs.Common.{◌≡◌, ℕ, zero, suc, ◌^◌, ◌<◌, true, ◌&&◌, List, [], ◌∷◌, ◌++◌, map, length, ◌==◌, slice_get, Some}
+use Rattle.host_replay.proofs.Common.{None, codes, Option, flat_map, sym, refl, ap, ◌∙◌, subst, append_assoc, arith, lit<}
+use Rattle.host_replay.proofs.Common.{All-from_recursion, length-slice_split, AllByRecursion, join_with_byte, list_all, both_hold}
+use Rattle.host_replay.proofs.Common.{all_append, Host, HostFunction, equal_type, is_number, type_of, ValType, Value, HostReply}
+use Rattle.host_replay.proofs.Common.{function_name, host_name, AllLack, cut, cut-first, lacks, lacks-append, joined, words_are_high}
+use Rattle.host_replay.proofs.Common.{IsBytes, line_text, function_words, host_words, line_words, JournalLine, Asked, fits, fits_function}
+use Rattle.host_replay.proofs.Common.{function_at, is_reply, IsJournal, Read, empty, ended, lines_of, Recorded, entry_text, function_texts}
+use Rattle.host_replay.proofs.Common.{journal_text, module_text, HasName, HasNames, HasNumbers, IsWritable}
 use Rattle.std.proofs.lemmas.Grind.{flat_map-append}
+use Rattle.w2c_base.proofs.Numbers.{found_is_number}
 use Rattle.crun_lines.specs.Words.{name_text}
 use Rattle.journal_lines.specs.declared.line.JournalLine.TheVariants as line
 use Rattle.journal_lines.specs.Lines.{module_line, IsGiven, IsProper}
@@ -22,9 +30,6 @@ lacks_words (line.Module name) h = lacks_join (codes "module") (name_text name �
 lacks_words (line.Function f) h = lacks_join (codes "function") (function_words f) h
 lacks_words (line.Host call) h = lacks_join (codes "host") (host_words call) h
 
-lacks_body : (l : JournalLine) → IsProper l → lacks 10 (body l) ≡ true
-lacks_body l is = lacks_words l (all_lack 10 (line_words l) (lit< tt) (words_are_high l is))
-
 ended_first : (part : List ℕ) (parts : List (List ℕ)) → 0 < length parts → ended (part ∷ parts) ≡ (part ++ codes "\n") ∷ ended parts
 ended_first part [] some = absurd (omega (arith, some))
 ended_first part (next ∷ parts) some = refl
@@ -35,7 +40,7 @@ lines_of_texts (l ∷ ls) are =
     let behind : List ℕ = flat_map line_text ls in
     let parts : cut 10 (line_text l ++ behind) ≡ body l ∷ cut 10 behind =
     ap (λ (t : List ℕ). cut 10 (t ++ behind)) (joined l) ∙ ap (cut 10) (append_assoc (body l) (codes "\n") behind)
-    ∙ cut-first 10 (body l) behind (lacks_body l are.0) in
+    ∙ cut-first 10 (body l) behind (lacks_words l (all_lack 10 (line_words l) (lit< tt) (words_are_high l are.0))) in
     ap ended parts
     ∙ ended_first (body l) (cut 10 behind) (omega (arith, length-slice_split (λ b. b == 10) behind))
     ∙ (λ i. sym (joined l) i ∷ lines_of_texts ls are.1 i)
@@ -93,14 +98,11 @@ function_bytes [] h f are = no_bytes
 function_bytes (m ∷ hosts) zero f are = module_bytes m.functions f are.0.1
 function_bytes (m ∷ hosts) (suc h) f are = function_bytes hosts h f are.1
 
-number : (v : Value) → is_number v ≡ true → IsNumber v
-number v e = ltb-true (number_of v) (2 ^ bits (type_of v)) e
-
 given : (t : Option ValType) (r : HostReply) → is_reply t r ≡ true → IsGiven r
 given t reply.Trap e = tt
 given t (reply.Value None) e = tt
 given None (reply.Value (Some v)) e = absurd cc
-given (Some t) (reply.Value (Some v)) e = number v (both_hold (equal_type t (type_of v)) (is_number v) e).1
+given (Some t) (reply.Value (Some v)) e = found_is_number v (both_hold (equal_type t (type_of v)) (is_number v) e).1
 
 given_by : (o : Option HostFunction) (a : Asked) → fits_function o a ≡ true → IsGiven a.reply
 given_by None a e = absurd cc

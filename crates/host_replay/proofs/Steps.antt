@@ -1,5 +1,6 @@
 -- What is refused of the line that a text says is refused of the text, which says no other.
-use Rattle.host_replay.proofs.Common.{◌≡◌, ℕ, Bool, false, List, IfOk, Ok, Err, Result, subst, one_line, IsLine, JournalLine, Adds, Recorded}
+use Rattle.host_replay.proofs.Common.{◌≡◌, ℕ, Bool, false, List, IfOk, Ok, Err, Result, subst, one_line, IsLine, JournalLine, Adds}
+use Rattle.host_replay.proofs.Common.{Recorded}
 
 pub refused_text : {E : Type 0} (text : List ℕ) (said : JournalLine) (before : Recorded) (r : Result Bool E) → IsLine text said
     → IfOk r (λ b. b ≡ false → (after : Recorded) → Adds before said after → ⊥)

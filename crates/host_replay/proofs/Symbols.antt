@@ -1,5 +1,6 @@
 -- The symbols of functions by their numbers, where there is a module or a function more.
-use Rattle.host_replay.proofs.Common.{◌≡◌, ℕ, zero, suc, ◌⊎◌, List, [], ◌∷◌, ◌++◌, length, slice_get, Some, option_map, refl, ap, inl, inr, Host, HostFunction, symbol_at, symbol_of, with_function}
+use Rattle.host_replay.proofs.Common.{◌≡◌, ℕ, zero, suc, ◌⊎◌, List, [], ◌∷◌, ◌++◌, length, slice_get, Some, option_map, refl, ap, inl, inr}
+use Rattle.host_replay.proofs.Common.{Host, HostFunction, symbol_at, symbol_of, with_function}
 
 pub module_more : (hosts : List Host) (name : List ℕ) (h f : ℕ)
     → symbol_at (hosts ++ record { name = name; functions = [] } ∷ []) h f ≡ symbol_at hosts h f

@@ -1,5 +1,10 @@
 -- What a run tells more: asks that hosts answer as their functions' types say, asks without a reply, and ends of calls.
-use Rattle.host_replay.proofs.Common.{◌≡◌, ℕ, zero, suc, Bool, true, false, List, [], ◌∷◌, ◌++◌, map, if◌then◌else◌, Some, None, Option, option_map, sym, refl, ap, ◌∙◌, subst, inl, inr, append_assoc, append-nil, AllByRecursion, all_append, Ask, Call, CallEnded, Event, Gave, HostTrapped, Init, Phase, Reply, Trail, asked, equal_types, is_result, types_of, FuncType, Value, machine_of, Program, SymbolCall, host_type, fresh, with_trail, Entry, Going, Over, Pending, Progress, after, begin_entry, begun, c_run, c_start, came_back, entries_of, go_on, run_of, told_end, Asks, CValue, Frame, Machine, Number, events_of}
+use Rattle.host_replay.proofs.Common.{◌≡◌, ℕ, zero, suc, Bool, true, false, List, [], ◌∷◌, ◌++◌, map, if◌then◌else◌, Some, None, Option}
+use Rattle.host_replay.proofs.Common.{option_map, sym, refl, ap, ◌∙◌, subst, inl, inr, append_assoc, append-nil, AllByRecursion, all_append}
+use Rattle.host_replay.proofs.Common.{Ask, Call, CallEnded, Event, Gave, HostTrapped, Init, Phase, Reply, Trail, asked, equal_types}
+use Rattle.host_replay.proofs.Common.{is_result, types_of, FuncType, Value, machine_of, Program, SymbolCall, host_type, fresh, with_trail}
+use Rattle.host_replay.proofs.Common.{Entry, Going, Over, Pending, Progress, after, begin_entry, begun, c_run, c_start, came_back}
+use Rattle.host_replay.proofs.Common.{entries_of, go_on, run_of, told_end, Asks, CValue, Frame, Machine, Number, events_of}
 use Rattle.w2c_base.specs.Run.{Asked}
 use Rattle.c_meaning.specs.Step as step
 use Rattle.c_sound.proofs.Trails.{give_keeps, there_or_not}
@@ -60,8 +65,7 @@ module _ (p : Program) where
 
   trail_of_step : (t : Trail) (o : step.Step) → (machine_of (in_trail t o)).trail ≡ t
   trail_of_step t (step.Next s) = refl
-  trail_of_step t (step.Back m value) = refl
-  trail_of_step t (step.Stops m why) = refl
+  trail_of_step t _ = refl
 
   does_tells : (does : Trail → step.Step) → Does p does → (t : Trail) → TellsMore p t.events (machine_of (does t)).trail.events
   does_tells does (inl h) t = nothing_more t.events (machine_of (does t)).trail.events

@@ -1,5 +1,7 @@
 -- Hosts that reply again what a journal says have, behind some calls, used up the calls of their modules among these.
-use Rattle.host_replay.proofs.Common.{◌≡◌, ℕ, zero, suc, ◌+◌, cond, List, [], ◌∷◌, ◌++◌, length, set, ◌==◌, slice_get, Some, sym, refl, ap, ◌∙◌, subst, inl, inr, append-nil, length-append, eq-eqb, ne_eqb, eqb-true, eqb-false, filter-append, by_test, Ask, Value, HostReply, Answers, ask_of, HostModule, Asked, Replays, calls_of}
+use Rattle.host_replay.proofs.Common.{◌≡◌, ℕ, zero, suc, ◌+◌, cond, List, [], ◌∷◌, ◌++◌, length, set, ◌==◌, slice_get, Some, sym, refl, ap}
+use Rattle.host_replay.proofs.Common.{◌∙◌, subst, inl, inr, append-nil, length-append, eq-eqb, ne_eqb, eqb-true, eqb-false, filter-append}
+use Rattle.host_replay.proofs.Common.{by_test, Ask, Value, HostReply, Answers, ask_of, HostModule, Asked, Replays, calls_of, right_behind}
 
 -- ---- lists
 
@@ -25,10 +27,6 @@ other_call k a rest other = ap (λ b. cond b (a ∷ calls_of k rest) (calls_of k
 
 calls-append : (k : ℕ) (xs ys : List Asked) → calls_of k (xs ++ ys) ≡ calls_of k xs ++ calls_of k ys
 calls-append k = filter-append (λ a. a.host == k)
-
-pub get-behind : {A : Type 0} (xs : List A) (y : A) (ys : List A) → slice_get (xs ++ y ∷ ys) (length xs) ≡ Some y
-get-behind [] y ys = refl
-get-behind (x ∷ xs) y ys = get-behind xs y ys
 
 one_more : (k : ℕ) (seen : List Asked) (a : Asked) → a.host ≡ k
     → length (calls_of k seen) + 1 ≡ length (calls_of k (seen ++ a ∷ []))
@@ -69,7 +67,7 @@ module _ {R : Type 0} (m : HostModule R) (entries : List Asked) where
       is_there = ap (λ es. slice_get (calls_of u.host es) n) are
           ∙ ap (λ l. slice_get l n) (calls-append u.host seen (u ∷ rest)
           ∙ ap (λ l. calls_of u.host seen ++ l) (own_call u.host u rest refl))
-          ∙ get-behind (calls_of u.host seen) u (calls_of u.host rest)
+          ∙ right_behind (calls_of u.host seen) u (calls_of u.host rest)
 
       by_used : (used : ℕ) (e : Asked) → used ≡ n → slice_get (calls_of u.host entries) used ≡ Some e → e ≡ u
       by_used used e same is = (let found : Some e ≡ Some u = sym is ∙ ap (slice_get (calls_of u.host entries)) same ∙ is_there in cc)

@@ -1,5 +1,8 @@
 -- Lines have one verdict: they are one journal at most, or one of them is the first that is refused.
-use Rattle.host_replay.proofs.Common.{◌≡◌, ℕ, suc, ◌+◌, ◌⊎◌, List, [], ◌∷◌, ◌++◌, length, Some, sym, refl, ap, ◌∙◌, subst, inl, inr, same_from_push, join_with_byte, Host, HostFunction, HostReply, joined, one_line, line_words, FunctionLine, JournalLine, reply_of, Adds, AddsEntry, AddsFunction, IsOffered, IsRefused, Read, Says, empty, named_function, symbol_of, with_function, Recorded, AreDistinct}
+use Rattle.host_replay.proofs.Common.{◌≡◌, ℕ, suc, ◌+◌, ◌⊎◌, List, [], ◌∷◌, ◌++◌, length, Some, sym, refl, ap, ◌∙◌, subst, inl, inr}
+use Rattle.host_replay.proofs.Common.{same_from_push, join_with_byte, Host, HostFunction, HostReply, joined, one_line, line_words}
+use Rattle.host_replay.proofs.Common.{FunctionLine, JournalLine, reply_of, Adds, AddsEntry, AddsFunction, IsOffered, IsRefused, Read, Says}
+use Rattle.host_replay.proofs.Common.{empty, named_function, symbol_of, with_function, Recorded, AreDistinct}
 use Rattle.journal_lines.specs.declared.line.HostLine.{HostLine}
 use Rattle.journal_lines.specs.declared.line.JournalLine.TheVariants as line
 use Rattle.c_meaning.specs.declared.reply.HostReply.TheVariants as reply

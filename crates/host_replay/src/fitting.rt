@@ -1,13 +1,13 @@
 // Whether a call fits the functions of modules.
 ghost use Rattle.std.specs.Prelude.{◌≡◌, Some};
-ghost use Rattle.w2c_base.specs.Values.{equal_type, equal_types, is_result, type_of, types_of};
+ghost use Rattle.w2c_base.specs.Values.{is_result};
 ghost use Rattle.c_hosts.specs.Asking.{function_of};
 ghost use Rattle.host_replay.specs.Fitting.{fits as fits_hosts, fits_function as fits_found, is_reply as is_reply_of};
 ghost use Rattle.host_replay.specs.Modules.{modules_of};
 
 use crate::module::JournalModule;
 use c_hosts::{Asked, HostFunction, HostReply};
-use w2c_base::{ValType, Value};
+use w2c_base::{ValType, Value, are_of_types, is_of_type};
 
 /// Whether a call is of a function that is there, with arguments and a reply of its types.
 pub(crate) fn fits(modules: &[JournalModule], asked: &Asked) -> bool
@@ -27,30 +27,6 @@ fn fits_function(function: &HostFunction, asked: &Asked) -> bool
 {
     are_of_types(function.ty.params.as_slice(), asked.args.as_slice())
         && is_reply(function.ty.result, asked.reply)
-}
-
-// Whether values have these types, one for each.
-fn are_of_types(types: &[ValType], values: &[Value]) -> bool
-    ensures { result ≡ equal_types types.now (types_of values.now) }
-{
-    if types.len() != values.len() {
-        return false;
-    }
-    for i in 0..types.len() {
-        if !is_of_type(types[i], values[i]) {
-            return false;
-        }
-    }
-    true
-}
-
-fn is_of_type(ty: ValType, value: Value) -> bool
-    ensures { result ≡ equal_type ty (type_of value) }
-{
-    match value {
-        Value::I32(_) => ty == ValType::I32,
-        Value::I64(_) => ty == ValType::I64,
-    }
 }
 
 fn is_reply(ty: Option<ValType>, reply: HostReply) -> bool

@@ -1,5 +1,8 @@
 -- What proofs of this crate cite of std, of the crates below and of specs/, passed on from one place. Declares nothing.
-pub use Rattle.std.proofs.Common.{◌≡◌, ℕ, zero, suc, ◌+◌, ◌%◌, ◌^◌, ◌<◌, ◌≤◌, Bool, true, false, not, ◌&&◌, List, [], ◌∷◌, ◌++◌, map, length, take, IfSome, IfNone, IfOk, nat_le, ◌==◌, slice_get, slice_index_or, Some, None, Ok, Err, codes, IsAscii, decimal, Option, Result, flat_map, bytes_eq, sym, refl, ap, ◌∙◌, subst, inl, inr, append_assoc, append-nil, arith, lit<, Bor, rules, eq-eqb, ne_eqb}
+pub use Rattle.std.proofs.Common.{◌≡◌, ℕ, zero, suc, ◌+◌, ◌%◌, ◌^◌, ◌<◌, ◌≤◌, Bool, true, false, not, ◌&&◌, List, [], ◌∷◌, ◌++◌, map}
+pub use Rattle.std.proofs.Common.{length, take, IfSome, IfNone, IfOk, nat_le, ◌==◌, slice_get, slice_index_or, Some, None, Ok, Err, codes}
+pub use Rattle.std.proofs.Common.{IsAscii, decimal, Option, Result, flat_map, bytes_eq, sym, refl, ap, ◌∙◌, subst, append_assoc, append-nil}
+pub use Rattle.std.proofs.Common.{arith, lit<, Bor, rules, eq-eqb, ne_eqb}
 pub use Rattle.std.proofs.lemmas.Fmt.{IsAscii-decimal, decimal_by_steps, decimal_injective, parse-decimal}
 pub use Rattle.std.proofs.lemmas.List.{append_cancel_right, map_push, same_from_push}
 pub use Rattle.std.proofs.lemmas.List.Splits.{join_with_byte-slice_split, slice_split-cons_no, slice_split-cons_yes}

@@ -1,5 +1,6 @@
 -- Words around =.
-use Rattle.journal_lines.proofs.Common.{◌≡◌, ℕ, false, List, [], ◌∷◌, ◌++◌, codes, bytes_eq, sym, ap, ◌∙◌, subst, append_assoc, Bor, map_push, same_from_push, texts, equals}
+use Rattle.journal_lines.proofs.Common.{◌≡◌, ℕ, false, List, [], ◌∷◌, ◌++◌, codes, bytes_eq, sym, ap, ◌∙◌, subst, append_assoc, Bor}
+use Rattle.journal_lines.proofs.Common.{map_push, same_from_push, texts, equals}
 
 texts_push : (words rest : List (Bor (List ℕ))) (x : Bor (List ℕ)) → words ≡ rest ++ x ∷ [] → texts words ≡ texts rest ++ x.now ∷ []
 texts_push words rest x is = ap texts is ∙ map_push (λ (b : Bor (List ℕ)). b.now) rest x

@@ -1,5 +1,7 @@
 -- Words that are written for items, one for each.
-use Rattle.journal_lines.proofs.Common.{◌≡◌, ℕ, zero, suc, ◌+◌, ◌<◌, List, [], ◌∷◌, ◌++◌, map, length, take, IfNone, slice_get, slice_index_or, Some, None, Option, sym, refl, ap, ◌∙◌, subst, arith, Bor, map_push, AllByRecursion, texts}
+use Rattle.journal_lines.proofs.Common.{◌≡◌, ℕ, zero, suc, ◌+◌, ◌<◌, List, [], ◌∷◌, ◌++◌, map, length, take, IfNone, slice_get}
+use Rattle.journal_lines.proofs.Common.{slice_index_or, Some, None, Option, sym, refl, ap, ◌∙◌, subst, arith, Bor, map_push, AllByRecursion}
+use Rattle.journal_lines.proofs.Common.{texts}
 use Rattle.w2c_base.proofs.Places.{take_next}
 
 pub text_in : (names : List (Bor (List ℕ))) (k : ℕ) (other : Bor (List ℕ)) → k < length names

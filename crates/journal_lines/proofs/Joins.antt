@@ -1,5 +1,7 @@
 -- A line is its words with blanks between them, and a newline.
-use Rattle.journal_lines.proofs.Common.{◌≡◌, ℕ, List, [], ◌∷◌, ◌++◌, map, codes, flat_map, refl, ap, ◌∙◌, append_assoc, append-nil, AllByRecursion, join_with_byte, IsNumber, ValType, reply_of, reply_text, name_text, number_text, spaced, IsProper, line_text, result_text, spaced_type, type_text, equals, line_words, JournalLine}
+use Rattle.journal_lines.proofs.Common.{◌≡◌, ℕ, List, [], ◌∷◌, ◌++◌, map, codes, flat_map, refl, ap, ◌∙◌, append_assoc, append-nil}
+use Rattle.journal_lines.proofs.Common.{AllByRecursion, join_with_byte, IsNumber, ValType, reply_of, reply_text, name_text, number_text}
+use Rattle.journal_lines.proofs.Common.{spaced, IsProper, line_text, result_text, spaced_type, type_text, equals, line_words, JournalLine}
 use Rattle.journal_lines.specs.declared.line.JournalLine.TheVariants as line
 use Rattle.journal_lines.proofs.Written.{high_name, high_number, high_reply, high_result, high_type, IsHigh}
 

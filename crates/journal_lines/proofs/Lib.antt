@@ -1,8 +1,10 @@
-mod Common
+-- What crates above cite.
 pub mod Cutting
-pub mod Equals
-pub mod Items
 pub mod Joins
 pub mod Single
 pub mod Texts
-pub mod Written
+-- What the crate's own proofs cite.
+mod Common
+mod Equals
+mod Items
+mod Written

@@ -1,7 +1,10 @@
 -- Words say one thing at most.
-use Rattle.journal_lines.proofs.Common.{◌≡◌, ℕ, List, [], ◌∷◌, ◌++◌, map, Some, None, codes, decimal, Option, sym, refl, ap, ◌∙◌, inl, inr, arith, decimal_injective, AllByRecursion, IsNumber, ValType, Value, I32, I64, escaped, reply_of, HostReply, reply_text, name_text, number_text, or_z, IsGiven, IsLine, IsProper, result_text, type_text, equals, line_words, JournalLine}
+use Rattle.journal_lines.proofs.Common.{◌≡◌, ℕ, List, [], ◌∷◌, ◌++◌, map, Some, None, codes, decimal, Option, sym, refl, ap, ◌∙◌, arith}
+use Rattle.journal_lines.proofs.Common.{decimal_injective, AllByRecursion, IsNumber, ValType, Value, I32, I64, escaped, reply_of, HostReply}
+use Rattle.journal_lines.proofs.Common.{reply_text, name_text, number_text, or_z, IsGiven, IsLine, IsProper, result_text, type_text, equals}
+use Rattle.journal_lines.proofs.Common.{line_words, JournalLine}
 use Rattle.w2c_base.specs.declared.value.ValType.TheVariants as type
-use Rattle.w2c_mangle.proofs.EscapedNames.{escaped-injective, escaped_byte-cases, stays-not_Z, z_escape}
+use Rattle.w2c_mangle.proofs.EscapedNames.{escaped-injective, escaped_apart}
 use Rattle.c_meaning.specs.declared.reply.HostReply.TheVariants as reply
 use Rattle.journal_lines.specs.declared.line.FunctionLine.{FunctionLine}
 use Rattle.journal_lines.specs.declared.line.HostLine.{HostLine}
@@ -10,15 +13,6 @@ use Rattle.w2c_base.proofs.Nothing.{same_parts}
 use Rattle.journal_lines.proofs.Equals.{equals_same}
 use Rattle.journal_lines.proofs.Texts.{said_by_words}
 
--- no escape is the word Z
-not_z : (name : List ℕ) → escaped name ≡ codes "Z" → ⊥
-not_z [] e = absurd cc
-not_z (b ∷ name) e =
-    elim (escaped_byte-cases b) [
-      | inl p ↦ let same : b ∷ escaped name ≡ codes "Z" = sym (ap (λ l. l ++ escaped name) p.1) ∙ e in absurd (stays-not_Z b p.0 (cc))
-      | inr p ↦ let same : z_escape b ++ escaped name ≡ codes "Z" = sym (ap (λ l. l ++ escaped name) p.1) ∙ e in cc
-    ]
-
 or_z_same : (x y : List ℕ) → (x ≡ codes "Z" → ⊥) → (y ≡ codes "Z" → ⊥) → or_z x ≡ or_z y → x ≡ y
 or_z_same [] [] hx hy e = refl
 or_z_same [] (c ∷ y) hx hy e = absurd (hy (sym e))
@@ -26,7 +20,7 @@ or_z_same (b ∷ x) [] hx hy e = absurd (hx e)
 or_z_same (b ∷ x) (c ∷ y) hx hy e = e
 
 pub name_same : (x y : List ℕ) → name_text x ≡ name_text y → x ≡ y
-name_same x y e = escaped-injective x y (or_z_same (escaped x) (escaped y) (not_z x) (not_z y) e)
+name_same x y e = escaped-injective x y (or_z_same (escaped x) (escaped y) (escaped_apart x) (escaped_apart y) e)
 
 type_same : (t u : ValType) → type_text t ≡ type_text u → t ≡ u
 type_same type.I32 type.I32 e = refl
@@ -117,12 +111,7 @@ words_same : (l m : JournalLine) → IsProper l → IsProper m → line_words l 
 words_same (line.Module x) (line.Module y) il im e = module_same x y e
 words_same (line.Function f) (line.Function g) il im e = function_same f g e
 words_same (line.Host h) (line.Host k) il im e = host_same h k il im e
-words_same (line.Module x) (line.Function g) il im e = absurd (grind (arith, e))
-words_same (line.Module x) (line.Host k) il im e = absurd (grind (arith, e))
-words_same (line.Function f) (line.Module y) il im e = absurd (grind (arith, e))
-words_same (line.Function f) (line.Host k) il im e = absurd (grind (arith, e))
-words_same (line.Host h) (line.Module y) il im e = absurd (grind (arith, e))
-words_same (line.Host h) (line.Function g) il im e = absurd (grind (arith, e))
+words_same _ _ il im e = absurd (grind (arith, e))
 
 pub one_line : (text : List ℕ) (l m : JournalLine) → IsLine text l → IsLine text m → l ≡ m
 one_line text l m il im =

@@ -1,5 +1,7 @@
 -- What a line says, by its text and by its words.
-use Rattle.journal_lines.proofs.Common.{◌≡◌, ℕ, ◌<◌, List, [], ◌∷◌, ◌++◌, IfSome, IfNone, IfOk, Some, None, Ok, Err, codes, Option, Result, sym, ap, ◌∙◌, subst, lit<, append_cancel_right, join_with_byte-slice_split, AllByRecursion, join_with_byte, IsLine, SayLine, line_words, JournalLine}
+use Rattle.journal_lines.proofs.Common.{◌≡◌, ℕ, ◌<◌, List, [], ◌∷◌, ◌++◌, IfSome, IfNone, IfOk, Some, None, Ok, Err, codes, Option, Result}
+use Rattle.journal_lines.proofs.Common.{sym, ap, ◌∙◌, subst, lit<, append_cancel_right, join_with_byte-slice_split, AllByRecursion}
+use Rattle.journal_lines.proofs.Common.{join_with_byte, IsLine, SayLine, line_words, JournalLine}
 use Rattle.journal_lines.specs.declared.line.JournalLine.TheVariants as line
 use Rattle.journal_lines.proofs.Cutting.{cut, cut-join, AllLack}
 use Rattle.journal_lines.proofs.Joins.{joined, words_are_high}
@@ -13,9 +15,8 @@ cut_words : (x : List ℕ) (xs : List (List ℕ)) → AllByRecursion IsHigh (x �
 cut_words x xs h = cut-join 32 x xs (all_lack 32 (x ∷ xs) (lit< tt) h)
 
 cut_line : (l : JournalLine) → AllByRecursion IsHigh (line_words l) → cut 32 (join_with_byte 32 (line_words l)) ≡ line_words l
-cut_line (line.Module name) h = cut_words _ _ h
-cut_line (line.Function f) h = cut_words _ _ h
 cut_line (line.Host h) are = cut_words _ _ are
+cut_line _ h = cut_words _ _ h
 
 pub said_by_words : (text : List ℕ) (l : JournalLine) → IsLine text l → SayLine (cut 32 text) l
 said_by_words text l is =

@@ -1,5 +1,10 @@
 -- What proofs of this crate cite of std, of the crates below and of specs/, passed on from one place. Declares nothing.
-pub use Rattle.std.proofs.Common.{◌≡◌, ℕ, zero, suc, ◌+◌, ◌-◌, ◌*◌, ◌/◌, ◌%◌, ◌^◌, ◌<◌, ◌≤◌, Bool, true, false, cond, ltb, leb, ◌≢◌, ◌⊎◌, List, [], ◌∷◌, ◌++◌, length, get_or, take, set, ℤ, pos, negsuc, ◌-ℤ◌, ◌≤ℤ◌, ◌<ℤ◌, bit_and, bit_or, int_lt, int_le, FitsSigned, Ok, Err, All, Result, sym, refl, ap, ◌∙◌, subst, inl, inr, lt_of_mul-lt-mul_right, div-mul-le_self, arith, length-append, length-set, length-take-le, get_or-set_same, drop-set-lt, pow_pos, pow_mono, pow-add, w32, w64, to_z, of_z, ltb-false, ltb-true, le-ltb, lt-ltb, le-leb, leb-false}
+pub use Rattle.std.proofs.Common.{◌≡◌, ℕ, zero, suc, ◌+◌, ◌-◌, ◌*◌, ◌/◌, ◌%◌, ◌^◌, ◌<◌, ◌≤◌, Bool, true, false, cond, ltb, leb, ◌≢◌, ◌⊎◌}
+pub use Rattle.std.proofs.Common.{List, [], ◌∷◌, ◌++◌, length, get_or, take, set, ℤ, pos, negsuc, ◌-ℤ◌, ◌≤ℤ◌, ◌<ℤ◌, bit_and, bit_or, int_lt}
+pub use Rattle.std.proofs.Common.{int_le, FitsSigned, Ok, Err, All, Result, sym, refl, ap, ◌∙◌, subst, inl, inr, lt_of_mul-lt-mul_right}
+pub use Rattle.std.proofs.Common.{div-mul-le_self, arith, length-append, length-set, length-take-le, get_or-set_same, drop-set-lt, pow_pos}
+pub use Rattle.std.proofs.Common.{pow_mono, pow-add, w32, w64, to_z, of_z, ltb-false, ltb-true, le-ltb, lt-ltb, le-leb, leb-false}
+pub use Rattle.std.proofs.Common.{true≢false, add_comm}
 pub use Rattle.std.proofs.Math.Seq.{take-append_seam, take-length}
 pub use Rattle.std.proofs.lemmas.Bool.{and_from, and_parts, cases_lt, lt-leb}
 pub use Rattle.std.proofs.lemmas.Grind.{and_high_numeral, or_numeral}

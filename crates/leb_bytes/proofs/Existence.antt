@@ -1,5 +1,7 @@
 -- Each number of a width has a shortest spelling.
-use Rattle.leb_bytes.proofs.Common.{◌≡◌, ℕ, zero, suc, ◌+◌, ◌-◌, ◌*◌, ◌/◌, ◌%◌, ◌^◌, ◌<◌, ◌≤◌, ◌⊎◌, List, [], ◌∷◌, length, ℤ, pos, negsuc, ◌-ℤ◌, sym, refl, ap, ◌∙◌, inl, inr, arith, pow_mono, cases_lt, ints, IsNumberRun, SpellsSigned, SpellsUnsigned, most_bytes, seven_bit_sum, signed_sum, InRange, IsRunOf, IsShortest}
+use Rattle.leb_bytes.proofs.Common.{◌≡◌, ℕ, zero, suc, ◌+◌, ◌-◌, ◌*◌, ◌/◌, ◌%◌, ◌^◌, ◌<◌, ◌≤◌, ◌⊎◌, List, [], ◌∷◌, length, ℤ, pos, negsuc}
+use Rattle.leb_bytes.proofs.Common.{◌-ℤ◌, sym, refl, ap, ◌∙◌, inl, inr, arith, pow_mono, cases_lt, ints, IsNumberRun, SpellsSigned}
+use Rattle.leb_bytes.proofs.Common.{SpellsUnsigned, most_bytes, seven_bit_sum, signed_sum, InRange, IsRunOf, IsShortest}
 use Rattle.leb_bytes.proofs.Fits.{half, signed_sum-high, signed_sum-low}
 use Rattle.leb_bytes.proofs.Runs.{power}
 use Rattle.leb_bytes.proofs.ShortestLemmas.{signed_shortest, unsigned_shortest}

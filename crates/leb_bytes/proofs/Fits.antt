@@ -1,5 +1,7 @@
 -- Which sums are numbers of a width: by their bits, and by their range.
-use Rattle.leb_bytes.proofs.Common.{◌≡◌, ℕ, zero, suc, ◌+◌, ◌-◌, ◌*◌, ◌/◌, ◌^◌, ◌<◌, ◌≤◌, cond, ◌≢◌, pos, ◌-ℤ◌, ◌≤ℤ◌, ◌<ℤ◌, sym, ap, ◌∙◌, subst, inl, inr, lt_of_mul-lt-mul_right, div-mul-le_self, arith, pow_pos, pow_mono, pow-add, le-ltb, lt-ltb, cases_lt, ints, most_bytes, signed_sum, InRange}
+use Rattle.leb_bytes.proofs.Common.{◌≡◌, ℕ, zero, suc, ◌+◌, ◌-◌, ◌*◌, ◌/◌, ◌^◌, ◌<◌, ◌≤◌, cond, ◌≢◌, pos, ◌-ℤ◌, ◌≤ℤ◌, ◌<ℤ◌, sym, ap, ◌∙◌}
+use Rattle.leb_bytes.proofs.Common.{subst, inl, inr, lt_of_mul-lt-mul_right, div-mul-le_self, arith, pow_pos, pow_mono, pow-add, le-ltb}
+use Rattle.leb_bytes.proofs.Common.{lt-ltb, cases_lt, ints, most_bytes, signed_sum, InRange}
 use Rattle.std.proofs.Math.Nat.{div-eq_of_lt, lt-div-mul-add}
 
 -- ---- quotients

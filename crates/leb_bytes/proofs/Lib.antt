@@ -1,10 +1,12 @@
-mod Common
+-- What crates above cite.
 pub mod Existence
-pub mod Fits
 pub mod Numbers
 pub mod Runs
-pub mod Shifts
 pub mod ShortestLemmas
-pub mod Windows
-pub mod Worked
-pub mod Written
+-- What the crate's own proofs cite.
+mod Common
+mod Fits
+mod Shifts
+mod Windows
+mod Worked
+mod Written

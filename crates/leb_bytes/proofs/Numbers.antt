@@ -1,8 +1,10 @@
 -- The laws of `u32_of`, `s32_of` and `s64_of`, for crates that read with them: it is the answer that
 -- the bytes have, it is no other, and it is the same whatever follows a spelling.
-use Rattle.leb_bytes.proofs.Common.{◌≡◌, ℕ, ◌≤◌, List, ◌++◌, length, take, ℤ, Ok, Result, subst, arith, SpellsSigned, SpellsUnsigned, AnswersSigned, AnswersUnsigned, LebFault}
+use Rattle.leb_bytes.proofs.Common.{◌≡◌, ℕ, ◌≤◌, List, ◌++◌, length, take, ℤ, Ok, Result, subst, arith, SpellsSigned, SpellsUnsigned}
+use Rattle.leb_bytes.proofs.Common.{AnswersSigned, AnswersUnsigned, LebFault}
 use Rattle.leb_bytes.specs.Computed.{s32_of, s64_of, u32_of}
-use Rattle.leb_bytes.proofs.Windows.{signed_of-append, signed_of-complete, signed_of-sound, unsigned_of-append, unsigned_of-complete, unsigned_of-sound}
+use Rattle.leb_bytes.proofs.Windows.{signed_of-append, signed_of-complete, signed_of-sound, unsigned_of-append, unsigned_of-complete}
+use Rattle.leb_bytes.proofs.Windows.{unsigned_of-sound}
 
 -- ---- 32 bits without sign
 

@@ -1,5 +1,6 @@
 -- Runs of bytes: where one ends, and what its low seven bits sum up to.
-use Rattle.leb_bytes.proofs.Common.{◌≡◌, ℕ, zero, suc, ◌+◌, ◌*◌, ◌%◌, ◌^◌, ◌<◌, ◌≤◌, List, [], ◌∷◌, ◌++◌, length, get_or, take, All, refl, ap, ◌∙◌, arith, pow-add, All-head, All-tail, IsNumberRun, seven_bit_sum, GoOn}
+use Rattle.leb_bytes.proofs.Common.{◌≡◌, ℕ, zero, suc, ◌+◌, ◌*◌, ◌%◌, ◌^◌, ◌<◌, ◌≤◌, List, [], ◌∷◌, ◌++◌, length, get_or, take, All, refl}
+use Rattle.leb_bytes.proofs.Common.{ap, ◌∙◌, arith, pow-add, All-head, All-tail, IsNumberRun, seven_bit_sum, GoOn}
 
 -- ---- sums
 

@@ -1,5 +1,6 @@
 -- Groups of seven bits by shifts and masks.
-use Rattle.leb_bytes.proofs.Common.{◌≡◌, ℕ, suc, ◌+◌, ◌*◌, ◌%◌, ◌^◌, ◌<◌, List, length, get_or, take, bit_and, bit_or, sym, refl, ap, ◌∙◌, subst, arith, and_high_numeral, and_mask, or_comm, or_shifted, shl_whole, seven_bit_sum}
+use Rattle.leb_bytes.proofs.Common.{◌≡◌, ℕ, suc, ◌+◌, ◌*◌, ◌%◌, ◌^◌, ◌<◌, List, length, get_or, take, bit_and, bit_or, sym, refl, ap, ◌∙◌}
+use Rattle.leb_bytes.proofs.Common.{subst, arith, and_high_numeral, and_mask, or_comm, or_shifted, shl_whole, seven_bit_sum, add_comm}
 use Rattle.leb_bytes.proofs.Runs.{seven_bit_sum-more}
 use Rattle.leb_bytes.proofs.Windows.{sum-below}
 
@@ -7,10 +8,7 @@ use Rattle.leb_bytes.proofs.Windows.{sum-below}
 pub or_group : (sum low i : ℕ) → sum < 2 ^ (7 * i) → low < 128 → i < 10 → bit_or sum (low * 2 ^ (7 * i) % 2 ^ 128) ≡ sum + low * 2 ^ (7 * i)
 or_group sum low i below small lt =
     let whole : low * 2 ^ (7 * i) % 2 ^ 128 ≡ low * 2 ^ (7 * i) = shl_whole low 7 (7 * i) 128 small (omega (arith, lt)) in
-    ap (bit_or sum) whole ∙ or_comm sum (low * 2 ^ (7 * i)) ∙ or_shifted low (7 * i) sum below ∙ flip (low * 2 ^ (7 * i)) sum
-  where
-    flip : (a b : ℕ) → a + b ≡ b + a
-    flip a b = omega arith
+    ap (bit_or sum) whole ∙ or_comm sum (low * 2 ^ (7 * i)) ∙ or_shifted low (7 * i) sum below ∙ add_comm (low * 2 ^ (7 * i)) sum
 
 pub low_seven : (b : ℕ) → bit_and b 127 ≡ b % 128
 low_seven b = and_mask b 7

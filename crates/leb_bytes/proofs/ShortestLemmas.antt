@@ -1,5 +1,7 @@
 -- The shortest spelling of a number is one, and has as few bytes as hold the number.
-use Rattle.leb_bytes.proofs.Common.{◌≡◌, ℕ, ◌-◌, ◌*◌, ◌^◌, ◌<◌, ◌≤◌, List, length, ℤ, pos, ◌-ℤ◌, All, sym, ap, ◌∙◌, subst, inl, inr, arith, cases_lt, ints, IsNumberRun, SpellsSigned, SpellsUnsigned, most_bytes, seven_bit_sum, signed_sum, InRange, IsRunOf, IsShortest}
+use Rattle.leb_bytes.proofs.Common.{◌≡◌, ℕ, ◌-◌, ◌*◌, ◌^◌, ◌<◌, ◌≤◌, List, length, ℤ, pos, ◌-ℤ◌, All, sym, ap, ◌∙◌, subst, inl, inr, arith}
+use Rattle.leb_bytes.proofs.Common.{cases_lt, ints, IsNumberRun, SpellsSigned, SpellsUnsigned, most_bytes, seven_bit_sum, signed_sum}
+use Rattle.leb_bytes.proofs.Common.{InRange, IsRunOf, IsShortest}
 use Rattle.leb_bytes.proofs.Fits.{half, in_range_high, in_range_low, signed_sum-high, signed_sum-low}
 use Rattle.leb_bytes.proofs.Runs.{IsNumberRun-some, seven_bit_sum-below, seven_bit_sum-injective}
 

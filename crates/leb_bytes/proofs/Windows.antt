@@ -1,5 +1,12 @@
 -- What stands at the front of a window: the answer that is computed is the one that the bytes have.
-use Rattle.leb_bytes.proofs.Common.{◌≡◌, ℕ, zero, suc, ◌+◌, ◌-◌, ◌*◌, ◌/◌, ◌^◌, ◌<◌, ◌≤◌, Bool, true, false, cond, ltb, leb, ◌≢◌, List, [], ◌∷◌, ◌++◌, length, get_or, take, ℤ, pos, ◌-ℤ◌, ◌≤ℤ◌, ◌<ℤ◌, int_lt, int_le, Ok, Err, Result, sym, refl, ap, ◌∙◌, subst, inl, inr, arith, length-append, length-take-le, pow_mono, ltb-false, ltb-true, le-ltb, lt-ltb, le-leb, leb-false, take-append_seam, take-length, and_from, and_parts, cases_lt, lt-leb, ints, All-cons, All-head, All-nil, All-tail, IsNumberRun, SpellsSigned, SpellsUnsigned, most_bytes, seven_bit_sum, signed_sum, count_of, fits_signed, fitting, signed_after, signed_of, unsigned_after, unsigned_of, Answers, AnswersSigned, AnswersUnsigned, GoOn, HasBitsPast, HasBitsUnlikeSign, InRange, IsRunOf, NeverWrong, LebFault, Ends, TooLong, Unused}
+use Rattle.leb_bytes.proofs.Common.{◌≡◌, ℕ, zero, suc, ◌+◌, ◌-◌, ◌*◌, ◌/◌, ◌^◌, ◌<◌, ◌≤◌, Bool, true, false, cond, ltb, leb, ◌≢◌, List, []}
+use Rattle.leb_bytes.proofs.Common.{◌∷◌, ◌++◌, length, get_or, take, ℤ, pos, ◌-ℤ◌, ◌≤ℤ◌, ◌<ℤ◌, int_lt, int_le, Ok, Err, Result, sym, refl}
+use Rattle.leb_bytes.proofs.Common.{ap, ◌∙◌, subst, inl, inr, arith, length-append, length-take-le, pow_mono, ltb-false, ltb-true, le-ltb}
+use Rattle.leb_bytes.proofs.Common.{lt-ltb, le-leb, leb-false, take-append_seam, take-length, and_from, and_parts, cases_lt, lt-leb, ints}
+use Rattle.leb_bytes.proofs.Common.{All-cons, All-head, All-nil, All-tail, IsNumberRun, SpellsSigned, SpellsUnsigned, most_bytes}
+use Rattle.leb_bytes.proofs.Common.{seven_bit_sum, signed_sum, count_of, fits_signed, fitting, signed_after, signed_of, unsigned_after}
+use Rattle.leb_bytes.proofs.Common.{unsigned_of, Answers, AnswersSigned, AnswersUnsigned, GoOn, HasBitsPast, HasBitsUnlikeSign, InRange}
+use Rattle.leb_bytes.proofs.Common.{IsRunOf, NeverWrong, LebFault, Ends, TooLong, Unused, true≢false}
 use Rattle.std.specs.List.{prefix_len}
 use Rattle.std.proofs.lemmas.List.Sums.{prefix_len-le-length, prefix_len_stops}
 use Rattle.leb_bytes.proofs.Fits.{Unlike, below-div_zero, div-zero_below, in_range_short, in_range_unlike, unlike_from}
@@ -283,12 +290,9 @@ signed-fitting width k window true e wide within short r =
     )
 signed-fitting width k window false e wide within short r =
     let s = seven_bit_sum (take k window) in
-    let out : InRange width (signed_sum k s) → ⊥ = λ fits. true_false (sym (tests_in_range width (signed_sum k s) fits) ∙ e) in
+    let out : InRange width (signed_sum k s) → ⊥ = λ fits. true≢false (sym (tests_in_range width (signed_sum k s) fits) ∙ e) in
     signed-wrong width k s window wide within
     (record { run = r; short = omega (arith, short, length-take-le k window within); value = refl }) out
-  where
-    true_false : true ≡ false → ⊥
-    true_false e = cc
 
 signed-after : (width : ℕ) (window : List ℕ) (c : Result ℕ LebFault) → 0 < width → Counts (most_bytes width) window c
     → AnswersSigned width window (signed_after width window c)

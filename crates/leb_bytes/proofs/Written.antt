@@ -1,5 +1,7 @@
 -- Groups of seven bits, written one after the other.
-use Rattle.leb_bytes.proofs.Common.{◌≡◌, ℕ, suc, ◌+◌, ◌*◌, ◌/◌, ◌%◌, ◌^◌, ◌<◌, ◌≤◌, List, length, get_or, take, set, bit_and, bit_or, sym, refl, ap, ◌∙◌, subst, arith, length-set, length-take-le, get_or-set_same, or_numeral, All-push, All-same, mod-pow-add, shr_split, seven_bit_sum, GoOn, IsRunOf}
+use Rattle.leb_bytes.proofs.Common.{◌≡◌, ℕ, suc, ◌+◌, ◌*◌, ◌/◌, ◌%◌, ◌^◌, ◌<◌, ◌≤◌, List, length, get_or, take, set, bit_and, bit_or, sym}
+use Rattle.leb_bytes.proofs.Common.{refl, ap, ◌∙◌, subst, arith, length-set, length-take-le, get_or-set_same, or_numeral, All-push}
+use Rattle.leb_bytes.proofs.Common.{All-same, mod-pow-add, shr_split, seven_bit_sum, GoOn, IsRunOf, add_comm}
 use Rattle.std.proofs.lemmas.List.{take-set, take_more_set}
 use Rattle.leb_bytes.proofs.Runs.{IsNumberRun-from_go_on, seven_bit_sum-more}
 use Rattle.leb_bytes.proofs.Shifts.{low_seven}
@@ -34,7 +36,7 @@ Holds-more pattern i out lt h =
     sum-written out i v lt
     ∙ ap (λ s. s + v % 128 * 2 ^ (7 * i)) h.so_far
     ∙ ap (λ g. pattern % 2 ^ (7 * i) + g * 2 ^ (7 * i)) group
-    ∙ flip (pattern % 2 ^ (7 * i)) (x % 128 * 2 ^ (7 * i))
+    ∙ add_comm (pattern % 2 ^ (7 * i)) (x % 128 * 2 ^ (7 * i))
     ∙ sym next
     ∙ ap (λ n. pattern % 2 ^ n) places in
     let list = take_more_set out i v lt in
@@ -42,9 +44,6 @@ Holds-more pattern i out lt h =
       so_far = subst (λ n. seven_bit_sum (take n (set out i v)) ≡ pattern % 2 ^ (7 * (i + 1))) e sum;
       go_on = All-same (λ b. 128 ≤ b) _ _ list (All-push (λ b. 128 ≤ b) (take i out) v h.go_on (omega (arith, is)));
     }
-  where
-    flip : (a b : ℕ) → a + b ≡ b + a
-    flip a b = omega arith
 
 -- the last group ends the run
 pub Holds-last : (pattern i : ℕ) (out : List ℕ) → i < length out → pattern / 2 ^ (7 * i) < 128 → Holds pattern i out
@@ -62,9 +61,6 @@ Holds-last pattern i out lt small h =
           sum-written out i v lt
           ∙ ap (λ s. s + v % 128 * 2 ^ (7 * i)) h.so_far
           ∙ ap (λ g. pattern % 2 ^ (7 * i) + g * 2 ^ (7 * i)) group
-          ∙ flip (pattern % 2 ^ (7 * i)) (v * 2 ^ (7 * i))
+          ∙ add_comm (pattern % 2 ^ (7 * i)) (v * 2 ^ (7 * i))
           ∙ shr_split pattern (7 * i));
     }
-  where
-    flip : (a b : ℕ) → a + b ≡ b + a
-    flip a b = omega arith

@@ -1,6 +1,7 @@
 -- The answer for a window of bytes, computed: how many bytes at the front go on, and what they and
 -- the next sum up to.
-use Rattle.std.specs.Prelude.{ℕ, ℤ, pos, ◌+◌, ◌-◌, ◌^◌, ◌-ℤ◌, List, length, take, Bool, true, false, ◌&&◌, Result, Ok, Err, nat_lt, nat_le, int_lt, int_le, if◌then◌else◌}
+use Rattle.std.specs.Prelude.{ℕ, ℤ, pos, ◌+◌, ◌-◌, ◌^◌, ◌-ℤ◌, List, length, take, Bool, true, false, ◌&&◌, Result, Ok, Err, nat_lt, nat_le}
+use Rattle.std.specs.Prelude.{int_lt, int_le, if◌then◌else◌}
 use Rattle.std.specs.List.{prefix_len}
 use Rattle.w2c_base.specs.SpelledNumber.{most_bytes, seven_bit_sum, signed_sum}
 use Rattle.leb_bytes.specs.declared.fault.LebFault.{LebFault}

@@ -5,7 +5,9 @@
 --     slot_out, slot_in, run_out, run_in, run_seen      one place or a run of places is taken out of the row, put back, or seen
 --     to_cells, of_cells      places that all hold values are an array of these
 --     of_room, to_room      room for an array is a row of empty places
-use Rattle.std.proofs.Common.{◌≡◌, refl, sym, ap, subst, ◌∙◌, ℕ, zero, suc, ◌+◌, ◌*◌, ◌<◌, ◌≤◌, arith, zero-mul, suc-mul, List, [], ◌∷◌, ◌++◌, map, length, take, drop, set, get_or, replicate, take-append-drop, length-take, length-drop, drop-cons, drop-drop, Option, Some, None}
+use Rattle.std.proofs.Common.{◌≡◌, refl, sym, ap, subst, ◌∙◌, ℕ, zero, suc, ◌+◌, ◌*◌, ◌<◌, ◌≤◌, arith, zero-mul, suc-mul, List, [], ◌∷◌}
+use Rattle.std.proofs.Common.{◌++◌, map, length, take, drop, set, get_or, replicate, take-append-drop, length-take, length-drop, drop-cons}
+use Rattle.std.proofs.Common.{drop-drop, Option, Some, None}
 use lib.Seq.{set_split}
 use seplogic.Ra.Ura.{Ura}
 use base.Fraction.{full_share}
@@ -16,7 +18,8 @@ use base.Fml.{Fml, Lft, ftrue, fsep, fat, froom}
 use types.Logic.{Logic, sem}
 use types.SemTy.{cells}
 use contract.Monad.{fact, fact_i}
-use types.Kit.{Item, Goal, Seq, Step, step, prop, ‵, raw, some, ◌⊛◌, ◌$◌, ◌∵◌, !, qed, by, move, keep, drop as skip, use0, use1, use2, pick, split, check, show, frame, fsplit, fjoin, fpick, fpack, feq_i, feq_l, rewrite, done}
+use types.Kit.{Item, Goal, Seq, Step, step, prop, ‵, raw, some, ◌⊛◌, ◌$◌, ◌∵◌, !, qed, by, move, keep, drop as skip, use0, use1, use2, pick}
+use types.Kit.{split, check, show, frame, fsplit, fjoin, fpick, fpack, feq_i, feq_l, rewrite, done}
 use denote.RattleType.{RattleType, Valss}
 use denote.Laws.{Typed, Is, shows}
 use denote.Param.{param, layout}

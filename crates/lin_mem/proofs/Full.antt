@@ -1,5 +1,7 @@
 -- Places that each hold a value, and those that are filled or emptied one after the other.
-use Rattle.lin_mem.proofs.Common.{◌≡◌, ℕ, zero, suc, ◌+◌, ◌<◌, ◌≤◌, List, [], ◌∷◌, ◌++◌, map, length, get_or, take, drop, set, replicate, Some, None, All, Option, sym, refl, ap, ◌∙◌, append_assoc, arith, take_all, All-cons, All-nil, with_bytes, IsFull, somes}
+use Rattle.lin_mem.proofs.Common.{◌≡◌, ℕ, zero, suc, ◌+◌, ◌<◌, ◌≤◌, List, [], ◌∷◌, ◌++◌, map, length, get_or, take, drop, set, replicate}
+use Rattle.lin_mem.proofs.Common.{Some, None, All, Option, sym, refl, ap, ◌∙◌, append_assoc, arith, take_all, All-cons, All-nil, with_bytes}
+use Rattle.lin_mem.proofs.Common.{IsFull, somes}
 
 module _ {X : Type 0} where
   abbrev held : List X → List (Option X)
@@ -45,11 +47,6 @@ module _ {X : Type 0} where
 
   -- ---- one place after the other
 
-  pub length-begun : (a : X) (xs : List X) (i : ℕ) → i ≤ length xs → length (replicate i a ++ drop i xs) ≡ length xs
-  length-begun a xs zero le = refl
-  length-begun a [] (suc i) le = absurd (omega (arith, le))
-  length-begun a (x ∷ xs) (suc i) le = let h = length-begun a xs i (omega (arith, le)) in omega (arith, h)
-
   pub get_or-begun : (a : X) (xs : List X) (i : ℕ) (d : X) → i < length xs → get_or (replicate i a ++ drop i xs) i d ≡ get_or xs i d
   get_or-begun a [] i d lt = absurd (omega (arith, lt))
   get_or-begun a (x ∷ xs) zero d lt = refl
@@ -75,11 +72,6 @@ module _ {X : Type 0} where
   pub length-same : (n : ℕ) (a : X) → length (replicate n a) ≡ n
   length-same zero a = refl
   length-same (suc n) a = let h = length-same n a in omega (arith, h)
-
-  pub get_or-same : (n : ℕ) (a d : X) (i : ℕ) → i < n → get_or (replicate n a) i d ≡ a
-  get_or-same zero a d i lt = absurd (omega (arith, lt))
-  get_or-same (suc n) a d zero lt = refl
-  get_or-same (suc n) a d (suc i) lt = get_or-same n a d i (omega (arith, lt))
 
   held-same : (n : ℕ) (a : X) → replicate n (Some a) ≡ held (replicate n a)
   held-same zero a = refl

@@ -1,7 +1,8 @@
+-- What the crate's own proofs cite.
 mod Common
-pub mod Full
-pub mod Numbers
-pub mod Pages
-pub mod Straddles
-pub mod CellRows
-pub mod Sharing
+mod Full
+mod Numbers
+mod Pages
+mod Straddles
+mod CellRows
+mod Sharing

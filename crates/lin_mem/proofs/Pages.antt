@@ -1,15 +1,12 @@
 -- Pages of one size, joined to one list of bytes.
-use Rattle.lin_mem.proofs.Common.{◌≡◌, ℕ, zero, suc, ◌+◌, ◌*◌, ◌<◌, ◌≤◌, List, [], ◌∷◌, ◌++◌, length, get_or, take, drop, set, replicate, All, sym, refl, ap, ◌∙◌, append_assoc, arith, length-append, length-drop, length-take-le, drop-drop, take-add, drop-append-add, take-append-add, take-append_seam, All-head, All-tail, concat, with_bytes}
+use Rattle.lin_mem.proofs.Common.{◌≡◌, ℕ, zero, suc, ◌+◌, ◌*◌, ◌<◌, ◌≤◌, List, [], ◌∷◌, ◌++◌, length, get_or, take, drop, set, replicate}
+use Rattle.lin_mem.proofs.Common.{All, sym, refl, ap, ◌∙◌, append_assoc, arith, length-append, length-drop, length-take-le, drop-drop}
+use Rattle.lin_mem.proofs.Common.{take-add, drop-append-add, take-append-add, take-append_seam, All-head, All-tail, concat, with_bytes}
 use Rattle.std.proofs.lemmas.List.{drop-append-le, take-append-le}
 
 pub concat-append : (ps qs : List (List ℕ)) → concat (ps ++ qs) ≡ concat ps ++ concat qs
 concat-append [] qs = refl
 concat-append (p ∷ ps) qs = ap (λ bs. p ++ bs) (concat-append ps qs) ∙ sym (append_assoc p (concat ps) (concat qs))
-
-pub get_or-any : {A : Type 0} (xs : List A) (i : ℕ) (d e : A) → i < length xs → get_or xs i d ≡ get_or xs i e
-get_or-any [] i d e lt = absurd (omega (arith, lt))
-get_or-any (x ∷ xs) zero d e lt = refl
-get_or-any (x ∷ xs) (suc i) d e lt = get_or-any xs i d e (omega (arith, lt))
 
 -- ---- a part of a joined list
 

@@ -1,10 +1,7 @@
 -- Bytes that lie in two pages.
-use Rattle.lin_mem.proofs.Common.{◌≡◌, ℕ, ◌-◌, List, [], ◌∷◌, ◌++◌, length, take, drop, sym, refl, ap, ◌∙◌, arith, length-drop, drop_of_length-le, take-append_seam}
+use Rattle.lin_mem.proofs.Common.{◌≡◌, ℕ, ◌-◌, List, [], ◌∷◌, ◌++◌, length, take, drop, sym, ap, ◌∙◌, arith, length-drop, drop_of_length-le}
+use Rattle.lin_mem.proofs.Common.{take-append_seam, append-nil}
 use borrow.Rule.Slice.PartMut.{put_mid}
-
-append-nil : (xs : List ℕ) → xs ++ [] ≡ xs
-append-nil [] = refl
-append-nil (x ∷ xs) = ap (λ ys. x ∷ ys) (append-nil xs)
 
 -- a list whose first part is written, and then the rest, holds both
 pub put_rest : (out first second : List ℕ) (room : ℕ) → length first ≡ room

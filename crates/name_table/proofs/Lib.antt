@@ -1,2 +1,4 @@
-pub mod NameTables
+-- What crates above cite.
 pub mod Lookups
+-- What the crate's own proofs cite.
+mod NameTables

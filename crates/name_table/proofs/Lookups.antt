@@ -1,13 +1,9 @@
 -- What is found in lists that are joined.
-use Rattle.std.proofs.Common.{◌≡◌, ℕ, Bool, true, false, ◌||◌, if◌then◌else◌, List, [], ◌∷◌, ◌++◌, bytes_eq, Option, Some, None, refl, sym, ap, ◌∙◌}
+use Rattle.std.proofs.Common.{◌≡◌, ℕ, Bool, true, false, ◌||◌, if◌then◌else◌, List, [], ◌∷◌, ◌++◌, bytes_eq, Some, None, refl, sym, ap, ◌∙◌}
 use Rattle.std.specs.Option.{option_or}
 use Rattle.std.specs.List.{list_any}
 use Rattle.w2c_base.specs.Lookup.{named}
 use Rattle.w2c_base.proofs.Options.{or_assoc}
-
-pub or_none : {A : Type 0} (a : Option A) → option_or a None ≡ a
-or_none None = refl
-or_none (Some x) = refl
 
 pub named-append : {A : Type 0} (q : List ℕ) (xs ys : List (List ℕ × A)) → named q (xs ++ ys) ≡ option_or (named q xs) (named q ys)
 named-append q [] ys = refl

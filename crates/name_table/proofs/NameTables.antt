@@ -1,19 +1,11 @@
 -- A table of names as its entries, in which each name stands once.
-use Rattle.std.proofs.Common.{◌≡◌, ℕ, Bool, true, false, cond, if◌then◌else◌, List, [], ◌∷◌, ◌++◌, map, bytes_eq, is_some, Option, Some, None, refl, sym, ap, ◌∙◌, subst}
+use Rattle.std.proofs.Common.{◌≡◌, ℕ, Bool, true, false, cond, if◌then◌else◌, List, [], ◌∷◌, ◌++◌, map, bytes_eq, is_some, Option, Some}
+use Rattle.std.proofs.Common.{None, refl, ap, ◌∙◌, subst}
 use Rattle.std.specs.Option.{option_or}
 use Rattle.std.specs.Map.{lookup}
 use Rattle.std.proofs.lemmas.Slice.Eq.{bytes_eq-Decides}
 use Rattle.w2c_base.specs.Lookup.{named}
-
--- bytes are compared either way round
-pub either_way : (xs ys : List ℕ) → bytes_eq xs ys ≡ bytes_eq ys xs
-either_way xs ys = go (bytes_eq xs ys) (bytes_eq ys xs) refl refl
-  where
-    go : (b c : Bool) → bytes_eq xs ys ≡ b → bytes_eq ys xs ≡ c → bytes_eq xs ys ≡ bytes_eq ys xs
-    go true true e f = e ∙ sym f
-    go false false e f = e ∙ sym f
-    go true false e f = let same : bytes_eq ys xs ≡ true = (bytes_eq-Decides ys xs).1 (sym ((bytes_eq-Decides xs ys).0 e)) in absurd cc
-    go false true e f = let same : bytes_eq xs ys ≡ true = (bytes_eq-Decides xs ys).1 (sym ((bytes_eq-Decides ys xs).0 f)) in absurd cc
+use Rattle.w2c_base.proofs.Tests.{bytes_eq-sym}
 
 module _ {V T : Type 0} (bytes_of : V → List ℕ) where
   abbrev pub view : List (V × T) → List (List ℕ × T)
@@ -23,7 +15,7 @@ module _ {V T : Type 0} (bytes_of : V → List ℕ) where
   pub found : (name : List ℕ) (entries : List (V × T)) → lookup (λ k. bytes_eq name (bytes_of k)) entries ≡ named name (view entries)
   found name [] = refl
   found name (e ∷ entries) =
-      ap (λ b. cond b (Some e.1) (lookup (λ k. bytes_eq name (bytes_of k)) entries)) (either_way name (bytes_of e.0))
+      ap (λ b. cond b (Some e.1) (lookup (λ k. bytes_eq name (bytes_of k)) entries)) (bytes_eq-sym name (bytes_of e.0))
       ∙ ap (cond (bytes_eq (bytes_of e.0) name) (Some e.1)) (found name entries)
 
   -- an entry at the end
@@ -56,7 +48,3 @@ nothing_new {T} name q of table there = by_test (bytes_eq name q) refl
     by_test : (b : Bool) → bytes_eq name q ≡ b → named q table ≡ option_or (named q table) (if b then Some of else None)
     by_test true e = present (named q table) (subst (λ n. is_some (named n table) ≡ true) ((bytes_eq-Decides name q).0 e) there)
     by_test false e = absent (named q table)
-
-pub is_none : {T : Type 0} (o : Option T) → is_some o ≡ false → o ≡ None
-is_none None e = refl
-is_none (Some i) e = cc

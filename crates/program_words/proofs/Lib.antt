@@ -1,3 +1,4 @@
+-- What crates above cite.
 pub mod Parses
 pub mod Written
 pub mod Loops

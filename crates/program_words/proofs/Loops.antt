@@ -1,8 +1,10 @@
 -- Loops that write the lines of one thing after another.
-use Rattle.std.proofs.Common.{◌≡◌, ℕ, suc, zero, ◌+◌, ◌-◌, ◌<◌, List, [], ◌∷◌, ◌++◌, drop, get_or, length, map, take, take-append-drop, drop-cons, add-one, Option, refl, sym, ap, ◌∙◌, subst, arith, Ok, Err, flat_map, take-suc, append-nil}
+use Rattle.std.proofs.Common.{◌≡◌, ℕ, suc, zero, ◌+◌, ◌-◌, ◌<◌, List, [], ◌∷◌, ◌++◌, drop, get_or, length, map, take, Option, refl, sym, ap}
+use Rattle.std.proofs.Common.{◌∙◌, subst, arith, Ok, Err, flat_map, append-nil}
 use Rattle.std.specs.List.{range_with_len}
 use Rattle.std.proofs.lemmas.List.{length-map}
 use Rattle.std.proofs.lemmas.Grind.{flat_map-append}
+use Rattle.w2c_base.proofs.Places.{front_split}
 use Rattle.w2c_io.specs.declared.answers.WriteAnswer.{WriteAnswer}
 use Rattle.w2c_io.specs.Contents.{extended}
 use Rattle.program_words.specs.Writing.{Writes}
@@ -59,14 +61,6 @@ module _ {A : Type 0} (lines : A → List ℕ) where
 
 -- ---- the front of a list
 
-pub front_next : {A : Type 0} (xs : List A) (k : ℕ) (x : A) → k < length xs → x ≡ get_or xs k x → take (k + 1) xs ≡ take k xs ++ x ∷ []
-front_next xs k x less at = rw add-one (take-suc xs k x less ∙ ap (λ y. take k xs ++ y ∷ []) (sym at))
-
-pub front_split : {A : Type 0} (xs : List A) (k : ℕ) (x : A) → k < length xs → x ≡ get_or xs k x → xs ≡ take k xs ++ x ∷ drop (k + 1) xs
-front_split xs k x less at =
-    sym (take-append-drop k xs)
-    ∙ ap (λ l. take k xs ++ l) (rw add-one (drop-cons xs k x less ∙ ap (λ y. y ∷ drop (suc k) xs) (sym at)))
-
 -- the same through a view
 pub mapped_at : {A B : Type 0} (view : A → B) (xs : List A) (k : ℕ) (x : A) → k < length xs → x ≡ get_or xs k x
     → view x ≡ get_or (map view xs) k (view x)
@@ -74,21 +68,10 @@ mapped_at view [] k x less at = absurd (omega (arith, less))
 mapped_at view (y ∷ xs) zero x less at = ap view at
 mapped_at view (y ∷ xs) (suc k) x less at = mapped_at view xs k x (omega (arith, less)) at
 
-pub mapped_next : {A B : Type 0} (view : A → B) (xs : List A) (k : ℕ) (x : A) → k < length xs → x ≡ get_or xs k x
-    → take (k + 1) (map view xs) ≡ take k (map view xs) ++ view x ∷ []
-mapped_next view xs k x less at =
-    front_next (map view xs) k (view x) (omega (arith, less, length-map xs view)) (mapped_at view xs k x less at)
-
 pub mapped_split : {A B : Type 0} (view : A → B) (xs : List A) (k : ℕ) (x : A) → k < length xs → x ≡ get_or xs k x
     → map view xs ≡ take k (map view xs) ++ view x ∷ drop (k + 1) (map view xs)
 mapped_split view xs k x less at =
     front_split (map view xs) k (view x) (omega (arith, less, length-map xs view)) (mapped_at view xs k x less at)
-
--- what stands at a place does not hang on what would stand past the end
-pub same_at : {A : Type 0} (xs : List A) (k : ℕ) (d other : A) → k < length xs → get_or xs k d ≡ get_or xs k other
-same_at [] k d other less = absurd (omega (arith, less))
-same_at (x ∷ xs) zero d other less = refl
-same_at (x ∷ xs) (suc k) d other less = same_at xs k d other (omega (arith, less))
 
 pub mapped_get : {A B : Type 0} (view : A → B) (xs : List A) (k : ℕ) (d : B) (x : A) → k < length xs
     → get_or (map view xs) k d ≡ view (get_or xs k x)

@@ -1,5 +1,6 @@
 -- What a parse says of the rows of the words.
-use Rattle.std.proofs.Common.{◌≡◌, ◌∙◌, sym, ap, ℕ, Bool, false, List, [], ◌∷◌, Option, Some, None, Result, Ok, Err, IfOk, inl, inr, if◌then◌else◌, length, arith, ne_eqb}
+use Rattle.std.proofs.Common.{◌≡◌, ◌∙◌, sym, ap, ℕ, Bool, false, List, [], ◌∷◌, Option, Some, None, Result, Ok, Err, IfOk, inl, inr}
+use Rattle.std.proofs.Common.{if◌then◌else◌, length, arith, ne_eqb}
 use Rattle.clap.specs.Words.{App, FailsBy, IsAmong, Kinds, Row, fault_of, kind_of, matches_of}
 use Rattle.clap.specs.Walk.{is_empty}
 use Rattle.clap.specs.declared.error.Error.{Error}

@@ -1,11 +1,11 @@
 -- What calls have written, one behind another.
-use Rattle.std.proofs.Common.{◌≡◌, ℕ, List, [], ◌++◌, Option, Some, None, append_assoc, refl, sym, ap, ◌∙◌, subst, arith, Result, Ok, Err, IfOk, append-nil}
+use Rattle.std.proofs.Common.{◌≡◌, ℕ, List, [], ◌++◌, Option, Some, None, append_assoc, refl, sym, ap, ◌∙◌, subst, Result, Ok, Err, IfOk}
+use Rattle.std.proofs.Common.{append-nil}
 use Rattle.w2c_io.specs.declared.answers.WriteAnswer.{WriteAnswer}
-use Rattle.w2c_io.specs.declared.answers.WriteAnswer.TheVariants as answer
 use Rattle.w2c_io.specs.Contents.{extended, IsPrefix}
 use Rattle.w2c_io.specs.Causes.{WriteCause}
 use Rattle.w2c_io.specs.Telling.{SaysPart}
-use Rattle.w2c_io.proofs.Causes.{cause_behind, cause_of, done_cause, memory_cause}
+use Rattle.w2c_io.proofs.Causes.{cause_behind, cause_of, done_cause}
 use Rattle.program_words.specs.Writing.{Writes}
 
 pub none_written : (old : Option (List ℕ)) → old ≡ extended old []
@@ -52,10 +52,6 @@ whole_behind old middle new a b written gained = gained ∙ ap (λ o. extended o
 pub wrote_nothing : {A : Type 0} (x : A) (old : Option (List ℕ)) (faults : ℕ) → Writes old old faults faults [] (Ok x)
 wrote_nothing x old faults = record { whole = none_written old; part = tt; cause = done_cause x faults faults refl }
 
-pub wants_memory : {A : Type 0} (old : Option (List ℕ)) (faults : ℕ) (text : List ℕ)
-    → Writes {A = A} old old faults faults text (Err answer.Memory)
-wants_memory old faults text = record { whole = tt; part = says_nothing old text; cause = memory_cause faults faults (omega arith) }
-
 pub then_writes : {A B : Type 0} (x : A) (r : Result B WriteAnswer) (old middle new : Option (List ℕ)) (before between after : ℕ)
     (a b : List ℕ)
     → Writes old middle before between a (Ok x) → Writes middle new between after b r → Writes old new before after (a ++ b) r
@@ -76,15 +72,6 @@ stops_writing e old new before after a b first = record {
   whole = tt;
   part = part_in_front old new a b first.part;
   cause = cause_of before after e first.cause;
-}
-
--- another value, the same text
-pub writes_as : {A B : Type 0} (x : A) (y : B) (old new : Option (List ℕ)) (before after : ℕ) (text : List ℕ)
-    → Writes old new before after text (Ok x) → Writes old new before after text (Ok y)
-writes_as x y old new before after text wrote = record {
-  whole = wrote.whole;
-  part = tt;
-  cause = done_cause y before after wrote.cause.kept;
 }
 
 -- ---- a line, if there was memory for it

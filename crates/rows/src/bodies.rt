@@ -5,7 +5,7 @@ use c_tree::{Func, Item, Unit};
 use std::alloc::{AllocError, Global};
 use w2c_base::{MODULE_BYTES, Memory};
 use wasm_binary::read_module;
-use wasm_valid::ValidModule;
+use wasm_valid::{Check, ValidModule};
 
 /// The module's name.
 const NAME: &[u8] = b"m";

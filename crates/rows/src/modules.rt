@@ -2,7 +2,7 @@
 use std::alloc::{AllocError, Global};
 use w2c_base::MODULE_BYTES;
 use wasm_binary::{ReadFault, read_module};
-use wasm_valid::{ValidModule, ValidRefusal};
+use wasm_valid::{Check, ValidModule, ValidRefusal};
 use wasm_writing::{Formed, write_module};
 
 /// Accepted, or the line of the first fault without the file's name.

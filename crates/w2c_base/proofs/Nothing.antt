@@ -1,5 +1,5 @@
 -- Lists of which some part, or what a function makes of them, is empty; and what two lists that are one begin with.
-use Rattle.std.proofs.Common.{◌≡◌, ℕ, zero, suc, List, [], ◌∷◌, ◌++◌, map, flat_map, Some, slice_get, refl, sym, ap, ◌∙◌}
+use Rattle.std.proofs.Common.{◌≡◌, ℕ, zero, suc, List, [], ◌∷◌, ◌++◌, map, flat_map, Some, None, slice_get, refl, sym, ap, ◌∙◌}
 
 pub same_parts : {A : Type 0} (x y : A) (xs ys : List A) → x ∷ xs ≡ y ∷ ys → (x ≡ y) × (xs ≡ ys)
 same_parts x y xs ys e = (cc, cc)
@@ -7,6 +7,10 @@ same_parts x y xs ys e = (cc, cc)
 pub append_none : {A : Type 0} (xs ys : List A) → xs ++ ys ≡ [] → (xs ≡ []) × (ys ≡ [])
 append_none [] ys e = (refl, e)
 append_none (x ∷ xs) ys e = absurd cc
+
+pub none_first : {A : Type 0} (xs : List A) → slice_get xs 0 ≡ None → xs ≡ []
+none_first [] e = refl
+none_first (x ∷ xs) e = absurd cc
 
 pub map_none : {A B : Type 0} (f : A → B) (xs : List A) → map f xs ≡ [] → xs ≡ []
 map_none f [] e = refl

@@ -1,5 +1,6 @@
 -- What holds of each element of a list, and of each of lists that it is made of.
-use Rattle.std.proofs.Common.{◌≡◌, ℕ, zero, suc, ◌<◌, List, [], ◌∷◌, ◌++◌, length, map, flat_map, Some, slice_get, refl, arith, subst, slice_index_or, Contains}
+use Rattle.std.proofs.Common.{◌≡◌, ℕ, zero, suc, ◌<◌, Bool, true, false, if◌then◌else◌, filter, List, [], ◌∷◌, ◌++◌, length, map, flat_map}
+use Rattle.std.proofs.Common.{Some, slice_get, refl, arith, subst, slice_index_or, Contains}
 use Rattle.std.specs.List.{AllByRecursion}
 
 pub of_each : {A : Type 0} (P Q : A → Type 0) → ((a : A) → P a → Q a) → (xs : List A) → AllByRecursion P xs → AllByRecursion Q xs
@@ -41,6 +42,14 @@ all_push P xs x all last = all_append P xs (x ∷ []) all (last, tt)
 pub all_split : {A : Type 0} (P : A → Type 0) (xs ys : List A) → AllByRecursion P (xs ++ ys) → AllByRecursion P xs × AllByRecursion P ys
 all_split P [] ys all = (tt, all)
 all_split P (x ∷ xs) ys all = let behind = all_split P xs ys all.1 in ((all.0, behind.0), behind.1)
+
+pub all_filtered : {A : Type 0} (P : A → Type 0) (keep : A → Bool) (xs : List A) → AllByRecursion P xs → AllByRecursion P (filter keep xs)
+all_filtered P keep [] all = tt
+all_filtered P keep (x ∷ xs) all = by (keep x) (all_filtered P keep xs all.1)
+  where
+    by : (b : Bool) → AllByRecursion P (filter keep xs) → AllByRecursion P (if b then x ∷ filter keep xs else filter keep xs)
+    by true behind = (all.0, behind)
+    by false behind = behind
 
 -- ---- of what a function makes of each
 

@@ -1,5 +1,8 @@
 -- What passes through files as one is written.
-use Rattle.w2c_files.proofs.Common.{◌≡◌, ℕ, true, List, [], ◌∷◌, ◌++◌, length, ◌==◌, Ok, Err, sym, refl, ap, ◌∙◌, append_assoc, append-nil, arith, both_put, file_written, finished_in_vain, nothing_put, one_put, part_behind, part_written, put_in_vain, Name, Begin, Event, Finish, Put, BreaksOff, Finishes, Passes, PutsPart, PutsText, WritesFile, WriteAnswer}
+use Rattle.w2c_files.proofs.Common.{◌≡◌, ℕ, true, List, [], ◌∷◌, ◌++◌, length, ◌==◌, Ok, Err, sym, refl, ap, ◌∙◌, append_assoc, append-nil}
+use Rattle.w2c_files.proofs.Common.{arith, both_put, file_written, finished_in_vain, nothing_put, one_put, part_behind, part_written}
+use Rattle.w2c_files.proofs.Common.{put_in_vain, Name, Begin, Event, Finish, Put, BreaksOff, Finishes, Passes, PutsPart, PutsText}
+use Rattle.w2c_files.proofs.Common.{WritesFile, WriteAnswer}
 use Rattle.std.proofs.lemmas.Bool.Decides.{nat_tests}
 
 -- a file was begun, and so much of it was put

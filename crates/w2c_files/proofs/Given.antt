@@ -1,5 +1,6 @@
 -- What reads gave is told by the calls: there is one list of bytes, and one last read.
-use Rattle.w2c_files.proofs.Common.{◌≡◌, ℕ, ◌+◌, List, [], ◌∷◌, ◌++◌, length, Ok, Result, sym, refl, ap, ◌∙◌, subst, arith, Name, Event, Read, ReadAnswer, ReadsAll, total}
+use Rattle.w2c_files.proofs.Common.{◌≡◌, ℕ, ◌+◌, List, [], ◌∷◌, ◌++◌, length, Ok, Result, sym, refl, ap, ◌∙◌, subst, arith, Name, Event}
+use Rattle.w2c_files.proofs.Common.{Read, ReadAnswer, ReadsAll, total}
 
 -- ---- lists of calls
 

@@ -1,7 +1,12 @@
 -- What files hold after calls that passed, where they behave as files.
-use Rattle.w2c_files.proofs.Common.{◌≡◌, ℕ, ◌≤◌, List, [], ◌∷◌, ◌++◌, length, Some, Ok, Err, Option, Result, sym, refl, ap, ◌∙◌, subst, inl, inr, append_assoc, append-nil, AllByRecursion, file_told, Contents, Name, Told, holding, Begin, Event, Finish, Put, Read, BreaksOff, FailsOn, PutsPart, PutsText, WritesFile, joined, puts, ReadAnswer, WriteAnswer, BreaksOffAt, ReadsAll, ReadsInOrder, WritesFiles, WritesSome, AreHeld, IsBegun, Stands, StandsAt, written}
+use Rattle.w2c_files.proofs.Common.{◌≡◌, ℕ, suc, ◌≤◌, List, [], ◌∷◌, ◌++◌, length, Some, Ok, Err, Option, Result, sym, refl, ap, ◌∙◌, subst}
+use Rattle.w2c_files.proofs.Common.{inl, inr, append_assoc, append-nil, AllByRecursion, file_told, Contents, Name, Told, holding, Event}
+use Rattle.w2c_files.proofs.Common.{Finish, Put, Read, BreaksOff, FailsOn, PutsPart, PutsText, WritesFile, joined, puts, ReadAnswer}
+use Rattle.w2c_files.proofs.Common.{WriteAnswer, BreaksOffAt, ReadsAll, ReadsInOrder, WritesFiles, WritesSome, AreHeld, IsBegun, Stands}
+use Rattle.w2c_files.proofs.Common.{StandsAt, written}
 use Rattle.w2c_io.specs.Honest.{AreHonest, Does}
 use Rattle.w2c_io.specs.declared.answers.ReadAnswer.TheVariants as reading
+use Rattle.w2c_files.specs.Passing.{FailsLast}
 use Rattle.w2c_files.proofs.Standing.{part_begun, put_more, whole_begun}
 
 -- one part, then the next
@@ -101,8 +106,7 @@ module _ (name : Name) (text : List ℕ) (old begun now : Told) (current at : Op
       (ends.0 ∙ put_more old here told there name front part holds is appended)
   rest_held front rest why (Put piece answer ∷ e ∷ events) here there split holds is fails honest = absurd fails
   rest_held front rest why (Read other limit answer ∷ events) here there split holds is fails honest = absurd fails
-  rest_held front rest why (Begin other answer ∷ events) here there split holds is fails honest = absurd fails
-  rest_held front rest why (Finish answer ∷ events) here there split holds is fails honest = absurd fails
+  rest_held front rest why (_ ∷ events) here there split holds is fails honest = absurd fails
 
   part_held : (why : WriteAnswer) (middle : List Event) → PutsPart text why middle → AreHonest middle begun current now at
       → IsBegun old now name text
@@ -171,3 +175,20 @@ some_stand files events old new current after (inl s) honest = inl (record {
 })
 some_stand files events old new current after (inr (name, why, at)) honest =
     inr (name, broken_stands files name why events old new current after at honest)
+
+-- ---- as many texts as names, and a read that fails behind others
+
+pub as_many : (contents : Contents) (names : List Name) (texts : List (List ℕ)) → AreHeld contents names texts
+    → length texts ≡ length names
+as_many contents [] [] held = refl
+as_many contents (n ∷ names) (t ∷ texts) held = ap suc (as_many contents names texts held.1)
+as_many contents [] (t ∷ texts) held = absurd held
+as_many contents (n ∷ names) [] held = absurd held
+
+pub fails_behind : (file : Name) (first last given : List Event) → given ≡ first ++ last → FailsLast file last → FailsLast file given
+fails_behind file first last given split (front, limit, is) = (
+  first ++ front,
+  limit,
+  split ∙ ap (λ (l : List Event). first ++ l) is
+      ∙ sym (append_assoc first front (Read file limit (Err reading.Failed) ∷ [])),
+)

@@ -1,5 +1,6 @@
 -- Files that are read in order, as far as they give bytes.
-use Rattle.w2c_files.proofs.Common.{◌≡◌, ℕ, List, [], ◌∷◌, ◌++◌, Result, sym, refl, subst, inl, inr, append-nil, Name, Event, Read, ReadAnswer, ReadsAll, ReadsInOrder, ReadsSome, limited, ReadStop}
+use Rattle.w2c_files.proofs.Common.{◌≡◌, ℕ, List, [], ◌∷◌, ◌++◌, Result, sym, refl, subst, inl, inr, append-nil, Name, Event, Read}
+use Rattle.w2c_files.proofs.Common.{ReadAnswer, ReadsAll, ReadsInOrder, ReadsSome, limited, ReadStop}
 use Rattle.std.proofs.lemmas.List.{map-append}
 
 -- files that gave bytes, then others

@@ -1,5 +1,6 @@
 -- What passes through files that are written one after another.
-use Rattle.w2c_files.proofs.Common.{ℕ, List, [], ◌∷◌, ◌++◌, sym, refl, ap, ◌∙◌, inl, inr, append_assoc, append-nil, Name, Event, BreaksOff, WritesFile, WriteAnswer, BreaksOffAt, WritesFiles, WritesSome}
+use Rattle.w2c_files.proofs.Common.{ℕ, List, [], ◌∷◌, ◌++◌, sym, refl, ap, ◌∙◌, inl, inr, append_assoc, append-nil, Name, Event, BreaksOff}
+use Rattle.w2c_files.proofs.Common.{WritesFile, WriteAnswer, BreaksOffAt, WritesFiles, WritesSome}
 
 pub none_written : WritesFiles [] []
 none_written = refl

@@ -1,5 +1,8 @@
 -- What passed through files that are read one after another.
-use Rattle.w2c_files.proofs.Common.{◌≡◌, ℕ, suc, ◌+◌, ◌-◌, List, [], ◌∷◌, ◌++◌, length, take, drop, IsErrAnd, IfErr, slice_get, Some, Ok, Err, Result, sym, refl, ap, ◌∙◌, subst, inl, inr, append_assoc, append-nil, arith, take_next, Name, Event, Read, Passes, ReadsAll, ReadsOne, ReadsSome, StopsBy, total, ReadStop}
+use Rattle.w2c_files.proofs.Common.{◌≡◌, ℕ, suc, ◌+◌, ◌-◌, List, [], ◌∷◌, ◌++◌, length, take, drop, IsErrAnd, IfErr, slice_get, Some, Ok}
+use Rattle.w2c_files.proofs.Common.{Err, Result, sym, refl, ap, ◌∙◌, subst, inl, inr, append_assoc, append-nil, arith, take_next, Name}
+use Rattle.w2c_files.proofs.Common.{Event, Read, Passes, ReadsAll, ReadsOne, ReadsSome, StopsBy, total, ReadStop}
+use Rattle.std.proofs.Math.Seq.{take-length}
 use Rattle.w2c_files.specs.declared.reading.ReadStop.TheVariants as stop
 use Rattle.w2c_files.proofs.Loops.{split_at}
 
@@ -64,11 +67,7 @@ memory_stops each most old new names front rest all split (events, is, reads) =
 pub all_passed : (each : ℕ) (old new : List Event) (names : List Name) (k : ℕ) (all : List (List ℕ)) → k ≡ length names
     → Passes old new (ReadsAll each (take k names) all) → Passes old new (ReadsAll each names all)
 all_passed each old new names k all end (events, is, reads) =
-    (events, is, subst (λ (l : List Name). ReadsAll each l all events) (ap (λ n. take n names) end ∙ take_all names) reads)
-  where
-    take_all : (ns : List Name) → take (length ns) ns ≡ ns
-    take_all [] = refl
-    take_all (n ∷ ns) = ap (λ (l : List Name). n ∷ l) (take_all ns)
+    (events, is, subst (λ (l : List Name). ReadsAll each l all events) (ap (λ n. take n names) end ∙ take-length names) reads)
 
 pub if_memory : {A : Type 0} (r : Result A ReadStop) (P : ReadStop → Type 0) → IsErrAnd r (λ e. e ≡ stop.Memory) → P stop.Memory → IfErr r P
 if_memory (Ok x) P is p = tt

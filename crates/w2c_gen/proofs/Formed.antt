@@ -1,10 +1,17 @@
 -- A generated module has a file, and one shortest file.
-use Rattle.w2c_gen.proofs.Common.{◌≡◌, ℕ, zero, suc, ◌+◌, ◌-◌, ◌*◌, ◌%◌, ◌^◌, ◌<◌, ◌≤◌, Bool, true, false, List, map, length, replicate, ℤ, pos, ◌-ℤ◌, if◌then◌else◌, IsTrue, nat_eq, ◌==◌, slice_index, sym, refl, ap, ◌∙◌, subst, inl, inr, arith, le-ltb, lt-ltb, eq-eqb, le-leb, cases_lt, ints, length-map-range_with_len, range_with_len, InRange, Call, end_code, then_code, AreBytes, Fields, finished, bodies, code, code_fields, content, data_count, each, elements, exports, func_entry, functions, globals, imports, instr_fields, magic, memories, segments, start, tables, types, version, IsFormed, short_file_spells, short_fields, body_of, code_with, generated, of_first_type, operator, run_name, signed_reading, IsGeneratedFile, number_at}
+use Rattle.w2c_gen.proofs.Common.{◌≡◌, ℕ, zero, suc, ◌+◌, ◌-◌, ◌*◌, ◌%◌, ◌^◌, ◌<◌, ◌≤◌, Bool, true, false, List, map, length, replicate, ℤ}
+use Rattle.w2c_gen.proofs.Common.{pos, ◌-ℤ◌, if◌then◌else◌, IsTrue, nat_eq, ◌==◌, slice_index, sym, refl, ap, ◌∙◌, subst, inl, inr, arith}
+use Rattle.w2c_gen.proofs.Common.{le-ltb, lt-ltb, eq-eqb, le-leb, cases_lt, ints, length-map-range_with_len, range_with_len, InRange, Call}
+use Rattle.w2c_gen.proofs.Common.{end_code, then_code, AreBytes, Fields, finished, bodies, code, code_fields, content, data_count, each}
+use Rattle.w2c_gen.proofs.Common.{elements, exports, func_entry, functions, globals, imports, instr_fields, magic, memories, segments}
+use Rattle.w2c_gen.proofs.Common.{start, tables, types, version, IsFormed, short_file_spells, short_fields, body_of, code_with, generated}
+use Rattle.w2c_gen.proofs.Common.{of_first_type, operator, run_name, signed_reading, IsGeneratedFile, number_at}
 use Rattle.std.specs.Str.{is_utf8}
 use Rattle.std.proofs.lemmas.Str.{IsUtf8-from_ascii, is_utf8-from_IsUtf8}
 use Rattle.std.proofs.lemmas.List.{length-replicate}
-use Rattle.wasm_spelling.specs.Limits.{most_functions, most_module_bytes}
-use Rattle.w2c_gen.proofs.Within.{Within, within_more, within_finished, within_byte, within_text, within_here, within_provided, within_number, within_signed, within_window, within_empty, within_filled}
+use Rattle.wasm_tree.specs.Limits.{most_functions, most_module_bytes}
+use Rattle.w2c_gen.proofs.Within.{Within, within_more, within_finished, within_byte, within_text, within_here, within_provided}
+use Rattle.w2c_gen.proofs.Within.{within_number, within_signed, within_window, within_empty, within_filled}
 
 -- 32 bits that are read with a sign, by whether the sign is clear
 abbrev sign : ℕ → Bool → ℤ

@@ -1,13 +1,15 @@
-mod Common
-pub mod Numbers
-pub mod TypedAgain
-pub mod Lists
-pub mod Valid
-pub mod ShortestBytes
-pub mod Bytes
-pub mod OnlyOne
-pub mod Within
+-- What crates above cite.
 pub mod Formed
-pub mod Files
-pub mod ShortPieces
-pub mod Samples
+-- What the crate's own proofs cite.
+mod Common
+mod Numbers
+mod TypedAgain
+mod Lists
+mod Valid
+mod ShortestBytes
+mod Bytes
+mod OnlyOne
+mod Within
+mod Files
+mod ShortPieces
+mod Samples

@@ -1,5 +1,6 @@
 -- The numbers and the bodies, one more.
-use Rattle.w2c_gen.proofs.Common.{◌≡◌, ℕ, suc, ◌+◌, List, [], ◌∷◌, ◌++◌, map, sym, ap, ◌∙◌, arith, map-range_with_len_more, range_with_len, BodyEntry, body_of, body_with, next_number, number_at}
+use Rattle.w2c_gen.proofs.Common.{◌≡◌, ℕ, suc, ◌+◌, List, [], ◌∷◌, ◌++◌, map, sym, ap, ◌∙◌, arith, map-range_with_len_more, range_with_len}
+use Rattle.w2c_gen.proofs.Common.{BodyEntry, body_of, body_with, next_number, number_at}
 
 pub number_more : (n k x y : ℕ) → x ≡ number_at n k → y ≡ next_number x → y ≡ number_at n (k + 1)
 number_more n k x y e f =

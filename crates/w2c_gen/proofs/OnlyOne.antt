@@ -1,5 +1,6 @@
 -- Fields that are spelled in the shortest way by one list of bytes at most.
-use Rattle.w2c_gen.proofs.Common.{◌≡◌, ℕ, ◌<◌, List, ◌++◌, length, ℤ, sym, ap, ◌∙◌, subst, all_split, SpellsSigned, SpellsUnsigned, one_shortest_signed, one_shortest_unsigned, IsShortest, AreBytes, Fields, window}
+use Rattle.w2c_gen.proofs.Common.{◌≡◌, ℕ, ◌<◌, List, ◌++◌, length, ℤ, sym, ap, ◌∙◌, subst, all_split, SpellsSigned, SpellsUnsigned}
+use Rattle.w2c_gen.proofs.Common.{one_shortest_signed, one_shortest_unsigned, IsShortest, AreBytes, Fields, window}
 use Rattle.std.proofs.lemmas.List.Elements.{All-from_recursion}
 use Rattle.wasm_writing.specs.Aside.{Next, SpelledBy, SpelledShort}
 

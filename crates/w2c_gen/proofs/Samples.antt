@@ -1,9 +1,12 @@
 -- The files of one and of two functions.
-use Rattle.w2c_gen.proofs.Common.{ℕ, [], ◌∷◌, ◌++◌, pos, refl, arith, SpellsSigned, IsShortest, finished, code, content, data_count, elements, exports, functions, globals, imports, memories, segments, start, tables, types, short_fields, generated, IsGeneratedFile}
+use Rattle.w2c_gen.proofs.Common.{ℕ, [], ◌∷◌, ◌++◌, pos, refl, arith, SpellsSigned, IsShortest, finished, code, content, data_count}
+use Rattle.w2c_gen.proofs.Common.{elements, exports, functions, globals, imports, memories, segments, start, tables, types, short_fields}
+use Rattle.w2c_gen.proofs.Common.{generated, IsGeneratedFile}
 use Rattle.w2c_gen.specs.Samples.{one_type, one_export, only_body, first_body, second_body, file_of_one, file_of_two}
 use Rattle.w2c_gen.proofs.Bytes.{tested_bytes}
 use Rattle.w2c_gen.proofs.Formed.{run_is_text}
-use Rattle.w2c_gen.proofs.ShortPieces.{Short, finished_short, byte_short, text_short, here_short, provided_short, number_short, window_short, signed_short, five_short, empty_short, section_short}
+use Rattle.w2c_gen.proofs.ShortPieces.{Short, finished_short, byte_short, text_short, here_short, provided_short, number_short}
+use Rattle.w2c_gen.proofs.ShortPieces.{window_short, signed_short, five_short, empty_short, section_short}
 
 types_short : (n : ℕ) → Short (content types (generated n) finished) one_type
 types_short n =

@@ -1,5 +1,8 @@
 -- Bytes that spell fields in the shortest way, piece by piece.
-use Rattle.w2c_gen.proofs.Common.{◌≡◌, ℕ, zero, suc, ◌*◌, ◌^◌, ◌<◌, ◌≤◌, Bool, true, false, List, [], ◌∷◌, ◌++◌, length, ℤ, pos, IsTrue, sym, refl, subst, arith, ints, IsNumberRun, SpellsSigned, SpellsUnsigned, seven_bit_sum, signed_sum, signed_shortest, unsigned_shortest, InRange, IsShortest, Module, Fields, byte, finished, here, number, provided, signed, text, window, Part, content, id_of, is_empty, filled-empty, filled-full, filled}
+use Rattle.w2c_gen.proofs.Common.{◌≡◌, ℕ, zero, suc, ◌*◌, ◌^◌, ◌<◌, ◌≤◌, Bool, true, false, List, [], ◌∷◌, ◌++◌, length, ℤ, pos, IsTrue}
+use Rattle.w2c_gen.proofs.Common.{sym, refl, subst, arith, ints, IsNumberRun, SpellsSigned, SpellsUnsigned, seven_bit_sum, signed_sum}
+use Rattle.w2c_gen.proofs.Common.{signed_shortest, unsigned_shortest, InRange, IsShortest, Module, Fields, byte, finished, here, number}
+use Rattle.w2c_gen.proofs.Common.{provided, signed, text, window, Part, content, id_of, is_empty, filled-empty, filled-full, filled}
 use Rattle.wasm_writing.specs.Aside.{SpelledBy, SpelledShort}
 
 pub record Short (fields : Fields) (bytes : List ℕ) : Type 0 where

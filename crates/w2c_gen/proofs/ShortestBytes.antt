@@ -1,5 +1,6 @@
 -- Each number of 32 bits has a shortest spelling in bytes.
-use Rattle.w2c_gen.proofs.Common.{◌≡◌, ℕ, ◌+◌, ◌%◌, ◌^◌, ◌<◌, List, [], ◌∷◌, length, ℤ, sym, refl, ap, ◌∙◌, arith, IsNumberRun, SpellsSigned, SpellsUnsigned, seven_bit_sum, signed_sum, InRange, IsShortest, AreBytes}
+use Rattle.w2c_gen.proofs.Common.{◌≡◌, ℕ, ◌+◌, ◌%◌, ◌^◌, ◌<◌, List, [], ◌∷◌, length, ℤ, sym, refl, ap, ◌∙◌, arith, IsNumberRun}
+use Rattle.w2c_gen.proofs.Common.{SpellsSigned, SpellsUnsigned, seven_bit_sum, signed_sum, InRange, IsShortest, AreBytes}
 use Rattle.leb_bytes.proofs.Existence.{shortest_signed, shortest_unsigned}
 
 -- of all but the last what counts is the low seven bits, and that they are at least 128

@@ -1,5 +1,6 @@
 -- Code has the types that it has with every place 0.
-use Rattle.w2c_gen.proofs.Common.{[], ◌∷◌, None, Option, Block, Code, If, Kind, Loop, Otherwise, else_code, end_code, no_else, then_code, bare_code, bare_kind, bare_otherwise, Context, Labels, ElseHasType, HasType, KindHasType, Stack, values}
+use Rattle.w2c_gen.proofs.Common.{[], ◌∷◌, None, Option, Block, Code, If, Kind, Loop, Otherwise, else_code, end_code, no_else, then_code}
+use Rattle.w2c_gen.proofs.Common.{bare_code, bare_kind, bare_otherwise, Context, Labels, ElseHasType, HasType, KindHasType, Stack, values}
 use Rattle.w2c_base.specs.declared.value.ValType.{ValType}
 
 mutual

@@ -1,8 +1,15 @@
 -- A generated module is valid, whatever its places are.
-use Rattle.w2c_gen.proofs.Common.{◌≡◌, ℕ, zero, suc, ◌+◌, ◌-◌, ◌%◌, ◌<◌, ◌≤◌, Bool, true, false, List, [], ◌∷◌, map, replicate, is_none, if◌then◌else◌, ◌==◌, slice_get, Some, None, Option, option_map, zip, flat_map, sym, refl, ap, ◌∙◌, subst, arith, range_with_len, Call, end_code, then_code, BodyEntry, Module, SameApartFromPlaces, bare_body, bare_code, bare_data_count, bare_export, bare_func, bare_kind, bare_start, bare_type, Context, Labels, context_of, BodyHasType, HasType, KindHasType, body_of, code_with, generated, number_to_number, of_first_type, operator, run_export, run_name, number_at}
+use Rattle.w2c_gen.proofs.Common.{◌≡◌, ℕ, zero, suc, ◌+◌, ◌-◌, ◌%◌, ◌<◌, ◌≤◌, Bool, true, false, List, [], ◌∷◌, map, replicate, is_none}
+use Rattle.w2c_gen.proofs.Common.{if◌then◌else◌, ◌==◌, slice_get, Some, None, Option, option_map, zip, flat_map, sym, refl, ap, ◌∙◌, subst}
+use Rattle.w2c_gen.proofs.Common.{arith, range_with_len, Call, end_code, then_code, BodyEntry, Module, SameApartFromPlaces, bare_body}
+use Rattle.w2c_gen.proofs.Common.{bare_code, bare_data_count, bare_export, bare_func, bare_kind, bare_start, bare_type, Context, Labels}
+use Rattle.w2c_gen.proofs.Common.{context_of, BodyHasType, HasType, KindHasType, body_of, code_with, generated, number_to_number}
+use Rattle.w2c_gen.proofs.Common.{of_first_type, operator, run_export, run_name, number_at}
 use Rattle.std.proofs.lemmas.Option.{slice_get-map}
 use Rattle.w2c_base.specs.declared.value.ValType.TheVariants.{I32}
 use Rattle.w2c_base.specs.declared.signature.FuncType.{FuncType}
+use Rattle.w2c_base.proofs.Places.{get_replicated}
+use Rattle.w2c_base.proofs.Nothing.{map_none}
 use Rattle.wasm_tree.specs.IndexSpaces.{func_space, type_in}
 use Rattle.wasm_tree.specs.declared.entries.TypeEntry.{TypeEntry}
 use Rattle.wasm_tree.specs.declared.entries.FuncEntry.{FuncEntry}
@@ -10,11 +17,11 @@ use Rattle.wasm_tree.specs.declared.entries.Export.{Export}
 use Rattle.wasm_tree.specs.declared.entries.ExportKind.TheVariants.{Func as ExportFunc}
 use Rattle.wasm_tree.specs.declared.entries.Start.{Start}
 use Rattle.wasm_tree.specs.declared.entries.DataCount.{DataCount}
-use Rattle.wasm_valid.specs.declared.fault.ValidCause.TheVariants as cause
-use Rattle.wasm_valid.specs.ModuleFaults.{fault_if, is_out, module_faults}
-use Rattle.wasm_valid.specs.Verdict.{AreTyped, IsTyped, IsValid}
-use Rattle.w2c_gen.proofs.Lists.{none_of, one_of, slice_get-replicate}
+use Rattle.w2c_gen.proofs.Lists.{one_of}
 use Rattle.w2c_gen.proofs.TypedAgain.{typed_again}
+use Rattle.wasm_typing.specs.declared.fault.ValidCause.TheVariants as cause
+use Rattle.wasm_typing.specs.ModuleFaults.{fault_if, is_out, module_faults}
+use Rattle.wasm_typing.specs.Verdict.{AreTyped, IsTyped, IsValid}
 
 abbrev its_type : FuncType
 its_type = number_to_number.ty
@@ -131,7 +138,7 @@ no_faults n p q r fs bodies some e =
     let m = placed n p q r fs bodies in
     let types = no_type_faults m fs refl (are_first n fs e) in
     let there : is_out (map (λ f. f.type_index) fs) (n - 1) ≡ false =
-    ap (λ l. is_out l (n - 1)) e ∙ ap is_none (slice_get-replicate n (n - 1) 0 (omega arith)) in
+    ap (λ l. is_out l (n - 1)) e ∙ ap is_none (get_replicated n (n - 1) 0 (omega arith)) in
     rw (types, there) refl
 
 placed_valid : (n p q r : ℕ) (fs : List FuncEntry) (bodies : List BodyEntry) → 1 ≤ n → map (λ f. f.type_index) fs ≡ replicate n 0
@@ -140,7 +147,7 @@ placed_valid n p q r fs bodies some e b =
     let m = placed n p q r fs bodies in
     let all : (index : ℕ) → index < n → slice_get (map (type_in m) (func_space m)) index ≡ Some (Some its_type) = λ index h.
     slice_get-map (type_in m) (func_space m) index ∙ ap (λ l. option_map (type_in m) (slice_get l index)) e
-    ∙ ap (option_map (type_in m)) (slice_get-replicate n index 0 h) in
+    ∙ ap (option_map (type_in m)) (get_replicated n index 0 h) in
     record {
       no_faults = no_faults n p q r fs bodies some e;
       bodies = bodies_typed m n 0 n fs bodies (omega arith) refl all (are_first n fs e) b;
@@ -150,14 +157,14 @@ pub generated_valid : (n : ℕ) (u : Module) → 1 ≤ n → SameApartFromPlaces
 generated_valid n u some e =
     let ty = one_of bare_type number_to_number u.types (sym (ap (λ (m : Module). m.types) e)) in
     let ex = one_of bare_export (run_export (n - 1)) u.exports (sym (ap (λ (m : Module). m.exports) e)) in
-    let imports = none_of _ u.imports (sym (ap (λ (m : Module). m.imports) e)) in
-    let tables = none_of _ u.tables (sym (ap (λ (m : Module). m.tables) e)) in
-    let memories = none_of _ u.memories (sym (ap (λ (m : Module). m.memories) e)) in
-    let globals = none_of _ u.globals (sym (ap (λ (m : Module). m.globals) e)) in
+    let imports = map_none _ u.imports (sym (ap (λ (m : Module). m.imports) e)) in
+    let tables = map_none _ u.tables (sym (ap (λ (m : Module). m.tables) e)) in
+    let memories = map_none _ u.memories (sym (ap (λ (m : Module). m.memories) e)) in
+    let globals = map_none _ u.globals (sym (ap (λ (m : Module). m.globals) e)) in
     let start = no_start u.start (sym (ap (λ (m : Module). m.start) e)) in
-    let elements = none_of _ u.elements (sym (ap (λ (m : Module). m.elements) e)) in
+    let elements = map_none _ u.elements (sym (ap (λ (m : Module). m.elements) e)) in
     let data_count = no_data_count u.data_count (sym (ap (λ (m : Module). m.data_count) e)) in
-    let segments = none_of _ u.segments (sym (ap (λ (m : Module). m.segments) e)) in
+    let segments = map_none _ u.segments (sym (ap (λ (m : Module). m.segments) e)) in
     let its : u.types ≡ record { place = ty.0.place; ty = its_type } ∷ [] =
     ty.1 ∙ ap (λ (t : TypeEntry). record { place = ty.0.place; ty = t.ty } ∷ []) ty.2 in
     let exported : u.exports ≡ export_at n ex.0.name_place ex.0.index_place ∷ [] =

@@ -1,5 +1,8 @@
 -- Fields that exactly one list of bytes spells in the shortest way, which has at most so many.
-use Rattle.w2c_gen.proofs.Common.{◌≡◌, ℕ, ◌+◌, ◌^◌, ◌<◌, ◌≤◌, Bool, true, List, [], ◌∷◌, ◌++◌, length, ℤ, IsTrue, sym, refl, subst, inl, inr, arith, length-append, cases_Bool, all_append, SpellsSigned, SpellsUnsigned, InRange, IsShortest, Module, AreBytes, Fields, byte, finished, here, number, provided, signed, text, window, Part, code, content, data_count, elements, exports, functions, globals, id_of, imports, is_empty, memories, segments, start, tables, types, filled-empty, filled-full, filled}
+use Rattle.w2c_gen.proofs.Common.{◌≡◌, ℕ, ◌+◌, ◌^◌, ◌<◌, ◌≤◌, Bool, true, List, [], ◌∷◌, ◌++◌, length, ℤ, IsTrue, sym, refl, subst, inl}
+use Rattle.w2c_gen.proofs.Common.{inr, arith, length-append, cases_Bool, all_append, SpellsSigned, SpellsUnsigned, InRange, IsShortest}
+use Rattle.w2c_gen.proofs.Common.{Module, AreBytes, Fields, byte, finished, here, number, provided, signed, text, window, Part, content}
+use Rattle.w2c_gen.proofs.Common.{id_of, is_empty, types, filled-empty, filled-full, filled}
 use Rattle.wasm_writing.specs.Aside.{SpelledBy, SpelledShort}
 use Rattle.w2c_gen.proofs.ShortestBytes.{signed_in_bytes, unsigned_in_bytes}
 use Rattle.w2c_gen.proofs.OnlyOne.{OnlyOne, one_list, one_next, one_number, one_signed, one_window}
@@ -105,17 +108,7 @@ within_window {inside} {rest} small v w =
 
 id_small : (part : Part) → id_of part < 256
 id_small types = omega arith
-id_small imports = omega arith
-id_small functions = omega arith
-id_small tables = omega arith
-id_small memories = omega arith
-id_small globals = omega arith
-id_small exports = omega arith
-id_small start = omega arith
-id_small elements = omega arith
-id_small data_count = omega arith
-id_small code = omega arith
-id_small segments = omega arith
+id_small _ = omega arith
 
 pub within_empty : (t : Module) (part : Part) {rest : Fields} {n : ℕ} → is_empty part t ≡ true → Within rest n
     → Within (filled t part rest) n

@@ -1,7 +1,8 @@
 -- The generated module of n functions (WebAssembly Core 1.0, 2.5). Each computes with its argument and a number of its
 -- own, and most then call the function before them, so that a call of the last runs through at most a thousand. Every
 -- place is 0.
-use Rattle.std.specs.Prelude.{ℕ, ℤ, pos, zero, suc, ◌-◌, ◌-ℤ◌, ◌%◌, ◌^◌, ◌==◌, nat_lt, if◌then◌else◌, List, [], ◌∷◌, map, replicate, Some, None}
+use Rattle.std.specs.Prelude.{ℕ, ℤ, pos, zero, suc, ◌-◌, ◌-ℤ◌, ◌%◌, ◌^◌, ◌==◌, nat_lt, if◌then◌else◌, List, [], ◌∷◌, map, replicate, Some}
+use Rattle.std.specs.Prelude.{None}
 use Rattle.std.specs.List.{range_with_len}
 use Rattle.w2c_base.specs.declared.value.ValType.TheVariants as type
 use Rattle.wasm_tree.specs.Instructions.{Code, end_code, then_code, Kind, LocalGet, I32Const, Call, Binary}

@@ -1,9 +1,9 @@
 -- The file of a generated module, and what is said of it.
 use Rattle.std.specs.Prelude.{ℕ, List}
 use Rattle.wasm_tree.specs.declared.tree.Module.{Module}
-use Rattle.wasm_spelling.specs.Bytes.{AreBytes}
+use Rattle.wasm_tree.specs.Bytes.{AreBytes}
 use Rattle.wasm_spelling.specs.Places.{SameApartFromPlaces}
-use Rattle.wasm_valid.specs.Verdict.{Accepted}
+use Rattle.wasm_typing.specs.Verdict.{Accepted}
 use Rattle.wasm_valid.specs.FileVerdict.{Read, IsVerdictOn}
 use Rattle.wasm_writing.specs.ShortFile.{IsShortFile}
 use Rattle.w2c_gen.specs.Generated.{generated}

@@ -1,6 +1,6 @@
 // The file of a generated module.
 ghost use Rattle.std.specs.Prelude.{◌≤◌, IfOk, length};
-ghost use Rattle.wasm_spelling.specs.Bytes.{AreBytes};
+ghost use Rattle.wasm_tree.specs.Bytes.{AreBytes};
 ghost use Rattle.w2c_gen.specs.Generated.{generated};
 ghost use Rattle.w2c_gen.specs.GeneratedFile.{IsGeneratedFile, IsAcceptedAs};
 

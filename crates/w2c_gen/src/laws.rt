@@ -2,7 +2,7 @@
 ghost use Rattle.std.specs.Prelude.{ℕ, ◌≡◌, List, ◌≤◌, length};
 ghost use Rattle.wasm_tree.specs.declared.tree.Module.{Module as Tree};
 ghost use Rattle.wasm_spelling.specs.Places.{IsFormed, SameApartFromPlaces, SpellsAside};
-ghost use Rattle.wasm_valid.specs.Verdict.{IsValid};
+ghost use Rattle.wasm_typing.specs.Verdict.{IsValid};
 ghost use Rattle.w2c_gen.specs.Generated.{generated};
 ghost use Rattle.w2c_gen.specs.GeneratedFile.{IsAcceptedAs, IsGeneratedFile};
 ghost use Rattle.w2c_gen.specs.Samples.{file_of_one, file_of_two};

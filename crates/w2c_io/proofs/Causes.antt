@@ -1,5 +1,6 @@
 -- Causes of a call behind others, in which counts and names have stayed.
-use Rattle.w2c_io.proofs.Common.{◌≡◌, ℕ, ◌≤◌, Ok, Err, Option, Result, ap, ◌∙◌, subst, arith, WriteCause, name_after_write, Name, WriteAnswer}
+use Rattle.w2c_io.proofs.Common.{◌≡◌, ℕ, ◌≤◌, Ok, Err, Option, Result, ap, ◌∙◌, subst, arith, WriteCause, name_after_write, Name}
+use Rattle.w2c_io.proofs.Common.{WriteAnswer}
 use Rattle.w2c_io.specs.declared.answers.WriteAnswer.TheVariants as writing
 
 -- the last call's cause

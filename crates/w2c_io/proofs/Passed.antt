@@ -1,5 +1,6 @@
 -- What passed through files in calls one after another.
-use Rattle.w2c_io.proofs.Common.{◌≡◌, ℕ, List, [], ◌∷◌, ◌++◌, IfErr, OnOk, Ok, Err, Result, sym, refl, ap, ◌∙◌, subst, inl, inr, append_assoc, append-nil, Name, Begin, Event, Finish, Put, Read, WriteAnswer}
+use Rattle.w2c_io.proofs.Common.{◌≡◌, ℕ, List, [], ◌∷◌, ◌++◌, IfErr, OnOk, Ok, Err, Result, sym, refl, ap, ◌∙◌, subst, inl, inr}
+use Rattle.w2c_io.proofs.Common.{append_assoc, append-nil, Name, Begin, Event, Finish, Put, Read, WriteAnswer}
 use Rattle.w2c_io.specs.declared.answers.WriteAnswer.TheVariants as writing
 use Rattle.w2c_io.specs.Passed.{Passes, puts, joined, PutsText, PutsPart, FailsOn, WritesFile, BreaksOff, Finishes}
 
@@ -94,8 +95,7 @@ part_behind whole front back rest why first last split (pieces, is, calls) part 
         (is, (behind ++ more, ap (λ (l : List ℕ). l ++ more) split ∙ append_assoc piece behind more))
     fails_longer rest more why (Put piece answer ∷ e ∷ events) h = absurd h
     fails_longer rest more why (Read name limit answer ∷ events) h = absurd h
-    fails_longer rest more why (Begin name answer ∷ events) h = absurd h
-    fails_longer rest more why (Finish answer ∷ events) h = absurd h
+    fails_longer rest more why (_ ∷ events) h = absurd h
 
 -- ---- texts in pieces, in calls one after another
 

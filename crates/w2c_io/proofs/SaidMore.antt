@@ -1,5 +1,6 @@
 -- One piece more.
-use Rattle.w2c_io.proofs.Common.{◌≡◌, ℕ, List, [], ◌∷◌, ◌++◌, OnOk, OnErr, Some, Ok, Err, Result, sym, refl, ap, ◌∙◌, append_assoc, append-nil, IsPrefix, extended, Begin, Event, Finish, Put, Read, WriteAnswer}
+use Rattle.w2c_io.proofs.Common.{◌≡◌, ℕ, List, [], ◌∷◌, ◌++◌, OnOk, OnErr, Some, Ok, Err, Result, sym, refl, ap, ◌∙◌, append_assoc}
+use Rattle.w2c_io.proofs.Common.{append-nil, IsPrefix, extended, Event, Put, Read, WriteAnswer}
 use Rattle.w2c_io.specs.Said.{said, taken}
 
 said_more : (events : List Event) (piece : List ℕ) (answer : Result (Unit {0}) WriteAnswer)
@@ -8,8 +9,7 @@ said_more [] piece answer = append-nil (taken piece answer)
 said_more (Put p a ∷ events) piece answer =
     ap (λ (l : List ℕ). taken p a ++ l) (said_more events piece answer) ∙ sym (append_assoc (taken p a) (said events) (taken piece answer))
 said_more (Read n l a ∷ events) piece answer = said_more events piece answer
-said_more (Begin n a ∷ events) piece answer = said_more events piece answer
-said_more (Finish a ∷ events) piece answer = said_more events piece answer
+said_more (_ ∷ events) piece answer = said_more events piece answer
 
 pub put_whole : (old new : List Event) (piece : List ℕ) (answer : Result (Unit {0}) WriteAnswer) → new ≡ old ++ Put piece answer ∷ []
     → OnOk answer (Some (said new) ≡ extended (Some (said old)) piece)

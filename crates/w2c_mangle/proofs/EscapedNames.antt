@@ -1,5 +1,6 @@
 -- Escaped names are told apart: no escape of a byte begins another, and none begins with Z_.
-use Rattle.std.proofs.Common.{◌≡◌, ℕ, ◌/◌, ◌%◌, ◌<◌, ◌⊎◌, true, false, cond, List, [], ◌∷◌, ◌++◌, length, All, refl, sym, ◌∙◌, ap, subst, inl, inr, arith, append_assoc}
+use Rattle.std.proofs.Common.{◌≡◌, ℕ, ◌/◌, ◌%◌, ◌<◌, ◌⊎◌, true, false, cond, List, [], ◌∷◌, ◌++◌, length, codes, All, refl, sym, ◌∙◌, ap}
+use Rattle.std.proofs.Common.{subst, inl, inr, arith, append_assoc}
 use Rattle.std.proofs.lemmas.Bool.Decides.{nat_tests}
 use Rattle.std.proofs.lemmas.List.Elements.{All-head, All-tail}
 use Rattle.w2c_mangle.specs.Escaping.{stays, hexadecimal_digit, escaped_byte, escaped}
@@ -104,3 +105,12 @@ escaped-no_rest (b ∷ m) [] r more none _ e =
 escaped-no_rest (b ∷ m) (c ∷ n) r more none small e =
     let first = escaped_byte-prefix c b (escaped n) (escaped m ++ r) (e ∙ escaped-cons b m r) in
     escaped-no_rest m n r more none (All-tail (λ b. b < 256) c n small) first.1
+
+-- no escape is the word Z
+pub escaped_apart : (name : List ℕ) → escaped name ≡ codes "Z" → ⊥
+escaped_apart [] e = absurd cc
+escaped_apart (b ∷ name) e =
+    elim (escaped_byte-cases b) [
+      | inl p ↦ let same : b ∷ escaped name ≡ codes "Z" = sym (ap (λ l. l ++ escaped name) p.1) ∙ e in absurd (stays-not_Z b p.0 (cc))
+      | inr p ↦ let same : z_escape b ++ escaped name ≡ codes "Z" = sym (ap (λ l. l ++ escaped name) p.1) ∙ e in cc
+    ]

@@ -1,2 +1,3 @@
+-- What crates above cite.
 pub mod EscapedNames
 pub mod SymbolNames

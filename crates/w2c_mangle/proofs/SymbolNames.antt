@@ -1,10 +1,12 @@
 -- Symbols are told apart, and are C identifiers.
-use Rattle.std.proofs.Common.{◌≡◌, ℕ, ◌/◌, ◌%◌, ◌<◌, Bool, true, ◌&&◌, nat_eq, cond, List, [], ◌∷◌, ◌++◌, All, codes, refl, sym, ◌∙◌, ap, inl, inr, arith, append_assoc}
+use Rattle.std.proofs.Common.{◌≡◌, ℕ, ◌/◌, ◌%◌, ◌<◌, true, ◌&&◌, nat_eq, cond, List, [], ◌∷◌, ◌++◌, All, codes, refl, sym, ◌∙◌, ap, inl}
+use Rattle.std.proofs.Common.{inr, arith, append_assoc}
 use Rattle.std.specs.List.{list_all}
 use Rattle.std.proofs.lemmas.Bool.Decides.{nat_tests}
 use Rattle.std.proofs.lemmas.List.Elements.{All-head, All-tail}
 use Rattle.std.proofs.lemmas.List.Folds.{list_all-append}
 use Rattle.std.proofs.lemmas.List.Sums.{AllPass-from_list_all}
+use Rattle.std.proofs.lemmas.Bool.{and_from}
 use Rattle.w2c_mangle.specs.declared.symbol.SymbolKind.{SymbolKind}
 use Rattle.w2c_mangle.specs.declared.symbol.SymbolKind.TheVariants.{Func, Table, Memory, Const, Var}
 use Rattle.w2c_mangle.specs.Escaping.{stays, hexadecimal_digit, escaped_byte, escaped}
@@ -18,10 +20,7 @@ kind_named n = cond (nat_eq n 102) Func (cond (nat_eq n 116) Table (cond (nat_eq
 kind_named-kind_letter : (k : SymbolKind) → kind_named (kind_letter k) ≡ k
 unfolding kind_named
 kind_named-kind_letter Func = refl
-kind_named-kind_letter Table = refl
-kind_named-kind_letter Memory = refl
-kind_named-kind_letter Const = refl
-kind_named-kind_letter Var = refl
+kind_named-kind_letter _ = refl
 
 pub kind_letter-injective : (j k : SymbolKind) → kind_letter j ≡ kind_letter k → j ≡ k
 kind_letter-injective j k e = sym (kind_named-kind_letter j) ∙ ap kind_named e ∙ kind_named-kind_letter k
@@ -68,17 +67,14 @@ stays-identifier b h = grind (arith, nat_tests)
 hexadecimal_digit-identifier : (d : ℕ) → d < 16 → is_identifier_character (hexadecimal_digit d) ≡ true
 hexadecimal_digit-identifier d h = grind (arith, nat_tests)
 
-both : (a b : Bool) → a ≡ true → b ≡ true → (a && b) ≡ true
-both a b p q = cc
-
 escaped_byte-identifier : (b : ℕ) → b < 256 → list_all is_identifier_character (escaped_byte b) ≡ true
 escaped_byte-identifier b small =
     elim (escaped_byte-cases b) [
-      | inl p ↦ ap (list_all is_identifier_character) p.1 ∙ both (is_identifier_character b) true (stays-identifier b p.0) refl
+      | inl p ↦ ap (list_all is_identifier_character) p.1 ∙ and_from (is_identifier_character b) true (stays-identifier b p.0) refl
       | inr p ↦ ap (list_all is_identifier_character) p.1
-          ∙ both (is_identifier_character (hexadecimal_digit (b / 16))) (is_identifier_character (hexadecimal_digit (b % 16)) && true)
+          ∙ and_from (is_identifier_character (hexadecimal_digit (b / 16))) (is_identifier_character (hexadecimal_digit (b % 16)) && true)
           (hexadecimal_digit-identifier (b / 16) (omega arith))
-          (both (is_identifier_character (hexadecimal_digit (b % 16))) true (hexadecimal_digit-identifier (b % 16) (omega arith)) refl)
+          (and_from (is_identifier_character (hexadecimal_digit (b % 16))) true (hexadecimal_digit-identifier (b % 16) (omega arith)) refl)
     ]
 
 -- an escaped name has no other characters than an identifier
@@ -86,15 +82,12 @@ pub list_all-escaped : (m : List ℕ) → All (λ b. b < 256) m → list_all is_
 list_all-escaped [] _ = refl
 list_all-escaped (b ∷ m) small =
     list_all-append is_identifier_character (escaped_byte b) (escaped m)
-    ∙ both (list_all is_identifier_character (escaped_byte b)) (list_all is_identifier_character (escaped m))
+    ∙ and_from (list_all is_identifier_character (escaped_byte b)) (list_all is_identifier_character (escaped m))
     (escaped_byte-identifier b (All-head (λ b. b < 256) b m small)) (list_all-escaped m (All-tail (λ b. b < 256) b m small))
 
 kind_letter-identifier : (k : SymbolKind) → is_identifier_character (kind_letter k) ≡ true
 kind_letter-identifier Func = refl
-kind_letter-identifier Table = refl
-kind_letter-identifier Memory = refl
-kind_letter-identifier Const = refl
-kind_letter-identifier Var = refl
+kind_letter-identifier _ = refl
 
 -- w2cZ_, an escaped name and what makes an identifier
 IsSymbol-parts : (m rest text : List ℕ) → All (λ b. b < 256) m → list_all is_identifier_character rest ≡ true
@@ -103,7 +96,7 @@ IsSymbol-parts m rest text small h e = record {
   characters = AllPass-from_list_all is_identifier_character text
       (ap (list_all is_identifier_character) e
       ∙ list_all-append is_identifier_character (escaped m) rest
-      ∙ both (list_all is_identifier_character (escaped m)) (list_all is_identifier_character rest) (list_all-escaped m small) h);
+      ∙ and_from (list_all is_identifier_character (escaped m)) (list_all is_identifier_character rest) (list_all-escaped m small) h);
   begins = rw e refl;
 }
 
@@ -111,7 +104,7 @@ pub IsSymbol-export_symbol_of : (m : List ℕ) (k : SymbolKind) (n : List ℕ) �
     → IsSymbol (export_symbol_of m k n)
 IsSymbol-export_symbol_of m k n small_m small_n =
     IsSymbol-parts m (90 ∷ 95 ∷ export_part k n) (export_symbol_of m k n) small_m
-    (both (is_identifier_character (kind_letter k)) (list_all is_identifier_character (escaped n)) (kind_letter-identifier k)
+    (and_from (is_identifier_character (kind_letter k)) (list_all is_identifier_character (escaped n)) (kind_letter-identifier k)
     (list_all-escaped n small_n))
     (export_symbol_of-parts m k n)
 

@@ -1,12 +1,14 @@
--- A file's module is one that c_unit accepts: it is valid, and has a file.
-use Rattle.w2c_sim.proofs.Common.{◌≡◌, ℕ, ◌<◌, ◌≤◌, List, length, refl, All-from_recursion, Module, one_tree, AreBytes, IsFormed, accepted, valid, IsVerdictOn, Read, Accepted, IsValid, IsAccepted, IsModuleOf}
+-- A file's module is one that c_unit accepts: it is valid, and within the limits, since it has a file.
+use Rattle.w2c_sim.proofs.Common.{◌≡◌, ℕ, ◌<◌, ◌≤◌, List, length, refl, All-from_recursion, Module, one_tree, AreBytes, WithinLimits}
+use Rattle.w2c_sim.proofs.Common.{accepted, valid, IsVerdictOn, Read, Accepted, IsValid, IsAccepted, IsModuleOf}
+use Rattle.wasm_spelling.proofs.WithinPlaces.{formed_is_within}
 
--- a valid module that has a file, under a name
-pub named_is_accepted : (name : List ℕ) (tree : Module) → IsValid tree → IsFormed tree → 1 ≤ length name → length name ≤ 1024
+-- a valid module within the limits, under a name
+pub named_is_accepted : (name : List ℕ) (tree : Module) → IsValid tree → WithinLimits tree → 1 ≤ length name → length name ≤ 1024
     → AreBytes name → IsAccepted (record { name = name; tree = tree })
-named_is_accepted name tree is_valid is_formed named short are_bytes = record {
+named_is_accepted name tree is_valid within named short are_bytes = record {
   valid = is_valid;
-  formed = is_formed;
+  within = within;
   named = named;
   short = short;
   bytes = All-from_recursion (λ b. b < 256) name are_bytes;
@@ -15,7 +17,8 @@ named_is_accepted name tree is_valid is_formed named short are_bytes = record {
 pub module_is_accepted : (bytes name : List ℕ) (tree : Module) → IsModuleOf bytes name tree
     → IsAccepted (record { name = name; tree = tree })
 module_is_accepted bytes name tree is =
-    named_is_accepted name tree is.valid (bytes, is.are_bytes, (tree, refl, is.spelled)) is.named is.short is.name_bytes
+    let within = formed_is_within tree (bytes, is.are_bytes, (tree, refl, is.spelled)) in
+    named_is_accepted name tree is.valid within is.named is.short is.name_bytes
 
 -- the verdict on a file's bytes, and its module
 pub module_of : (bytes name : List ℕ) (tree : Module) → IsVerdictOn bytes (Read tree Accepted) → AreBytes bytes → 1 ≤ length name

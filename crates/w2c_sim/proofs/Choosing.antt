@@ -1,9 +1,11 @@
 -- A selection of translated files: its modules are accepted, and its units are those of c_unit.
-use Rattle.w2c_sim.proofs.Common.{◌≡◌, ◌<◌, List, [], ◌∷◌, map, All, sym, refl, subst, All-from_recursion, AllByRecursion, Module, one_tree, AreBytes, CSpells, print_of, LinkedSet, NamedModule, Program, items, UnitsDoTheSame}
+use Rattle.w2c_sim.proofs.Common.{◌≡◌, ◌<◌, List, [], ◌∷◌, map, All, sym, refl, subst, All-from_recursion, AllByRecursion, Module, one_tree}
+use Rattle.w2c_sim.proofs.Common.{AreBytes, CSpells, print_of, LinkedSet, NamedModule, Program, items, UnitsDoTheSame}
 use Rattle.w2c_base.specs.Run.{Host}
 use Rattle.c_unit.specs.Sets as sets
 use Rattle.c_unit.proofs.Linking.{units_link}
-use Rattle.w2c_sim.specs.Selections.{File, IsTranslated, Chosen, ComesFrom, ComesFromOne, LinkAndDoTheSame, TranslationTheorem, set_of, program_of}
+use Rattle.w2c_sim.specs.Selections.{File, IsTranslated, Chosen, ComesFrom, ComesFromOne, LinkAndDoTheSame, TranslationTheorem, set_of}
+use Rattle.w2c_sim.specs.Selections.{program_of}
 use Rattle.w2c_base.proofs.OfEach.{of_contained}
 use Rattle.w2c_sim.proofs.Accepting.{module_is_accepted}
 use Rattle.w2c_sim.proofs.Spelling.{spells_no_other}

@@ -1,7 +1,9 @@
-mod Common
+-- What crates above cite.
 pub mod Accepting
 pub mod Spelling
 pub mod Wiring
-pub mod Choosing
-pub mod Refusing
-pub mod ItemsWritten
+-- What the crate's own proofs cite.
+mod Common
+mod Choosing
+mod Refusing
+mod ItemsWritten

@@ -1,10 +1,11 @@
 -- Refusals are verdicts: each comes where its verdict does, and there is one at most.
-use Rattle.w2c_sim.proofs.Common.{◌≡◌, ℕ, ◌≢◌, List, IfOk, IfErr, IsOk, Ok, Err, Result, sym, refl, ap, ◌∙◌, Module, FileVerdict, IsVerdictOn, Read, Unread, Accepted, Verdict, is_invalid}
+use Rattle.w2c_sim.proofs.Common.{◌≡◌, ℕ, ◌≢◌, List, IfOk, IfErr, IsOk, Ok, Err, Result, sym, refl, ap, ◌∙◌, Module, FileVerdict}
+use Rattle.w2c_sim.proofs.Common.{IsVerdictOn, Read, Unread, Accepted, Verdict, is_invalid}
 use Rattle.wasm_spelling.specs.declared.fault.ReadFault.TheVariants as fault
 use Rattle.wasm_spelling.specs.ModuleFields.{Spells}
-use Rattle.wasm_valid.specs.declared.fault.Fault.{Fault}
-use Rattle.wasm_valid.specs.declared.fault.ValidRefusal.{ValidRefusal}
-use Rattle.wasm_valid.specs.declared.fault.ValidRefusal.TheVariants as rule
+use Rattle.wasm_typing.specs.declared.fault.Fault.{Fault}
+use Rattle.wasm_typing.specs.declared.fault.ValidRefusal.{ValidRefusal}
+use Rattle.wasm_typing.specs.declared.fault.ValidRefusal.TheVariants as rule
 use Rattle.wasm_valid.proofs.Files.{one_file_verdict}
 use Rattle.w2c_sim.specs.declared.refusal.Refusal.{Refusal}
 use Rattle.w2c_sim.specs.declared.refusal.Refusal.TheVariants.{Malformed, Float, Limit, Invalid, Memory}
@@ -42,11 +43,9 @@ refusal_for (Read tree Accepted) = Memory
 refusal_for (Read tree (is_invalid f)) = Invalid f.place f.cause
 
 verdict_makes : (r : Refusal) (v : FileVerdict) → verdict_of r v → refusal_for v ≡ r
-verdict_makes (Malformed place cause) v e = ap refusal_for e
-verdict_makes (Float place) v e = ap refusal_for e
-verdict_makes (Limit place which) v e = ap refusal_for e
 verdict_makes (Invalid place cause) v (tree, e) = ap refusal_for e
 verdict_makes Memory v e = absurd e
+verdict_makes _ v e = ap refusal_for e
 
 pub one_refusal : (bytes : List ℕ) (r other : Refusal) → IsRefused bytes r → IsRefused bytes other → r ≡ other
 one_refusal bytes r other is is' =
@@ -61,19 +60,13 @@ accepted_is_not_refused bytes tree r accepted is =
     no_memory r is (sym (verdict_makes r v of_r) ∙ ap refusal_for (one_file_verdict bytes v (Read tree Accepted) on accepted))
   where
     no_memory : (r : Refusal) → IsRefused bytes r → r ≡ Memory → ⊥
-    no_memory (Malformed place cause) is e = cc
-    no_memory (Float place) is e = cc
-    no_memory (Limit place which) is e = cc
-    no_memory (Invalid place cause) is e = cc
     no_memory Memory is e = absurd is
+    no_memory _ is e = cc
 
 -- what is refused was refused for it, unless memory was wanting
 pub refused_for : (bytes : List ℕ) (r : Refusal) → r ≢ Memory → IsRefusal bytes r → IsRefused bytes r
-refused_for bytes (Malformed place cause) no_memory is = is
-refused_for bytes (Float place) no_memory is = is
-refused_for bytes (Limit place which) no_memory is = is
-refused_for bytes (Invalid place cause) no_memory is = is
 refused_for bytes Memory no_memory is = absurd (no_memory refl)
+refused_for bytes _ no_memory is = is
 
 -- ---- the answers where an accepted file gives something, and a refused one its verdict
 

@@ -1,5 +1,6 @@
 -- The text of a module's unit spells this unit and no other.
-use Rattle.w2c_sim.proofs.Common.{◌≡◌, ℕ, List, Module, CSpells, Formed, print_of, NamedModule, items, IsAccepted, IsModuleOf, SpellsUnit, text_of}
+use Rattle.w2c_sim.proofs.Common.{◌≡◌, ℕ, List, Module, CSpells, Formed, print_of, NamedModule, items, IsAccepted, IsModuleOf, SpellsUnit}
+use Rattle.w2c_sim.proofs.Common.{text_of}
 use Rattle.c_tree.specs.Tree as tree
 use Rattle.c_tree.proofs.WellFormedUnits.{formed}
 use Rattle.c_tree.proofs.OneUnit.{one_unit}

@@ -1,5 +1,9 @@
 -- A listed call that fits the modules fits the units under its symbol.
-use Rattle.w2c_sim.proofs.Common.{◌≡◌, Bool, true, false, ◌&&◌, List, [], ◌∷◌, is_some, Some, None, Option, option_map, sym, refl, ap, ◌∙◌, subst, AllByRecursion, list_all, list_any, position_from, IsFunc, LinkedSet, exported, instances, Program, c_func_type_of, c_params_of, c_result_of, called_func, defined_for_all, fits, func_type, IsAcceptedSet, program_of, symbol_call}
+use Rattle.w2c_sim.proofs.Common.{◌≡◌, Bool, true, false, ◌&&◌, List, [], ◌∷◌, is_some, Some, None, Option, option_map, sym, refl, ap, ◌∙◌}
+use Rattle.w2c_sim.proofs.Common.{subst, AllByRecursion, list_all, list_any, position_from, IsFunc, LinkedSet, exported, instances, Program}
+use Rattle.w2c_sim.proofs.Common.{c_func_type_of, c_params_of, c_result_of, called_func, defined_for_all, fits, func_type, IsAcceptedSet}
+use Rattle.w2c_sim.proofs.Common.{program_of, symbol_call}
+use Rattle.std.proofs.lemmas.Bool.{and_from}
 use Rattle.w2c_base.specs.declared.value.ValType.{ValType}
 use Rattle.w2c_base.specs.declared.value.ValType.TheVariants.{I32, I64}
 use Rattle.w2c_base.specs.declared.value.Value.{Value}
@@ -15,8 +19,8 @@ use Rattle.c_tree.specs.declared.tree.CType.TheVariants.{Void, U32, U64}
 use Rattle.c_tree.specs.Tree as tree
 use Rattle.c_tree.specs.Scope.{Name}
 use Rattle.c_tree.specs.Runtime.{same_type, same_types}
+use Rattle.c_tree.proofs.SameTypes.{same_as_themselves}
 use Rattle.c_meaning.specs.State.{UnitFunc}
-use Rattle.c_body.proofs.Indirect.{same_c_types}
 use Rattle.c_symbols.specs.Symbols.{export_symbol}
 use Rattle.c_unit.proofs.Linked.{ExportedBy, exported_by}
 use Rattle.c_unit.proofs.External.{SymbolFound, symbol_found}
@@ -33,12 +37,10 @@ fits_type args found = elim found [
       && list_all is_number args
 ]
 
-both : (a b : Bool) → a ≡ true → b ≡ true → (a && b) ≡ true
-both a b p q = λ i. p i && q i
-
 numbers_found : (args : List Value) → AllByRecursion IsNumber args → list_all is_number args ≡ true
 numbers_found [] of_all = refl
-numbers_found (v ∷ args) (one, of_all) = both (is_number v) (list_all is_number args) (number_is_found v one) (numbers_found args of_all)
+numbers_found (v ∷ args) (one, of_all) =
+    and_from (is_number v) (list_all is_number args) (number_is_found v one) (numbers_found args of_all)
 
 result_passes : (result : Option ValType) → list_any (same_type (c_result_of result)) (Void ∷ U32 ∷ U64 ∷ []) ≡ true
 result_passes None = refl
@@ -49,7 +51,8 @@ type_fits : (ty : FuncType) (args : List Value) → ty.params ≡ types_of args 
     → fits_type args (Some (c_func_type_of ty)) ≡ true
 type_fits ty args same numbers =
     let params : same_types (c_params_of ty.params) (c_params_of (types_of args)) ≡ true =
-    subst (λ (ts : List ValType). same_types (c_params_of ty.params) (c_params_of ts) ≡ true) same (same_c_types (c_params_of ty.params)) in
+    subst (λ (ts : List ValType). same_types (c_params_of ty.params) (c_params_of ts) ≡ true) same
+    (same_as_themselves (c_params_of ty.params)) in
     let result = result_passes ty.result in
     let found = numbers_found args numbers in
     λ i. params i && result i && found i

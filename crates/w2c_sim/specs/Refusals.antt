@@ -4,9 +4,9 @@ use Rattle.std.specs.Prelude.{ℕ, List}
 use Rattle.wasm_tree.specs.declared.tree.Module.{Module}
 use Rattle.wasm_spelling.specs.declared.fault.ReadFault.{ReadFault}
 use Rattle.wasm_spelling.specs.declared.fault.ReadFault.TheVariants as fault
-use Rattle.wasm_valid.specs.declared.fault.ValidRefusal.{ValidRefusal}
-use Rattle.wasm_valid.specs.declared.fault.ValidRefusal.TheVariants as rule
-use Rattle.wasm_valid.specs.Verdict.{Invalid as is_invalid}
+use Rattle.wasm_typing.specs.declared.fault.ValidRefusal.{ValidRefusal}
+use Rattle.wasm_typing.specs.declared.fault.ValidRefusal.TheVariants as rule
+use Rattle.wasm_typing.specs.Verdict.{Invalid as is_invalid}
 use Rattle.wasm_valid.specs.FileVerdict.{Unread, Read, IsVerdictOn}
 use Rattle.w2c_sim.specs.declared.refusal.Refusal.{Refusal}
 use Rattle.w2c_sim.specs.declared.refusal.Refusal.TheVariants.{Malformed, Float, Limit, Invalid, Memory}

@@ -11,7 +11,7 @@ use Rattle.wasm_meaning.specs.Run.{ListedCall, Fits}
 use Rattle.c_tree.specs.Tree as tree
 use Rattle.c_tree.specs.Spelled.{CSpells}
 use Rattle.c_meaning.specs.Linking.{Program, fits, link_refusal}
-use Rattle.wasm_spelling.specs.Bytes.{AreBytes}
+use Rattle.wasm_tree.specs.Bytes.{AreBytes}
 use Rattle.c_unit.specs.Sets.{DoTheSame, symbol_call}
 use Rattle.w2c_sim.specs.Translation.{IsModuleOf, text_of}
 

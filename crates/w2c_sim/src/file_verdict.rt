@@ -1,7 +1,7 @@
 // The verdict on the bytes of a file.
 ghost use Rattle.std.specs.Prelude.{◌≡◌, ◌≢◌, ◌≤◌, length, Err, IfOk, IfErr, IsOk};
 ghost use Rattle.wasm_tree.specs.declared.tree.Module.{Module as Tree};
-ghost use Rattle.wasm_valid.specs.Verdict.{Accepted};
+ghost use Rattle.wasm_typing.specs.Verdict.{Accepted};
 ghost use Rattle.wasm_valid.specs.FileVerdict.{Read, IsVerdictOn};
 ghost use Rattle.w2c_sim.specs.declared.refusal.Refusal.{Refusal as AnyRefusal};
 ghost use Rattle.w2c_sim.specs.declared.refusal.Refusal.TheVariants.{Memory as memory_wanted};
@@ -10,7 +10,7 @@ ghost use Rattle.w2c_sim.specs.Refusals.{IsRefusal, IsRefused};
 use crate::refusal::Refusal;
 use std::alloc::Global;
 use wasm_binary::read_module;
-use wasm_valid::ValidModule;
+use wasm_valid::{Check, ValidModule};
 
 /// The module that bytes spell, where it is valid and within the limits. `write_unit` and `write_header` write its
 /// texts.

@@ -1,7 +1,7 @@
 // Laws of texts and of linked units. Each is the contract of a function that does nothing.
 ghost use Rattle.std.specs.Prelude.{◌≡◌, List, ℕ};
 ghost use Rattle.wasm_tree.specs.declared.tree.Module.{Module as Tree};
-ghost use Rattle.wasm_valid.specs.Verdict.{Accepted};
+ghost use Rattle.wasm_typing.specs.Verdict.{Accepted};
 ghost use Rattle.wasm_valid.specs.FileVerdict.{Read, IsVerdictOn};
 ghost use Rattle.w2c_sim.specs.Selections.{TranslationTheorem};
 ghost use Rattle.w2c_sim.specs.Translation.{text_of, IsModuleOf, SpellsUnit};

@@ -5,7 +5,7 @@ ghost use Rattle.w2c_sim.specs.Refusals as refusals;
 
 use w2c_base::Memory;
 use wasm_spelling::{Cause, ReadFault, Which};
-use wasm_valid::{ValidCause, ValidRefusal};
+use wasm_typing::{ValidCause, ValidRefusal};
 
 /// Why a file is not translated: its first fault, with the place, or memory was wanting.
 #[derive(Clone, Copy, Debug, PartialEq, Eq)]

@@ -1,7 +1,7 @@
 // From the bytes of a file to the texts of its module's unit and header.
 ghost use Rattle.std.specs.Prelude.{◌≡◌, ◌≢◌, ◌≤◌, length, Err, IfOk, IfErr, IsOk};
 ghost use Rattle.wasm_tree.specs.declared.tree.Module.{Module as Tree};
-ghost use Rattle.wasm_valid.specs.Verdict.{Accepted};
+ghost use Rattle.wasm_typing.specs.Verdict.{Accepted};
 ghost use Rattle.wasm_valid.specs.FileVerdict.{Read, IsVerdictOn};
 ghost use Rattle.w2c_sim.specs.declared.refusal.Refusal.{Refusal as AnyRefusal};
 ghost use Rattle.w2c_sim.specs.declared.refusal.Refusal.TheVariants.{Memory as memory_wanted};
@@ -20,7 +20,7 @@ use c_tree::{Header, Unit};
 use c_unit::unit;
 use std::alloc::Global;
 use w2c_base::{Bytes, Memory};
-use wasm_valid::ValidModule;
+use wasm_typing::ValidModule;
 
 /// The text of a unit, and that of the header beside it.
 #[derive(Drop)]

@@ -14,7 +14,7 @@ use c_unit::{UnitItems, header};
 use std::alloc::Global;
 use w2c_base::{Bytes, Memory};
 use w2c_io::{Files, WriteAnswer};
-use wasm_valid::ValidModule;
+use wasm_typing::ValidModule;
 
 /// Appends the text of a module's unit under a name to the current file: the include line, then an item at a time, so
 /// that one function's tree and text are held at most. It is the text that `translate` gives.
@@ -43,7 +43,7 @@ pub fn write_unit<F: Files>(
     ensures passed { OnOk result (Passes (F.trace files.old) (F.trace files.new) (PutsText (text_of m.now name.now))) }
     ensures tried { IfErr result (λ why. Passes (F.trace files.old) (F.trace files.new) (PutsPart (text_of m.now name.now) why)) }
 {
-    // It says that the module is valid and has a file, so that its unit is one that a text spells.
+    // It says that the module is valid and within the limits, so that its unit is one that a text spells.
     let _ = m.module();
     let mut items = UnitItems::new(alloc, m, name)?;
     write_items(alloc, &mut items, files)

@@ -1,7 +1,11 @@
 -- README's first module: its tree, which is valid, its unit, and their texts; so the job of its words.
 use Rattle.std.specs.Char.{encode_utf8}
 use Rattle.std.specs.Str.{chars}
-use Rattle.wasm2c_cli.proofs.Common.{◌≡◌, ℕ, ◌+◌, Bool, true, false, List, [], ◌∷◌, length, pos, Some, None, codes, Option, MatchOption, sym, refl, ap, ◌∙◌, subst, arith, leb-true, Contents, Name, Told, written, Module, file_takes, most_module_bytes, IsValid, header_text_of, text_of, Line, line_of, translate, two_c, two_files, two_h, two_wasm, two_words, IsJob, IsJobOf, Job, Usage, Write, files_of, most_set_bytes, targets_of, Done, Answers}
+use Rattle.wasm2c_cli.proofs.Common.{◌≡◌, ℕ, ◌+◌, Bool, true, false, List, [], ◌∷◌, length, pos, Some, None, codes, Option, MatchOption}
+use Rattle.wasm2c_cli.proofs.Common.{sym, refl, ap, ◌∙◌, subst, arith, leb-true, Contents, Name, Told, written, Module, file_takes}
+use Rattle.wasm2c_cli.proofs.Common.{most_module_bytes, IsValid, header_text_of, text_of, Line, line_of, translate, two_c, two_files, two_h}
+use Rattle.wasm2c_cli.proofs.Common.{two_wasm, two_words, IsJob, IsJobOf, Job, Usage, Write, files_of, most_set_bytes, targets_of, Done}
+use Rattle.wasm2c_cli.proofs.Common.{Answers}
 use Rattle.std.specs.Fmt.{digits}
 use Rattle.std.specs.FinMap.{get}
 use Rattle.std.specs.Str.{is_utf8}
@@ -13,8 +17,10 @@ use Rattle.wasm_tree.specs.declared.operators.BinaryOp.TheVariants.{Add}
 use Rattle.wasm_tree.specs.declared.entries.ExportKind.TheVariants.{Func}
 use Rattle.wasm_spelling.specs.ModuleFields.{Spells}
 use Rattle.wasm_spelling.specs.Steps.{bytes_at, checked, number_at, reads, signed32_at}
-use Rattle.wasm_spelling.specs.Reading.{bodies_at, body_at, body_content_at, content_at, exactly_at, export_entry_at, file_at, form_at, func_entry_at, func_type_at, item_at, items_at, kind_at, magic_at, module_at, name_at, part_at, sections_at, times_at, type_at, type_entry_at, utf8_at, version_at, window_at}
-use Rattle.wasm_valid.specs.ModuleFaults.{module_faults}
+use Rattle.wasm_spelling.specs.Reading.{bodies_at, body_at, body_content_at, content_at, exactly_at, export_entry_at, file_at, form_at}
+use Rattle.wasm_spelling.specs.Reading.{func_entry_at, func_type_at, item_at, items_at, kind_at, magic_at, module_at, name_at, part_at}
+use Rattle.wasm_spelling.specs.Reading.{sections_at, times_at, type_at, type_entry_at, utf8_at, version_at, window_at}
+use Rattle.wasm_typing.specs.ModuleFaults.{module_faults}
 use Rattle.wasm_valid.proofs.Verdicts as verdicts
 use Rattle.c_tree.specs.declared.tree.CType.{CType}
 use Rattle.c_tree.specs.declared.tree.CType.TheVariants as c_type

@@ -1,5 +1,8 @@
 -- Where reading stops, by the name of the file.
-use Rattle.wasm2c_cli.proofs.Common.{◌≡◌, ℕ, List, [], slice_get, Some, string_bytes, Option, sym, refl, ◌∙◌, subst, inl, inr, same_Some, Name, Told, Tells, one_at, Past, StopsReading, TooLong, ReadStop, most_module_bytes, ModuleBytes, SetBytes, IsAtFile, StopsAtLimit, StopsAtRead, StopsAtUnreadable, StopsByReading, most_set_bytes, PassesLimit, Reason, Limit, Stop}
+use Rattle.wasm2c_cli.proofs.Common.{◌≡◌, ℕ, List, [], slice_get, Some, string_bytes, Option, sym, refl, ◌∙◌, subst, inl, inr, same_Some}
+use Rattle.wasm2c_cli.proofs.Common.{Name, Told, Tells, one_at, Past, StopsReading, TooLong, ReadStop, most_module_bytes, ModuleBytes}
+use Rattle.wasm2c_cli.proofs.Common.{SetBytes, IsAtFile, StopsAtLimit, StopsAtRead, StopsAtUnreadable, StopsByReading, most_set_bytes}
+use Rattle.wasm2c_cli.proofs.Common.{PassesLimit, Reason, Limit, Stop}
 use Rattle.w2c_files.specs.Stopping.{IsUnread, StopsAt}
 use Rattle.w2c_files.specs.declared.reading.ReadStop.TheVariants as read
 use Rattle.wasm2c_cli.specs.declared.stop.Stop.TheVariants as stops
@@ -45,24 +48,20 @@ module _ (told : Told) (names : List Name) (before after : ℕ) (named : Option 
 
   stops_unread : (k : ℕ) (stop : Stop) → At (read.Unread k) → StopsAtUnreadable names k stop
       → StopsByReading told names before after named stop
-  stops_unread k stops.Usage why is = absurd is
-  stops_unread k (stops.Refused name reason) why is = absurd is
   stops_unread k (stops.Unread name) why at = (one_at names k (string_bytes name) at, unread k (string_bytes name) at why)
-  stops_unread k (stops.Unwritten name) why is = absurd is
   stops_unread k stops.Memory why is = tt
+  stops_unread k _ why is = absurd is
 
   stops_at_limit : (limit : Reason) (k : ℕ) (stop : Stop)
       → ((name : Name) → slice_get names k ≡ Some name → Tells told (λ contents. PassesLimit contents names name limit))
       → StopsAtLimit limit names k stop → StopsByReading told names before after named stop
-  stops_at_limit limit k stops.Usage passes is = absurd is
   stops_at_limit limit k (stops.Refused name reason) passes (is, at) = (
     one_at names k (string_bytes name) at,
     λ contents tells.
         subst (λ (r : Reason). PassesLimit contents names (string_bytes name) r) (sym is) (passes (string_bytes name) at contents tells),
   )
-  stops_at_limit limit k (stops.Unread name) passes is = absurd is
-  stops_at_limit limit k (stops.Unwritten name) passes is = absurd is
   stops_at_limit limit k stops.Memory passes is = tt
+  stops_at_limit limit k _ passes is = absurd is
 
   pub reading_stops : (why : ReadStop) (stop : Stop) → At why → StopsAtRead why names stop
       → StopsByReading told names before after named stop

@@ -1,5 +1,12 @@
 -- What stands after a call, where the files behave as files: what its clauses on contents say.
-use Rattle.wasm2c_cli.proofs.Common.{◌≡◌, ℕ, ◌⊎◌, List, [], ◌∷◌, ◌++◌, Some, None, Ok, Err, Option, Result, MatchOption, refl, ap, ◌∙◌, subst, inl, inr, append-nil, arith, Contents, Name, Told, Event, Read, AreHonest, Does, ReadAnswer, WriteAnswer, BreaksOffAt, FailsLast, WritesFiles, WritesSome, limited, AreHeld, AreRead, IsUnreadable, NotThere, Past, StopsReading, TooLong, Unreadable, total, Stands, StandsAt, written, most_module_bytes, Line, generate, line_of, runtime, set, translate, AreReadOf, AreSourcesBy, IsJob, IsJobOf, Job, Missing, Refused, TranslatesBy, Usage, Write, WritesBy, read_line, refused_line, usage_line, write_line, Follows, IsJobOver, PassesLine, ReadsFirst, ReadsWhole, StopsAfter, StopsByAnswer, inputs_of, most_set_bytes, Done, StandsOfJob, Answers, Reason}
+use Rattle.wasm2c_cli.proofs.Common.{◌≡◌, ℕ, ◌⊎◌, List, [], ◌∷◌, ◌++◌, Some, None, Ok, Err, Option, Result, MatchOption, refl, ap, ◌∙◌}
+use Rattle.wasm2c_cli.proofs.Common.{subst, inl, inr, append-nil, arith, Contents, Name, Told, Event, Read, AreHonest, Does, ReadAnswer}
+use Rattle.wasm2c_cli.proofs.Common.{WriteAnswer, BreaksOffAt, FailsLast, WritesFiles, WritesSome, limited, AreHeld, AreRead, IsUnreadable}
+use Rattle.wasm2c_cli.proofs.Common.{NotThere, Past, StopsReading, TooLong, Unreadable, total, Stands, StandsAt, written, most_module_bytes}
+use Rattle.wasm2c_cli.proofs.Common.{Line, generate, line_of, runtime, set, translate, AreReadOf, AreSourcesBy, IsJob, IsJobOf, Job}
+use Rattle.wasm2c_cli.proofs.Common.{Missing, Refused, TranslatesBy, Usage, Write, WritesBy, read_line, refused_line, usage_line}
+use Rattle.wasm2c_cli.proofs.Common.{write_line, Follows, IsJobOver, PassesLine, ReadsFirst, ReadsWhole, StopsAfter, StopsByAnswer}
+use Rattle.wasm2c_cli.proofs.Common.{inputs_of, most_set_bytes, Done, StandsOfJob, Answers, Reason, same_Some}
 use Rattle.w2c_io.specs.declared.answers.ReadAnswer.TheVariants as reading
 use Rattle.w2c_files.proofs.Honest.{broken_stands, files_hold, honest_both, in_order_keep, reads_fit, reads_held, reads_kept, some_stand}
 use Rattle.wasm2c_cli.specs.HonestPassing.{PassesHonestly}
@@ -106,14 +113,11 @@ module _ (line : Line) (m : Contents) (given put : List Event) (new : Told) (cur
       unreadable told here now (Ok bytes) TooLong there stops does = absurd stops
       unreadable told here now (Err reading.TooLong) TooLong there stops does = does.0
       unreadable told here now (Err reading.Absent) TooLong there stops does = absurd stops
-      unreadable told here now (Err reading.Failed) TooLong there stops does = absurd stops
-      unreadable told here now (Err reading.Memory) TooLong there stops does = absurd stops
+      unreadable told here now (Err _) TooLong there stops does = absurd stops
       unreadable told here now (Ok bytes) (Past place) there (long, is) does =
           (bytes, does.0, does.3, omega (arith, long, at.together), is)
       unreadable told here now (Err reading.TooLong) (Past place) there stops does = absurd stops
-      unreadable told here now (Err reading.Absent) (Past place) there stops does = absurd stops
-      unreadable told here now (Err reading.Failed) (Past place) there stops does = absurd stops
-      unreadable told here now (Err reading.Memory) (Past place) there stops does = absurd stops
+      unreadable told here now (Err _) (Past place) there stops does = absurd stops
 
   missing_job : (file : Name) → StopsAfter (inputs_of line) given file NotThere
       → IsJobOf line m (Missing file) ⊎ FailsLast file given
@@ -244,13 +248,10 @@ module _ (words : List Name) (status : ℕ) (says : List ℕ → Type 0) (m : Co
         | inr memory ↦ absurd (no_end (inr memory.0))
       ]
 
-  same_contents : (a b : Contents) → ◌≡◌ {A = Told} (Some a) (Some b) → a ≡ b
-  same_contents a b e = cc
-
   pub honest_done : status ≡ 0 → Done words (Some m) new
   honest_done zero = λ contents told.
       subst (λ (c : Contents). (files : List (Name × List ℕ)) × IsJob words c (Write files) × (new ≡ written (Some m) files))
-      (same_contents m contents told) (done_here zero)
+      (same_Some m contents told) (done_here zero)
 
   -- ---- status 4: the files in front of the one that is named stand
 

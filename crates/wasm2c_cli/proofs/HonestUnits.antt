@@ -1,5 +1,9 @@
 -- The units that were put stand, where the files behave as files.
-use Rattle.wasm2c_cli.proofs.Common.{◌≡◌, ℕ, List, [], ◌∷◌, ◌++◌, Some, Option, refl, subst, inl, inr, Contents, HasFile, Name, Told, Event, AreHonest, AreDistinct, HasText, Module, header_text_of, text_of, Line, generate, line_of, runtime, set, translate, AreReadOf, files_of, IsUnitOf, PutsLinked, PutsLinkedUnits, ReadsWhole, Target, inputs_of, names_of_targets, targets_of, DoTheSameWithOthers, HoldAll, HoldsText, HoldsUnit, StandAll, WritesLinkedUnits, WritesUnits, texts_made}
+use Rattle.wasm2c_cli.proofs.Common.{◌≡◌, ℕ, List, [], ◌∷◌, ◌++◌, Some, Option, refl, subst, inl, inr, Contents, HasFile, Name, Told, Event}
+use Rattle.wasm2c_cli.proofs.Common.{AreHonest, AreDistinct, HasText, Module, header_text_of, text_of, Line, generate, line_of, runtime}
+use Rattle.wasm2c_cli.proofs.Common.{set, translate, AreReadOf, files_of, IsUnitOf, PutsLinked, PutsLinkedUnits, ReadsWhole, Target}
+use Rattle.wasm2c_cli.proofs.Common.{inputs_of, names_of_targets, targets_of, DoTheSameWithOthers, HoldAll, HoldsText, HoldsUnit, StandAll}
+use Rattle.wasm2c_cli.proofs.Common.{WritesLinkedUnits, WritesUnits, texts_made, same_Some}
 use Rattle.wasm2c_cli.proofs.HonestTop.{all_held, sources_so, whole_put}
 use Rattle.wasm2c_cli.proofs.JobLaws.{files_distinct}
 use Rattle.wasm2c_cli.proofs.Passed.{distinct_outputs, passed}
@@ -11,12 +15,6 @@ units_hold : (new : Told) (targets : List Target) (sources : List (List ℕ)) (m
     → ((name : Name) (text : List ℕ) → HasText name text (files_of targets modules) → HasFile new name text)
     → HoldAll (HoldsUnit new) targets sources modules
 units_hold new [] [] [] held there = tt
-units_hold new [] [] (m ∷ modules) held there = absurd held
-units_hold new [] (bytes ∷ sources) [] held there = absurd held
-units_hold new [] (bytes ∷ sources) (m ∷ modules) held there = absurd held
-units_hold new (t ∷ targets) [] [] held there = absurd held
-units_hold new (t ∷ targets) [] (m ∷ modules) held there = absurd held
-units_hold new (t ∷ targets) (bytes ∷ sources) [] held there = absurd held
 units_hold new (t ∷ targets) (bytes ∷ sources) (m ∷ modules) (unit, held) there = (
   record {
     text = record { is_module = unit.is_module; stands = there t.c_file (text_of m t.module_name) (inl (refl, refl)) };
@@ -25,6 +23,7 @@ units_hold new (t ∷ targets) (bytes ∷ sources) (m ∷ modules) (unit, held) 
   },
   units_hold new targets sources modules held (λ name text one. there name text (inr (inr one))),
 )
+units_hold new _ _ _ held there = absurd held
 
 distinct_targets : (words : List Name) (line : Line) → line_of words ≡ Some line → AreDistinct (names_of_targets (targets_of line))
 distinct_targets words (translate t) is = distinct_outputs (translate t) (passed words (translate t) is)
@@ -59,18 +58,15 @@ module _ (words : List Name) (line : Line) (is : line_of words ≡ Some line) (m
         puts.stand.modules units_stand.all;
   }
 
-same_contents : (a b : Contents) → ◌≡◌ {A = Told} (Some a) (Some b) → a ≡ b
-same_contents a b e = cc
-
 pub honest_units : (words : List Name) (events : List Event) (m : Contents) (new : Told) (current after : Option Name)
     → PutsLinkedUnits words events → AreHonest events (Some m) current new after → WritesUnits words (Some m) new
 honest_units words events m new current after (line, is, puts) honest = λ contents told.
-    subst (λ (c : Contents). (line : Line) × (line_of words ≡ Some line) × StandAll (HoldsUnit new) line c) (same_contents m contents told)
+    subst (λ (c : Contents). (line : Line) × (line_of words ≡ Some line) × StandAll (HoldsUnit new) line c) (same_Some m contents told)
     (line, is, units_stand words line is m new current after events puts honest)
 
 pub honest_linked : (words : List Name) (events : List Event) (m : Contents) (new : Told) (current after : Option Name)
     → PutsLinkedUnits words events → AreHonest events (Some m) current new after → WritesLinkedUnits words (Some m) new
 honest_linked words events m new current after (line, is, puts) honest = λ contents told.
     subst (λ (c : Contents). (line : Line) × (line_of words ≡ Some line) × (stand : StandAll (HoldsText new) line c)
-    × DoTheSameWithOthers (texts_made (targets_of line) stand.sources stand.modules)) (same_contents m contents told)
+    × DoTheSameWithOthers (texts_made (targets_of line) stand.sources stand.modules)) (same_Some m contents told)
     (line, is, texts_stand words line is m new current after events puts honest, puts.same)

@@ -1,5 +1,10 @@
 -- Words ask for at most one job, and the files of a job have distinct names.
-use Rattle.wasm2c_cli.proofs.Common.{◌≡◌, ℕ, ◌⊎◌, List, [], ◌∷◌, ◌++◌, Some, None, Option, MatchOption, sym, refl, ap, ◌∙◌, subst, inl, inr, Contents, Name, Event, NotThere, Past, StopsReading, TooLong, Unreadable, AreDistinct, IsOneOf, file_names, Module, most_module_bytes, Line, generate, line_of, runtime, set, translate, AreReadOf, AreSourcesBy, IsJob, IsJobBy, IsJobOf, Job, Missing, Refused, Translates, TranslatesBy, Usage, Write, Writes, WritesBy, files_of, HasPassed, IsJobOver, ReadsWhole, StopsAfter, Target, inputs_of, most_set_bytes, names_of_targets, targets_of, IsFirstRefused, PassesLimitBy, Reason}
+use Rattle.wasm2c_cli.proofs.Common.{◌≡◌, ℕ, ◌⊎◌, List, [], ◌∷◌, ◌++◌, Some, None, Option, MatchOption, sym, refl, ap, ◌∙◌, subst, inl, inr}
+use Rattle.wasm2c_cli.proofs.Common.{Contents, Name, Event, NotThere, Past, StopsReading, TooLong, Unreadable, AreDistinct, IsOneOf}
+use Rattle.wasm2c_cli.proofs.Common.{file_names, Module, most_module_bytes, Line, generate, line_of, runtime, set, translate, AreReadOf}
+use Rattle.wasm2c_cli.proofs.Common.{AreSourcesBy, IsJob, IsJobBy, IsJobOf, Job, Missing, Refused, Translates, TranslatesBy, Usage, Write}
+use Rattle.wasm2c_cli.proofs.Common.{Writes, WritesBy, files_of, HasPassed, IsJobOver, ReadsWhole, StopsAfter, Target, inputs_of}
+use Rattle.wasm2c_cli.proofs.Common.{most_set_bytes, names_of_targets, targets_of, IsFirstRefused, PassesLimitBy, Reason}
 use Rattle.w2c_gen.proofs.Formed.{one_file}
 use Rattle.wasm2c_cli.proofs.ModuleFiles.{one_of_targets}
 use Rattle.wasm2c_cli.proofs.OneReading.{contents_end, EndsOnce, reads_end}
@@ -103,12 +108,11 @@ module _ (line : Line) (S : Name → Unreadable → Type 0) (R : List (List ℕ)
   one_of_line files_same (Missing file) (Missing other) j k = ap Missing (ends.one_stops file other NotThere NotThere j k).0
   one_of_line files_same (Missing file) (Refused other reason) j k = absurd (missing_not_refused file other reason j k)
   one_of_line files_same (Missing file) (Write files) j k = absurd (stop_not_written file NotThere files j k)
-  one_of_line files_same (Refused file reason) Usage j k = absurd k
   one_of_line files_same (Refused file reason) (Missing other) j k = absurd (missing_not_refused other file reason k j)
   one_of_line files_same (Refused file reason) (Refused other r) j k =
       let same = same_refusal file other reason r j k in λ i. Refused (same.0 i) (same.1 i)
   one_of_line files_same (Refused file reason) (Write files) j k = absurd (not_refused_and_written file reason files j k)
-  one_of_line files_same (Write files) Usage j k = absurd k
+  one_of_line files_same _ Usage j k = absurd k
   one_of_line files_same (Write files) (Missing other) j k = absurd (stop_not_written other NotThere files k j)
   one_of_line files_same (Write files) (Refused other reason) j k = absurd (not_refused_and_written other reason files k j)
   one_of_line files_same (Write files) (Write others) j k = ap Write (files_same files others j k)

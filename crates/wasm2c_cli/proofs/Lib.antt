@@ -1,18 +1,19 @@
+-- What the crate's own proofs cite.
 mod Common
-pub mod ExampleJob
-pub mod ExampleRuns
-pub mod FileStops
-pub mod HonestTop
-pub mod HonestUnits
-pub mod JobLaws
-pub mod LineStops
-pub mod ModuleFiles
-pub mod OneReading
-pub mod Passed
-pub mod Passing
-pub mod PassingLines
-pub mod PassingTop
-pub mod ReasonLaws
-pub mod Taken
-pub mod TopLaws
-pub mod Translated
+mod ExampleJob
+mod ExampleRuns
+mod FileStops
+mod HonestTop
+mod HonestUnits
+mod JobLaws
+mod LineStops
+mod ModuleFiles
+mod OneReading
+mod Passed
+mod Passing
+mod PassingLines
+mod PassingTop
+mod ReasonLaws
+mod Taken
+mod TopLaws
+mod Translated

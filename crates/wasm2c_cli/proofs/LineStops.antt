@@ -1,5 +1,10 @@
 -- What the stop of each form says of its line's job.
-use Rattle.wasm2c_cli.proofs.Common.{◌≡◌, ℕ, List, [], ◌∷◌, length, IfOk, IfErr, OnOk, Some, Ok, Err, string_bytes, Option, Result, refl, ap, ◌∙◌, subst, inl, inr, IfErr-weaker, IfOk-weaker, Contents, Name, Told, is_one, written, Module, AreBytes, FileSet, Generation, Line, Translation, generate, line_of, runtime, set, translate, Translates, files_of, module_files, AreAllTaken, FinishesLine, FinishesWork, HasPassed, IsGenerated, IsTakenFile, StopsTranslating, StopsWriting, inputs_of, target, targets_of, runtime_files, KeepsCurrent, StopsLine, StopsWork, Stop, Finished}
+use Rattle.wasm2c_cli.proofs.Common.{◌≡◌, ℕ, List, [], ◌∷◌, length, IfOk, IfErr, OnOk, Some, Ok, Err, string_bytes, Option, Result, refl}
+use Rattle.wasm2c_cli.proofs.Common.{ap, ◌∙◌, subst, inl, inr, IfErr-weaker, IfOk-weaker, Contents, Name, Told, is_one, written, Module}
+use Rattle.wasm2c_cli.proofs.Common.{AreBytes, Generation, Line, generate, line_of, runtime, Translates, files_of, module_files}
+use Rattle.wasm2c_cli.proofs.Common.{AreAllTaken, FinishesLine, FinishesWork, HasPassed, IsGenerated, IsTakenFile, StopsTranslating}
+use Rattle.wasm2c_cli.proofs.Common.{StopsWriting, inputs_of, target, targets_of, runtime_files, KeepsCurrent, StopsLine, StopsWork, Stop}
+use Rattle.wasm2c_cli.proofs.Common.{Finished}
 use Rattle.wasm2c_cli.specs.declared.stop.Stop.TheVariants as stops
 use Rattle.wasm2c_cli.specs.declared.work.Finished.TheVariants as finished
 use Rattle.wasm2c_cli.proofs.ModuleFiles.{one_of_targets}
@@ -12,64 +17,43 @@ all_generated old new g bytes m (Ok done) taken named stand =
     record { bytes = bytes; generated = m; taken = taken; many = refl; named = named; stand = stand }
 all_generated old new g bytes m (Err stop) taken named stand = stand
 
+-- a line of files that are read: of one file, and of a set
+abbrev pub IsOfFiles : Line → Type 0
+IsOfFiles (generate g) = ⊥
+IsOfFiles (runtime dir) = ⊥
+IsOfFiles _ = Unit {0}
+
+files_translate : (line : Line) (contents : Contents) (modules : List Module) → IsOfFiles line
+    → AreAllTaken (inputs_of line) contents modules → Translates line contents (files_of (targets_of line) modules)
+files_translate (generate g) contents modules of all = absurd of
+files_translate (runtime dir) contents modules of all = absurd of
+files_translate line contents modules of all =
+    record { sources = all.sources; modules = modules; read = all.read; accepted = all.accepted; written = refl }
+
 module _ (old new : Told) (r r' w w' : ℕ) (named : Option Name) where
   -- ---- files of a line, and of a set
 
-  translates : (t : Translation) (contents : Contents) (modules : List Module) → AreAllTaken (inputs_of (translate t)) contents modules
-      → Translates (translate t) contents (files_of (targets_of (translate t)) modules)
-  translates t contents modules all =
-      record { sources = all.sources; modules = modules; read = all.read; accepted = all.accepted; written = refl }
-
-  translation_stops : (t : Translation) (stop : Stop)
-      → StopsTranslating (inputs_of (translate t)) (targets_of (translate t)) old new r r' w w' named stop
-      → StopsLine (translate t) old new r r' w w' named stop
-  translation_stops t stops.Usage why = why
-  translation_stops t (stops.Refused name reason) why = why
-  translation_stops t (stops.Unread name) why = why
-  translation_stops t (stops.Unwritten name) (one, faulted, stands) = (
+  files_stop : (line : Line) (stop : Stop) → IsOfFiles line
+      → StopsTranslating (inputs_of line) (targets_of line) old new r r' w w' named stop → StopsLine line old new r r' w w' named stop
+  files_stop (generate g) stop of why = absurd of
+  files_stop (runtime dir) stop of why = absurd of
+  files_stop line (stops.Unwritten name) of (one, faulted, stands) = (
     one,
     faulted,
     λ contents tells.
         let part = stands contents tells in
-        (files_of (targets_of (translate t)) part.0, translates t contents part.0 part.1, part.2),
+        (files_of (targets_of line) part.0, files_translate line contents part.0 of part.1, part.2),
   )
-  translation_stops t stops.Memory why = λ contents tells. elim (why contents tells) [
+  files_stop line stops.Memory of why = λ contents tells. elim (why contents tells) [
     | inl same ↦ inl same
-    | inr part ↦ inr (files_of (targets_of (translate t)) part.0, translates t contents part.0 part.1, part.2)
+    | inr part ↦ inr (files_of (targets_of line) part.0, files_translate line contents part.0 of part.1, part.2)
   ]
+  files_stop line _ of why = why
 
-  pub translation_stopped : {A : Type 0} (t : Translation) (result : Result A Stop)
-      → IfErr result (StopsTranslating (inputs_of (translate t)) (targets_of (translate t)) old new r r' w w' named)
-      → IfErr result (StopsLine (translate t) old new r r' w w' named)
-  translation_stopped t result = IfErr-weaker result _ _ (translation_stops t)
-
-  set_translates : (s : FileSet) (contents : Contents) (modules : List Module) → AreAllTaken (inputs_of (set s)) contents modules
-      → Translates (set s) contents (files_of (targets_of (set s)) modules)
-  set_translates s contents modules all =
-      record { sources = all.sources; modules = modules; read = all.read; accepted = all.accepted; written = refl }
-
-  set_stops : (s : FileSet) (stop : Stop)
-      → StopsTranslating (inputs_of (set s)) (targets_of (set s)) old new r r' w w' named stop
-      → StopsLine (set s) old new r r' w w' named stop
-  set_stops s stops.Usage why = why
-  set_stops s (stops.Refused name reason) why = why
-  set_stops s (stops.Unread name) why = why
-  set_stops s (stops.Unwritten name) (one, faulted, stands) = (
-    one,
-    faulted,
-    λ contents tells.
-        let part = stands contents tells in
-        (files_of (targets_of (set s)) part.0, set_translates s contents part.0 part.1, part.2),
-  )
-  set_stops s stops.Memory why = λ contents tells. elim (why contents tells) [
-    | inl same ↦ inl same
-    | inr part ↦ inr (files_of (targets_of (set s)) part.0, set_translates s contents part.0 part.1, part.2)
-  ]
-
-  pub set_stopped : {A : Type 0} (s : FileSet) (result : Result A Stop)
-      → IfErr result (StopsTranslating (inputs_of (set s)) (targets_of (set s)) old new r r' w w' named)
-      → IfErr result (StopsLine (set s) old new r r' w w' named)
-  set_stopped s result = IfErr-weaker result _ _ (set_stops s)
+  pub files_stopped : {A : Type 0} (line : Line) (result : Result A Stop) → IsOfFiles line
+      → IfErr result (StopsTranslating (inputs_of line) (targets_of line) old new r r' w w' named)
+      → IfErr result (StopsLine line old new r r' w w' named)
+  files_stopped line result of = IfErr-weaker result _ _ (λ stop. files_stop line stop of)
 
   -- ---- a generated module
 
@@ -86,9 +70,6 @@ module _ (old new : Told) (r r' w w' : ℕ) (named : Option Name) where
   generating_stops : (g : Generation) (bytes : List ℕ) (m : Module) → IsTakenFile g bytes m → (stop : Stop)
       → StopsWriting old new (module_files (target g.output g.module_name) m) w w' named stop
       → StopsLine (generate g) old new r r' w w' named stop
-  generating_stops g bytes m taken stops.Usage why = absurd why
-  generating_stops g bytes m taken (stops.Refused name reason) why = absurd why
-  generating_stops g bytes m taken (stops.Unread name) why = absurd why
   generating_stops g bytes m taken (stops.Unwritten name) (faulted, stands) = (
     one_of_targets (target g.output g.module_name ∷ []) (m ∷ []) (string_bytes name)
         (is_one old new (module_files (target g.output g.module_name) m) (string_bytes name) stands),
@@ -97,6 +78,7 @@ module _ (old new : Told) (r r' w w' : ℕ) (named : Option Name) where
   )
   generating_stops g bytes m taken stops.Memory stands =
       λ contents tells. inr (module_files (target g.output g.module_name) m, generates g contents bytes m taken, stands)
+  generating_stops g bytes m taken _ why = absurd why
 
   pub all_stopped : {A : Type 0} (g : Generation) (bytes : List ℕ) (m : Module) (result : Result A Stop) → IsTakenFile g bytes m
       → IfErr result (StopsWriting old new (module_files (target g.output g.module_name) m) w w' named)
@@ -107,12 +89,10 @@ module _ (old new : Told) (r r' w w' : ℕ) (named : Option Name) where
 
   runtime_stops : (dir : Name) (stop : Stop) → StopsWriting old new (runtime_files dir) w w' named stop
       → StopsLine (runtime dir) old new r r' w w' named stop
-  runtime_stops dir stops.Usage why = absurd why
-  runtime_stops dir (stops.Refused name reason) why = absurd why
-  runtime_stops dir (stops.Unread name) why = absurd why
   runtime_stops dir (stops.Unwritten name) (faulted, stands) =
       (is_one old new (runtime_files dir) (string_bytes name) stands, faulted, λ contents tells. (runtime_files dir, refl, stands))
   runtime_stops dir stops.Memory stands = λ contents tells. inr (runtime_files dir, refl, stands)
+  runtime_stops dir _ why = absurd why
 
   pub runtime_stopped : {A : Type 0} (dir : Name) (files : List (Name × List ℕ)) (result : Result A Stop) → files ≡ runtime_files dir
       → IfErr result (StopsWriting old new files w w' named) → IfErr result (StopsLine (runtime dir) old new r r' w w' named)
@@ -140,11 +120,9 @@ work_stopped old new r r' w w' named words line result is = IfErr-weaker result 
 -- where writing stops, no clause is on the current file
 keeps : (current current' : Option Name) (old new : Told) (files : List (Name × List ℕ)) (w w' : ℕ) (named : Option Name) (stop : Stop)
     → StopsWriting old new files w w' named stop → KeepsCurrent current current' stop
-keeps current current' old new files w w' named stops.Usage why = absurd why
-keeps current current' old new files w w' named (stops.Refused name reason) why = absurd why
-keeps current current' old new files w w' named (stops.Unread name) why = absurd why
 keeps current current' old new files w w' named (stops.Unwritten name) why = tt
 keeps current current' old new files w w' named stops.Memory why = tt
+keeps current current' old new files w w' named _ why = absurd why
 
 pub all_kept : {A : Type 0} (current current' : Option Name) (old new : Told) (files : List (Name × List ℕ)) (w w' : ℕ)
     (named : Option Name) (result : Result A Stop) → IfErr result (StopsWriting old new files w w' named)

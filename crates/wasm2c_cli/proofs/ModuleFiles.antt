@@ -1,5 +1,11 @@
 -- The files of modules, one module after another.
-use Rattle.wasm2c_cli.proofs.Common.{◌≡◌, ℕ, zero, suc, ◌+◌, ◌<◌, ◌≤◌, List, [], ◌∷◌, ◌++◌, map, length, take, drop, OnOk, OnErr, slice_get, slice_index_or, Some, Ok, Err, string_bytes, Option, Result, sym, refl, ap, ◌∙◌, subst, inl, inr, add-one, arith, AllByRecursion, take_next, both_passed, Faulted, Name, Told, holding, Event, Passes, WriteAnswer, both_written, at_before, at_behind, at_first, stands_before, stands_behind, written_joined, WritesFiles, IsBegun, IsOneOf, Stands, StandsAt, file_names, written, Module, files_of, module_files, IsNamed, StopsAtFile, StopsWriting, seen_target, seen_targets, EndsWriting, names_of_targets, Stop}
+use Rattle.wasm2c_cli.proofs.Common.{◌≡◌, ℕ, zero, suc, ◌+◌, ◌<◌, ◌≤◌, List, [], ◌∷◌, ◌++◌, map, length, take, drop, OnOk, OnErr, slice_get}
+use Rattle.wasm2c_cli.proofs.Common.{slice_index_or, Some, Ok, Err, string_bytes, Option, Result, sym, refl, ap, ◌∙◌, subst, inl, inr}
+use Rattle.wasm2c_cli.proofs.Common.{add-one, arith, AllByRecursion, take_next, both_passed, Faulted, Name, Told, holding, Event, Passes}
+use Rattle.wasm2c_cli.proofs.Common.{WriteAnswer, both_written, at_before, at_behind, at_first, stands_before, stands_behind}
+use Rattle.wasm2c_cli.proofs.Common.{written_joined, WritesFiles, IsBegun, IsOneOf, Stands, StandsAt, file_names, written, Module, files_of}
+use Rattle.wasm2c_cli.proofs.Common.{module_files, IsNamed, StopsAtFile, StopsWriting, seen_target, seen_targets, EndsWriting}
+use Rattle.wasm2c_cli.proofs.Common.{names_of_targets, Stop}
 use Rattle.w2c_io.specs.declared.answers.WriteAnswer.TheVariants as answers
 use Rattle.w2c_io.proofs.Telling.{rose_from}
 use Rattle.wasm2c_cli.specs.declared.plan.Target.{Target}
@@ -32,14 +38,12 @@ both_stand old middle new c_file header first second same same' text more one tw
 pub stops_at : (old new : Told) (files : List (Name × List ℕ)) (before after : ℕ) (named : Option Name) (answer : WriteAnswer) (file : Name)
     (stop : Stop) → StandsAt old new files file → (answer ≡ answers.Failed → Faulted file before after named) → StopsAtFile answer file stop
     → StopsWriting old new files before after named stop
-stops_at old new files before after named answer file stops.Usage stands faulted is = absurd is
-stops_at old new files before after named answer file (stops.Refused name reason) stands faulted is = absurd is
-stops_at old new files before after named answer file (stops.Unread name) stands faulted is = absurd is
 stops_at old new files before after named answer file (stops.Unwritten name) stands faulted (failed, same) = (
   subst (λ (n : Name). Faulted n before after named) (sym same) (faulted failed),
   subst (StandsAt old new files) (sym same) stands,
 )
 stops_at old new files before after named answer file stops.Memory stands faulted is = inr (file, stands)
+stops_at old new files before after named answer file _ stands faulted is = absurd is
 
 -- ---- the files of all modules
 
@@ -103,9 +107,7 @@ module _ (targets : List plan.Target) (modules : List Module) (k : ℕ) (t : pla
         subst (λ (l : List (Name × List ℕ)). Stands old new l) (sym all_files)
         (stands_behind old before new (files_of (take k targets) (take k modules)) (module_files t m ++ rest) so_far
         (stands_before before new (module_files t m) rest stands))
-    stops_all start here after named stops.Usage later why = absurd why
-    stops_all start here after named (stops.Refused name reason) later why = absurd why
-    stops_all start here after named (stops.Unread name) later why = absurd why
+    stops_all start here after named _ later why = absurd why
 
   -- the same of what was put
   module _ (old before new : List Event) (so_far : Passes old before (WritesFiles (files_of (take k targets) (take k modules)))) where
@@ -123,29 +125,6 @@ module _ (targets : List plan.Target) (modules : List Module) (k : ℕ) (t : pla
         (EndsWriting (files_of (take k targets) (take k modules) ++ (module_files t m ++ rest)) stop)
         (λ first last whole ends.
         ends_among (files_of (take k targets) (take k modules)) (module_files t m) rest first last stop whole ends) so_far tried)
-
-pub all_files_put : (old new : List Event) (targets : List plan.Target) (modules : List Module) (k : ℕ) → k ≡ length targets
-    → length modules ≡ length targets → Passes old new (WritesFiles (files_of (take k targets) (take k modules)))
-    → Passes old new (WritesFiles (files_of targets modules))
-all_files_put old new targets modules k end many =
-    subst (λ (l : List (Name × List ℕ)). Passes old new (WritesFiles l))
-    (λ i. files_of (whole targets k end i) (whole modules k (end ∙ sym many) i))
-  where
-    whole : {A : Type 0} (xs : List A) (j : ℕ) → j ≡ length xs → take j xs ≡ xs
-    whole [] j is = ap (λ n. take n []) is
-    whole (x ∷ xs) zero is = absurd (omega (arith, is))
-    whole (x ∷ xs) (suc j) is = ap (λ (l : List _). x ∷ l) (whole xs j (omega (arith, is)))
-
-pub all_files_written : (old : Told) (targets : List plan.Target) (modules : List Module) (k : ℕ) → k ≡ length targets
-    → length modules ≡ length targets
-    → written old (files_of (take k targets) (take k modules)) ≡ written old (files_of targets modules)
-all_files_written old targets modules k end many =
-    λ i. written old (files_of (whole targets k end i) (whole modules k (end ∙ sym many) i))
-  where
-    whole : {A : Type 0} (xs : List A) (j : ℕ) → j ≡ length xs → take j xs ≡ xs
-    whole [] j is = ap (λ n. take n []) is
-    whole (x ∷ xs) zero is = absurd (omega (arith, is))
-    whole (x ∷ xs) (suc j) is = ap (λ (l : List _). x ∷ l) (whole xs j (omega (arith, is)))
 
 -- ---- what code has at a place
 

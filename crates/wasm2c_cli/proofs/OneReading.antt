@@ -1,5 +1,7 @@
 -- Reading files ends in one way: they all give bytes, or it stops at one of them.
-use Rattle.wasm2c_cli.proofs.Common.{◌≡◌, ℕ, ◌+◌, ◌≤◌, List, [], ◌∷◌, ◌++◌, length, Ok, Err, Result, sym, refl, ap, ◌∙◌, subst, arith, Contents, Name, Event, Read, ReadAnswer, ReadsAll, AreRead, NotThere, Past, StopsReading, TooLong, Unreadable, total, most_module_bytes, ReadsWhole, StopsAfter, StopsByAnswer, most_set_bytes}
+use Rattle.wasm2c_cli.proofs.Common.{◌≡◌, ℕ, ◌+◌, ◌≤◌, List, [], ◌∷◌, ◌++◌, length, Ok, Err, Result, sym, refl, ap, ◌∙◌, subst, arith}
+use Rattle.wasm2c_cli.proofs.Common.{Contents, Name, Event, Read, ReadAnswer, ReadsAll, AreRead, NotThere, Past, StopsReading, TooLong}
+use Rattle.wasm2c_cli.proofs.Common.{Unreadable, total, most_module_bytes, ReadsWhole, StopsAfter, StopsByAnswer, most_set_bytes}
 use Rattle.w2c_io.specs.declared.answers.ReadAnswer.TheVariants as reading
 use Rattle.w2c_files.proofs.Given.{gave_last, one_answer, one_given, one_last}
 use Rattle.w2c_files.proofs.Stops.{no_stop, one_stop, same_bytes}
@@ -42,16 +44,13 @@ one_reason before (Err reading.Absent) (Past place) reason s t = absurd s
 one_reason before (Err reading.Failed) NotThere NotThere s t = refl
 one_reason before (Err reading.Failed) NotThere TooLong s t = absurd t
 one_reason before (Err reading.Failed) NotThere (Past other) s t = absurd t
-one_reason before (Err reading.Failed) TooLong reason s t = absurd s
-one_reason before (Err reading.Failed) (Past place) reason s t = absurd s
 one_reason before (Err reading.TooLong) TooLong TooLong s t = refl
 one_reason before (Err reading.TooLong) TooLong NotThere s t = absurd t
 one_reason before (Err reading.TooLong) TooLong (Past other) s t = absurd t
 one_reason before (Err reading.TooLong) NotThere reason s t = absurd s
-one_reason before (Err reading.TooLong) (Past place) reason s t = absurd s
 one_reason before (Err reading.Memory) NotThere reason s t = absurd s
-one_reason before (Err reading.Memory) TooLong reason s t = absurd s
-one_reason before (Err reading.Memory) (Past place) reason s t = absurd s
+one_reason before (Err _) TooLong reason s t = absurd s
+one_reason before (Err _) (Past place) reason s t = absurd s
 
 -- a read that gave bytes with room does not stop the reading
 room : (before : ℕ) (bytes : List ℕ) (answer : Result (List ℕ) ReadAnswer) (why : Unreadable) → answer ≡ Ok bytes
@@ -59,9 +58,8 @@ room : (before : ℕ) (bytes : List ℕ) (answer : Result (List ℕ) ReadAnswer)
 room before bytes answer why is fits s = by why (subst (λ (a : Result (List ℕ) ReadAnswer). StopsByAnswer before a why) is s)
   where
     by : (why : Unreadable) → StopsByAnswer before (Ok bytes) why → ⊥
-    by NotThere s = s
-    by TooLong s = s
     by (Past place) (over, at) = omega (arith, over, fits)
+    by _ s = s
 
 module _ (given : List Event) (names : List Name) where
   one_after : (file other : Name) (why reason : Unreadable) → StopsAfter names given file why → StopsAfter names given other reason

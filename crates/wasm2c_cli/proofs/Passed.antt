@@ -1,7 +1,14 @@
 -- What a line has passed, and what follows of the modules and files that it asks for.
-use Rattle.wasm2c_cli.proofs.Common.{◌≡◌, ℕ, ◌≤◌, Bool, true, false, not, ◌&&◌, ◌||◌, List, [], ◌∷◌, ◌++◌, map, length, get_or, if◌then◌else◌, IsTrue, nat_le, Some, None, codes, Option, option_and_then, bytes_eq, unwrap_or, sym, refl, ap, ◌∙◌, subst, inl, inr, arith, leb-true, append_cancel_left, length-map, AllByRecursion, list_all, list_any, Name, AreDistinct, IsOneOf, file_names, FileSet, Generation, Line, Translation, are_names, count_of, generate, generation, in_range, is_set, line_by, line_of, line_of_values, line_with_count, line_with_dir, line_with_output, line_with_runtime, runtime, set, translate, translation, HasName, HasPassed, inputs_of, names_of_targets, outputs_of, target_in, targets_of, runtime_files}
+use Rattle.wasm2c_cli.proofs.Common.{◌≡◌, ℕ, ◌≤◌, Bool, true, false, ◌&&◌, ◌||◌, List, [], ◌∷◌, ◌++◌, map, length, get_or, if◌then◌else◌}
+use Rattle.wasm2c_cli.proofs.Common.{IsTrue, nat_le, Some, None, codes, Option, option_and_then, bytes_eq, unwrap_or, sym, refl, ap, ◌∙◌}
+use Rattle.wasm2c_cli.proofs.Common.{subst, inl, inr, arith, leb-true, append_cancel_left, AllByRecursion, list_all, list_any, Name}
+use Rattle.wasm2c_cli.proofs.Common.{AreDistinct, IsOneOf, FileSet, Generation, Line, Translation, are_names, count_of, generate}
+use Rattle.wasm2c_cli.proofs.Common.{generation, in_range, is_set, line_by, line_of, line_of_values, line_with_count, line_with_dir}
+use Rattle.wasm2c_cli.proofs.Common.{line_with_output, line_with_runtime, runtime, set, translate, translation, HasName, HasPassed}
+use Rattle.wasm2c_cli.proofs.Common.{names_of_targets, outputs_of, target_in}
 use Rattle.std.specs.Str.Parse.{digits_value}
 use Rattle.std.proofs.lemmas.Slice.Eq.{bytes_eq-Decides}
+use Rattle.std.proofs.lemmas.Bool.{not-true, or_parts}
 use Rattle.w2c_base.proofs.Conjunctions.{both_hold}
 use Rattle.wasm2c_words.specs.Command.{Values, values_of}
 use Rattle.program_words.specs.Tests.{is_decimal, is_module_name}
@@ -98,18 +105,7 @@ options_passed (Some output) None None None name files line is = output_passed o
 options_passed None (Some dir) None None name files line is = dir_passed dir name files line is
 options_passed (Some output) None (Some count) None name files line is = count_passed count output name files line is
 options_passed None None None (Some dir) name files line is = runtime_passed dir name files line is
-options_passed None None None None name files line is = absurd (cc)
-options_passed None None (Some count) None name files line is = absurd (cc)
-options_passed None None (Some count) (Some runs) name files line is = absurd (cc)
-options_passed None (Some dir) None (Some runs) name files line is = absurd (cc)
-options_passed None (Some dir) (Some count) None name files line is = absurd (cc)
-options_passed None (Some dir) (Some count) (Some runs) name files line is = absurd (cc)
-options_passed (Some output) None None (Some runs) name files line is = absurd (cc)
-options_passed (Some output) None (Some count) (Some runs) name files line is = absurd (cc)
-options_passed (Some output) (Some dir) None None name files line is = absurd (cc)
-options_passed (Some output) (Some dir) None (Some runs) name files line is = absurd (cc)
-options_passed (Some output) (Some dir) (Some count) None name files line is = absurd (cc)
-options_passed (Some output) (Some dir) (Some count) (Some runs) name files line is = absurd (cc)
+options_passed _ _ _ _ name files line is = absurd (cc)
 
 values_passed : (values : Option Values) (line : Line) → option_and_then line_of_values values ≡ Some line → HasPassed line
 values_passed None line is = absurd (cc)
@@ -120,21 +116,7 @@ passed words line is = values_passed (values_of words) line is
 
 -- ---- the modules of a line
 
-pub many_of_translation : (t : Translation) → length (targets_of (translate t)) ≡ length (inputs_of (translate t))
-many_of_translation t = refl
-
-pub many_of_set : (s : FileSet) → length (targets_of (set s)) ≡ length (inputs_of (set s))
-many_of_set s = length-map s.inputs (target_in s.dir)
-
 -- ---- names that are distinct
-
-both_false : (a b : Bool) → (a || b) ≡ false → (a ≡ false) × (b ≡ false)
-both_false true b e = absurd (cc)
-both_false false b e = (refl, e)
-
-no_more : (a : Bool) → not a ≡ true → a ≡ false
-no_more true e = absurd (cc)
-no_more false e = refl
 
 equal_not : (name other : Name) → bytes_eq other name ≡ false → name ≡ other → ⊥
 equal_not name other differ same =
@@ -144,14 +126,14 @@ equal_not name other differ same =
 
 is_no_other : (name : Name) (names : List Name) → list_any (λ other. bytes_eq other name) names ≡ false → IsOneOf name names → ⊥
 is_no_other name [] none one = absurd one
-is_no_other name (other ∷ names) none (inl same) = equal_not name other (both_false _ _ none).0 same
-is_no_other name (other ∷ names) none (inr one) = is_no_other name names (both_false _ _ none).1 one
+is_no_other name (other ∷ names) none (inl same) = equal_not name other (or_parts _ _ none).0 same
+is_no_other name (other ∷ names) none (inr one) = is_no_other name names (or_parts _ _ none).1 one
 
 pub distinct_names : (names : List Name) → are_distinct names ≡ true → AreDistinct names
 distinct_names [] distinct = tt
 distinct_names (name ∷ names) distinct =
     let parts = both_hold _ _ distinct in
-    (is_no_other name names (no_more _ parts.0), distinct_names names parts.1)
+    (is_no_other name names (not-true _ parts.0), distinct_names names parts.1)
 
 two_distinct : (name other : Name) → (name ≡ other → ⊥) → AreDistinct (name ∷ other ∷ [])
 two_distinct name other differ = (apart, ((λ none. absurd none), tt))
@@ -182,11 +164,8 @@ h_is_not_c dir same =
     let last : ◌≡◌ {A = ℕ} 104 99 = ap (λ (l : List ℕ). get_or l 8 0) ends in
     omega (arith, last)
 
-runtime_files_distinct : (dir : Name) → AreDistinct (file_names (runtime_files dir))
-runtime_files_distinct dir = two_distinct (dir ++ codes "/w2c_rt.h") (dir ++ codes "/w2c_rt.c") (h_is_not_c dir)
-
 pub distinct_outputs : (line : Line) → HasPassed line → AreDistinct (outputs_of line)
 distinct_outputs (translate t) p = module_files_distinct t.output p.0
 distinct_outputs (set s) p = set_files_distinct s.dir s.inputs p.1
 distinct_outputs (generate g) p = module_files_distinct g.output p.0
-distinct_outputs (runtime dir) p = runtime_files_distinct dir
+distinct_outputs (runtime dir) p = two_distinct (dir ++ codes "/w2c_rt.h") (dir ++ codes "/w2c_rt.c") (h_is_not_c dir)

@@ -1,5 +1,12 @@
 -- What passes through files that are read or written one after another, by the stop.
-use Rattle.wasm2c_cli.proofs.Common.{◌≡◌, ℕ, zero, suc, ◌-◌, List, [], ◌∷◌, ◌++◌, length, IfErr, OnOk, slice_get, Some, Ok, Err, string_bytes, Result, sym, refl, ap, ◌∙◌, subst, inl, inr, append_assoc, arith, both_passed, file_written, finished_in_vain, passed_so, Name, Begin, Event, Finish, Read, BreaksOff, Passes, PutsText, WritesFile, ReadAnswer, WriteAnswer, behind_broken, both_written, broken_some, first_broken, longer_broken, one_written, BreaksOffAt, ReadsAll, ReadsSome, StopsBy, WritesFiles, NotThere, Past, TooLong, Unreadable, total, ReadStop, most_module_bytes, ModuleBytes, SetBytes, StopsAtFile, StopsAtLimit, StopsAtRead, StopsAtUnreadable, EndsReading, EndsWriting, TriesReading, ReadsFirst, StopsAfter, StopsByAnswer, most_set_bytes, PassesLimitBy, Reason, Limit, Stop}
+use Rattle.wasm2c_cli.proofs.Common.{◌≡◌, ℕ, zero, suc, ◌-◌, List, [], ◌∷◌, ◌++◌, length, IfErr, OnOk, slice_get, Some, Ok, Err}
+use Rattle.wasm2c_cli.proofs.Common.{string_bytes, Result, sym, refl, ap, ◌∙◌, subst, inl, inr, append_assoc, arith, both_passed}
+use Rattle.wasm2c_cli.proofs.Common.{file_written, finished_in_vain, passed_so, Name, Begin, Event, Finish, Read, BreaksOff, Passes}
+use Rattle.wasm2c_cli.proofs.Common.{PutsText, WritesFile, ReadAnswer, WriteAnswer, behind_broken, both_written, broken_some, first_broken}
+use Rattle.wasm2c_cli.proofs.Common.{longer_broken, one_written, BreaksOffAt, ReadsAll, ReadsSome, StopsBy, WritesFiles, NotThere, Past}
+use Rattle.wasm2c_cli.proofs.Common.{TooLong, Unreadable, total, ReadStop, most_module_bytes, ModuleBytes, SetBytes, StopsAtFile}
+use Rattle.wasm2c_cli.proofs.Common.{StopsAtLimit, StopsAtRead, StopsAtUnreadable, EndsReading, EndsWriting, TriesReading, ReadsFirst}
+use Rattle.wasm2c_cli.proofs.Common.{StopsAfter, StopsByAnswer, most_set_bytes, PassesLimitBy, Reason, Limit, Stop}
 use Rattle.w2c_io.specs.declared.answers.ReadAnswer.TheVariants as reading
 use Rattle.w2c_io.specs.declared.answers.WriteAnswer.TheVariants as writing
 use Rattle.w2c_files.specs.declared.reading.ReadStop.TheVariants as read
@@ -45,24 +52,18 @@ by_length : (left number before : ℕ) (answer : Result (List ℕ) ReadAnswer) (
     → (k ≡ number) × StopsByAnswer before answer TooLong
 by_length left number before (Ok bytes) k is = absurd is
 by_length left number before (Err reading.Absent) k is = absurd is
-by_length left number before (Err reading.Failed) k is = absurd is
 by_length left number before (Err reading.TooLong) k is = (is, tt)
-by_length left number before (Err reading.Memory) k is = absurd is
+by_length left number before (Err _) k is = absurd is
 
 by_place : (number before : ℕ) (answer : Result (List ℕ) ReadAnswer) (k place : ℕ)
     → StopsBy (most_set_bytes - before) number answer (read.Past k place) → (k ≡ number) × StopsByAnswer before answer (Past place)
 by_place number before (Ok bytes) k place (same, is, long) = (same, (long, is))
 by_place number before (Err reading.Absent) k place is = absurd is
-by_place number before (Err reading.Failed) k place is = absurd is
-by_place number before (Err reading.TooLong) k place is = absurd is
-by_place number before (Err reading.Memory) k place is = absurd is
+by_place number before (Err _) k place is = absurd is
 
 module _ (names : List Name) (given : List Event) where
   abbrev Stopped : ReadStop → Type 0
   Stopped why = ReadsSome most_module_bytes most_set_bytes names why given
-
-  some_read : (why : ReadStop) → Stopped why → ReadsFirst names given
-  some_read why some = some_in_order most_module_bytes most_set_bytes names why given some
 
   -- the file with a number
   stopped_at : (why : ReadStop) (k : ℕ) (reason : Unreadable) (file : Name) → (why ≡ read.Memory → ⊥)
@@ -104,21 +105,17 @@ module _ (names : List Name) (given : List Event) where
       (λ all answer stops. by_place (length all) (total all) answer k place stops)
 
   ends_unread : (k : ℕ) (stop : Stop) → Stopped (read.Unread k) → StopsAtUnreadable names k stop → EndsReading names given stop
-  ends_unread k stops.Usage why is = absurd is
-  ends_unread k (stops.Refused name reason) why is = absurd is
   ends_unread k (stops.Unread name) why at = unread_at k (string_bytes name) why at
-  ends_unread k (stops.Unwritten name) why is = absurd is
   ends_unread k stops.Memory why is = tt
+  ends_unread k _ why is = absurd is
 
   ends_at_limit : (limit : Reason) (k : ℕ) (stop : Stop)
       → ((file : Name) → slice_get names k ≡ Some file → PassesLimitBy (StopsAfter names given file) limit)
       → StopsAtLimit limit names k stop → EndsReading names given stop
-  ends_at_limit limit k stops.Usage passes is = absurd is
   ends_at_limit limit k (stops.Refused name reason) passes (is, at) =
       subst (λ (r : Reason). PassesLimitBy (StopsAfter names given (string_bytes name)) r) (sym is) (passes (string_bytes name) at)
-  ends_at_limit limit k (stops.Unread name) passes is = absurd is
-  ends_at_limit limit k (stops.Unwritten name) passes is = absurd is
   ends_at_limit limit k stops.Memory passes is = tt
+  ends_at_limit limit k _ passes is = absurd is
 
   reading_ends : (why : ReadStop) (stop : Stop) → Stopped why → StopsAtRead why names stop → EndsReading names given stop
   reading_ends (read.Unread k) stop why is = ends_unread k stop why is
@@ -129,7 +126,8 @@ module _ (names : List Name) (given : List Event) where
   reading_ends read.Memory stop why is = subst (EndsReading names given) (sym is) tt
 
   tries_reading : (why : ReadStop) (stop : Stop) → StopsAtRead why names stop → Stopped why → TriesReading names stop given
-  tries_reading why stop is some = record { reads = some_read why some; ends = reading_ends why stop some is }
+  tries_reading why stop is some =
+      record { reads = some_in_order most_module_bytes most_set_bytes names why given some; ends = reading_ends why stop some is }
 
 pub reading_tried : (old new : List Event) (names : List Name) (why : ReadStop) (stop : Stop)
     → Passes old new (ReadsSome most_module_bytes most_set_bytes names why) → StopsAtRead why names stop
@@ -157,13 +155,11 @@ not_finished old begun middle new name text (Err why) begins put ends =
 
 ends_at : (files : List (Name × List ℕ)) (answer : WriteAnswer) (file : Name) (put : List Event) (stop : Stop)
     → BreaksOffAt files file answer put → StopsAtFile answer file stop → EndsWriting files stop put
-ends_at files answer file put stops.Usage broken is = absurd is
-ends_at files answer file put (stops.Refused name reason) broken is = absurd is
-ends_at files answer file put (stops.Unread name) broken is = absurd is
 ends_at files answer file put (stops.Unwritten name) broken (failed, same) =
     subst (λ (n : Name). BreaksOffAt files n writing.Failed put) (sym same)
     (subst (λ (a : WriteAnswer). BreaksOffAt files file a put) failed broken)
 ends_at files answer file put stops.Memory broken is = broken_some files file answer put broken
+ends_at files answer file put _ broken is = absurd is
 
 -- the first of files is broken off
 pub first_ends : (old new : List Event) (name file : Name) → file ≡ name → (text : List ℕ) (rest : List (Name × List ℕ))

@@ -1,7 +1,14 @@
 -- What passes through the files for each form of a line.
-use Rattle.wasm2c_cli.proofs.Common.{◌≡◌, ℕ, ◌≤◌, List, [], ◌∷◌, ◌++◌, length, IfErr, OnOk, Some, Ok, Err, Result, sym, refl, subst, inl, inr, append-nil, IfErr-weaker, AllByRecursion, both_passed, none_passed, passed_so, Name, Event, Passes, ReadsAll, WritesFiles, total, Module, AreBytes, most_module_bytes, FileSet, Generation, Line, Translation, generate, line_of, runtime, set, translate, Write, files_of, module_files, AreTaken, HasPassed, IsNamed, IsTakenFile, StopsAccepting, AllAccepted, EndsLine, EndsTranslating, EndsWriting, PassesWhole, PassesWork, TranslatesAll, TriesLine, TriesReading, TriesTranslating, TriesWork, IsJobOver, inputs_of, most_set_bytes, target, targets_of, runtime_files, Stop}
+use Rattle.wasm2c_cli.proofs.Common.{◌≡◌, ℕ, ◌≤◌, List, [], ◌∷◌, ◌++◌, length, IfErr, OnOk, Some, Ok, Err, Result, sym, refl, subst, inl}
+use Rattle.wasm2c_cli.proofs.Common.{inr, append-nil, IfErr-weaker, AllByRecursion, both_passed, passed_so, Name, Event, Passes, ReadsAll}
+use Rattle.wasm2c_cli.proofs.Common.{WritesFiles, total, Module, AreBytes, most_module_bytes, Generation, Line, generate, line_of, runtime}
+use Rattle.wasm2c_cli.proofs.Common.{Write, files_of, module_files, AreTaken, HasPassed, IsNamed, IsTakenFile, StopsAccepting, AllAccepted}
+use Rattle.wasm2c_cli.proofs.Common.{EndsLine, EndsTranslating, EndsWriting, PassesWhole, PassesWork, TranslatesAll, TriesLine}
+use Rattle.wasm2c_cli.proofs.Common.{TriesReading, TriesTranslating, TriesWork, IsJobOver, inputs_of, most_set_bytes, target, targets_of}
+use Rattle.wasm2c_cli.proofs.Common.{runtime_files, Stop}
 use Rattle.wasm2c_cli.specs.declared.stop.Stop.TheVariants as stops
 use Rattle.wasm2c_cli.specs.Plan as plan
+use Rattle.wasm2c_cli.proofs.LineStops.{IsOfFiles}
 use Rattle.wasm2c_cli.proofs.Passing.{all_read_first, none_read}
 use Rattle.wasm2c_cli.proofs.Taken.{taken_accepted}
 
@@ -19,11 +26,10 @@ module _ (inputs : List Name) (targets : List plan.Target) (old new : List Event
   }
     where
       ends : (stop : Stop) → TriesReading inputs stop given → EndsTranslating inputs targets given [] stop
-      ends stops.Usage tried = absurd tried.ends
       ends (stops.Refused name reason) tried = (refl, inl tried.ends)
       ends (stops.Unread name) tried = (refl, tried.ends)
-      ends (stops.Unwritten name) tried = absurd tried.ends
       ends stops.Memory tried = inl refl
+      ends _ tried = absurd tried.ends
 
   pub reading_passed : (stop : Stop) → Passes old new (TriesReading inputs stop) → Passes old new (TriesTranslating inputs targets stop)
   reading_passed stop =
@@ -43,11 +49,9 @@ module _ (inputs : List Name) (targets : List plan.Target) (old new : List Event
     }
       where
         ends : (stop : Stop) → StopsAccepting inputs sources stop → EndsTranslating inputs targets given [] stop
-        ends stops.Usage why = absurd why
         ends (stops.Refused name reason) why = (refl, inr (sources, record { calls = calls; fit = fit; together = together }, why))
-        ends (stops.Unread name) why = absurd why
-        ends (stops.Unwritten name) why = absurd why
         ends stops.Memory why = inl refl
+        ends _ why = absurd why
 
     pub accepting_passed : (stop : Stop) → StopsAccepting inputs sources stop → Passes old new (ReadsAll most_module_bytes inputs sources)
         → Passes old new (TriesTranslating inputs targets stop)
@@ -74,11 +78,9 @@ module _ (inputs : List Name) (targets : List plan.Target) (old new : List Event
       }
         where
           ends : (stop : Stop) → EndsWriting (files_of targets modules) stop put → EndsTranslating inputs targets given put stop
-          ends stops.Usage why = absurd why
-          ends (stops.Refused name reason) why = absurd why
-          ends (stops.Unread name) why = absurd why
           ends (stops.Unwritten name) broken = (modules, all_accepted given calls, broken)
           ends stops.Memory some = inr (modules, all_accepted given calls, some)
+          ends _ why = absurd why
 
       pub writing_passed : {A : Type 0} (result : Result A Stop)
           → IfErr result (λ stop. Passes middle new (EndsWriting (files_of targets modules) stop))
@@ -108,99 +110,49 @@ module _ (inputs : List Name) (targets : List plan.Target) (old new : List Event
 
 -- ---- a line of one file, and a set
 
-translation_ended : (t : Translation) (stop : Stop) (events : List Event)
-    → TriesTranslating (inputs_of (translate t)) (targets_of (translate t)) stop events → TriesLine (translate t) stop events
-translation_ended t stop events tried = record {
-  given = tried.given;
-  put = tried.put;
-  split = tried.split;
-  reads = tried.reads;
-  ends = ends stop tried.given tried.put tried.ends;
-}
-  where
-    ends : (stop : Stop) (given put : List Event) → EndsTranslating (inputs_of (translate t)) (targets_of (translate t)) given put stop
-        → EndsLine (translate t) given put stop
-    ends stops.Usage given put why = why
-    ends (stops.Refused name reason) given put why = why
-    ends (stops.Unread name) given put why = why
-    ends (stops.Unwritten name) given put (modules, all, broken) = (
-      files_of (targets_of (translate t)) modules,
-      record {
-        sources = all.sources;
-        modules = modules;
-        read = all.read;
-        accepted = all.accepted;
-        written = refl;
-      },
-      broken,
-    )
-    ends stops.Memory given put (inl none) = inl none
-    ends stops.Memory given put (inr (modules, all, some)) = inr (
-      files_of (targets_of (translate t)) modules,
-      record {
-        sources = all.sources;
-        modules = modules;
-        read = all.read;
-        accepted = all.accepted;
-        written = refl;
-      },
-      some,
-    )
+files_ended : (line : Line) (stop : Stop) (given put : List Event) → IsOfFiles line
+    → EndsTranslating (inputs_of line) (targets_of line) given put stop → EndsLine line given put stop
+files_ended (generate g) stop given put of why = absurd of
+files_ended (runtime dir) stop given put of why = absurd of
+files_ended line stops.Usage given put of why = why
+files_ended line (stops.Refused name reason) given put of why = why
+files_ended line (stops.Unread name) given put of why = why
+files_ended line (stops.Unwritten name) given put of (modules, all, broken) = (
+  files_of (targets_of line) modules,
+  record {
+    sources = all.sources;
+    modules = modules;
+    read = all.read;
+    accepted = all.accepted;
+    written = refl;
+  },
+  broken,
+)
+files_ended line stops.Memory given put of (inl none) = inl none
+files_ended line stops.Memory given put of (inr (modules, all, some)) = inr (
+  files_of (targets_of line) modules,
+  record {
+    sources = all.sources;
+    modules = modules;
+    read = all.read;
+    accepted = all.accepted;
+    written = refl;
+  },
+  some,
+)
 
-set_ended : (s : FileSet) (stop : Stop) (events : List Event)
-    → TriesTranslating (inputs_of (set s)) (targets_of (set s)) stop events → TriesLine (set s) stop events
-set_ended s stop events tried = record {
-  given = tried.given;
-  put = tried.put;
-  split = tried.split;
-  reads = tried.reads;
-  ends = ends stop tried.given tried.put tried.ends;
-}
-  where
-    ends : (stop : Stop) (given put : List Event) → EndsTranslating (inputs_of (set s)) (targets_of (set s)) given put stop
-        → EndsLine (set s) given put stop
-    ends stops.Usage given put why = why
-    ends (stops.Refused name reason) given put why = why
-    ends (stops.Unread name) given put why = why
-    ends (stops.Unwritten name) given put (modules, all, broken) = (
-      files_of (targets_of (set s)) modules,
-      record {
-        sources = all.sources;
-        modules = modules;
-        read = all.read;
-        accepted = all.accepted;
-        written = refl;
-      },
-      broken,
-    )
-    ends stops.Memory given put (inl none) = inl none
-    ends stops.Memory given put (inr (modules, all, some)) = inr (
-      files_of (targets_of (set s)) modules,
-      record {
-        sources = all.sources;
-        modules = modules;
-        read = all.read;
-        accepted = all.accepted;
-        written = refl;
-      },
-      some,
-    )
-
-module _ {A : Type 0} (old new : List Event) (result : Result A Stop) where
-  pub translation_tried : (t : Translation)
-      → IfErr result (λ stop. Passes old new (TriesTranslating (inputs_of (translate t)) (targets_of (translate t)) stop))
-      → IfErr result (λ stop. Passes old new (TriesLine (translate t) stop))
-  translation_tried t = IfErr-weaker result _ _
-      (λ stop. passed_so old new (TriesTranslating (inputs_of (translate t)) (targets_of (translate t)) stop)
-      (TriesLine (translate t) stop)
-      (λ events tried. translation_ended t stop events tried))
-
-  pub set_tried : (s : FileSet)
-      → IfErr result (λ stop. Passes old new (TriesTranslating (inputs_of (set s)) (targets_of (set s)) stop))
-      → IfErr result (λ stop. Passes old new (TriesLine (set s) stop))
-  set_tried s = IfErr-weaker result _ _
-      (λ stop. passed_so old new (TriesTranslating (inputs_of (set s)) (targets_of (set s)) stop) (TriesLine (set s) stop)
-      (λ events tried. set_ended s stop events tried))
+pub files_tried : {A : Type 0} (old new : List Event) (result : Result A Stop) (line : Line) → IsOfFiles line
+    → IfErr result (λ stop. Passes old new (TriesTranslating (inputs_of line) (targets_of line) stop))
+    → IfErr result (λ stop. Passes old new (TriesLine line stop))
+files_tried old new result line of = IfErr-weaker result _ _
+    (λ stop. passed_so old new (TriesTranslating (inputs_of line) (targets_of line) stop) (TriesLine line stop)
+    (λ events tried. record {
+      given = tried.given;
+      put = tried.put;
+      split = tried.split;
+      reads = tried.reads;
+      ends = files_ended line stop tried.given tried.put of tried.ends;
+    }))
 
 -- ---- a generated module
 
@@ -222,11 +174,9 @@ module _ (g : Generation) (bytes : List ℕ) (m : Module) (taken : IsTakenFile g
       record { given = []; put = events; split = refl; reads = none_read []; ends = ends stop why }
     where
       ends : (stop : Stop) → EndsWriting files stop events → EndsLine (generate g) [] events stop
-      ends stops.Usage why = absurd why
-      ends (stops.Refused name reason) why = absurd why
-      ends (stops.Unread name) why = absurd why
       ends (stops.Unwritten name) broken = (files, job, broken)
       ends stops.Memory some = inr (files, job, some)
+      ends _ why = absurd why
 
   module _ {A : Type 0} (old new : List Event) (result : Result A Stop) where
     pub generation_tried : IfErr result (λ stop. Passes old new (EndsWriting files stop))
@@ -250,11 +200,9 @@ runtime_ended : (dir : Name) (stop : Stop) (events : List Event) → EndsWriting
 runtime_ended dir stop events why = record { given = []; put = events; split = refl; reads = none_read []; ends = ends stop why }
   where
     ends : (stop : Stop) → EndsWriting (runtime_files dir) stop events → EndsLine (runtime dir) [] events stop
-    ends stops.Usage why = absurd why
-    ends (stops.Refused name reason) why = absurd why
-    ends (stops.Unread name) why = absurd why
     ends (stops.Unwritten name) broken = (runtime_files dir, refl, broken)
     ends stops.Memory some = inr (runtime_files dir, refl, some)
+    ends _ why = absurd why
 
 module _ {A : Type 0} (old new : List Event) (dir : Name) (files : List (Name × List ℕ)) (same : files ≡ runtime_files dir)
     (result : Result A Stop) where
@@ -269,10 +217,6 @@ module _ {A : Type 0} (old new : List Event) (dir : Name) (files : List (Name ×
   runtime_passed wrote = subst (λ (l : List (Name × List ℕ)). OnOk result (Passes old new (WritesFiles l))) same wrote
 
 -- ---- memory is wanting before a call is made
-
-pub none_tried : (line : Line) (old : List Event) → Passes old old (TriesLine line stops.Memory)
-none_tried line old = none_passed old (TriesLine line stops.Memory)
-    (record { given = []; put = []; split = refl; reads = none_read (inputs_of line); ends = inl refl })
 
 -- ---- the work on the line of words
 

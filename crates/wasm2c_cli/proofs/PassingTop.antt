@@ -1,5 +1,11 @@
 -- What the end of the work says of what passed through the files.
-use Rattle.wasm2c_cli.proofs.Common.{◌≡◌, ℕ, ◌⊎◌, List, [], ◌∷◌, ◌++◌, length, Some, None, string_bytes, Option, MatchOption, sym, refl, ap, ◌∙◌, subst, inl, inr, length-map, AllByRecursion, Name, Event, all_some, broken_some, WritesFiles, Module, most_module_bytes, TranslationTheorem, Line, generate, line_of, runtime, set, translate, AreSourcesBy, Job, Missing, Refused, Write, files_of, line_for, status_of, usage_line, AreTaken, IsNamed, PassesWhole, PassesWork, TranslatesAll, TriesLine, TriesWork, Follows, IsJobOver, IsUnitOf, PassesFor, PassesLine, PutsLinkedUnits, ReadsFirst, ReadsWhole, Target, inputs_of, target_in, targets_of, runtime_files, NamesModules, HoldAll, HoldsText, HoldsUnit, texts_made, Stop}
+use Rattle.wasm2c_cli.proofs.Common.{◌≡◌, ℕ, ◌⊎◌, List, [], ◌∷◌, ◌++◌, length, Some, None, string_bytes, Option, MatchOption, sym, refl, ap}
+use Rattle.wasm2c_cli.proofs.Common.{◌∙◌, subst, inl, inr, length-map, AllByRecursion, Name, Event, all_some, broken_some, WritesFiles}
+use Rattle.wasm2c_cli.proofs.Common.{Module, most_module_bytes, TranslationTheorem, Line, generate, line_of, runtime, set, translate}
+use Rattle.wasm2c_cli.proofs.Common.{AreSourcesBy, Job, Missing, Refused, Write, files_of, line_for, status_of, usage_line, AreTaken}
+use Rattle.wasm2c_cli.proofs.Common.{IsNamed, PassesWhole, PassesWork, TranslatesAll, TriesLine, TriesWork, Follows, IsJobOver, IsUnitOf}
+use Rattle.wasm2c_cli.proofs.Common.{PassesFor, PassesLine, PutsLinkedUnits, ReadsFirst, ReadsWhole, Target, inputs_of, target_in}
+use Rattle.wasm2c_cli.proofs.Common.{targets_of, runtime_files, NamesModules, HoldAll, HoldsText, HoldsUnit, texts_made, Stop}
 use Rattle.w2c_io.specs.declared.answers.WriteAnswer.TheVariants as writing
 use Rattle.wasm2c_cli.specs.declared.stop.Stop.TheVariants as stops
 use Rattle.wasm2c_cli.proofs.Passing.{all_read_first, many_read, none_read}
@@ -196,8 +202,6 @@ module _ (words : List Name) (status : ℕ) (says : List ℕ → Type 0) (events
     where
       follows : (stop : Stop) (tried : TriesLine line stop events) → Ended line tried.given tried.put
       follows stops.Usage tried = absurd tried.ends
-      follows (stops.Refused name reason) tried = inr (five, tried.ends.0)
-      follows (stops.Unread name) tried = inr (five, tried.ends.0)
       follows (stops.Unwritten name) tried = inl (
         Write tried.ends.0,
         tried.ends.1,
@@ -207,6 +211,7 @@ module _ (words : List Name) (status : ℕ) (says : List ℕ → Type 0) (events
         | inl none ↦ inr (five, none)
         | inr some ↦ inl (Write some.0, some.1, inr (inr (five, some.2)))
       ]
+      follows _ tried = inr (five, tried.ends.0)
 
   line_said : (line : Line) (stop : Stop) → TriesLine line stop events → status ≡ status_of stop → says (line_for stop)
       → PassesLine line status says events

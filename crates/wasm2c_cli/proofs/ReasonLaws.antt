@@ -1,6 +1,8 @@
 -- Bytes are refused for at most one reason, and those of a valid module for none; so the first file that is refused is one, and so
 -- is the one that passes a limit.
-use Rattle.wasm2c_cli.proofs.Common.{◌≡◌, ℕ, List, [], ◌∷◌, Some, None, Option, sym, refl, ap, ◌∙◌, subst, inl, inr, same_Some, Name, Past, TooLong, Unreadable, Module, one_tree, most_module_bytes, ModuleBytes, SetBytes, Accepted, AreAccepted, IsAccepted, IsFirstRefused, IsRefused, PassesLimitBy, reason_for, Reason, Limit}
+use Rattle.wasm2c_cli.proofs.Common.{◌≡◌, ℕ, List, [], ◌∷◌, Some, None, Option, sym, refl, ap, ◌∙◌, subst, inl, inr, same_Some, Name, Past}
+use Rattle.wasm2c_cli.proofs.Common.{TooLong, Unreadable, Module, one_tree, most_module_bytes, ModuleBytes, SetBytes, Accepted, AreAccepted}
+use Rattle.wasm2c_cli.proofs.Common.{IsAccepted, IsFirstRefused, IsRefused, PassesLimitBy, reason_for, Reason, Limit}
 use Rattle.w2c_files.specs.Reading.{Missing}
 use Rattle.wasm_valid.specs.FileVerdict.{Read}
 use Rattle.wasm_valid.proofs.Files.{one_file_verdict}

@@ -1,5 +1,8 @@
 -- Bytes that are accepted in order, and the first that are refused.
-use Rattle.wasm2c_cli.proofs.Common.{◌≡◌, ℕ, zero, suc, ◌+◌, ◌<◌, List, [], ◌∷◌, ◌++◌, length, take, slice_get, slice_index_or, Some, None, string_bytes, Option, MatchOption, sym, refl, ap, subst, inl, inr, arith, AllByRecursion, take_next, Name, IsOneOf, Module, AreBytes, Accepted, is_invalid, IsRefusal, AreAccepted, AreTaken, StopsAccepting, StopsAtRefused, IsFirstRefused, IsRefused, reason_of, Reason, Stop}
+use Rattle.wasm2c_cli.proofs.Common.{◌≡◌, ℕ, zero, suc, ◌+◌, ◌<◌, List, [], ◌∷◌, ◌++◌, length, take, slice_get, slice_index_or, Some, None}
+use Rattle.wasm2c_cli.proofs.Common.{string_bytes, Option, MatchOption, sym, refl, ap, subst, inl, inr, arith, AllByRecursion, take_next}
+use Rattle.wasm2c_cli.proofs.Common.{Name, IsOneOf, Module, AreBytes, Accepted, is_invalid, IsRefusal, AreAccepted, AreTaken}
+use Rattle.wasm2c_cli.proofs.Common.{StopsAccepting, StopsAtRefused, IsFirstRefused, IsRefused, reason_of, Reason, Stop}
 use Rattle.wasm_spelling.specs.declared.fault.ReadFault.TheVariants as fault
 use Rattle.wasm_valid.specs.FileVerdict.{Unread, Read, IsVerdictOn}
 use Rattle.w2c_sim.specs.declared.refusal.Refusal.{Refusal}
@@ -99,10 +102,8 @@ some_reason bytes (Some r) reason is refused = let same : r ≡ reason = cc in s
 pub stops_accepting : (names : List Name) (sources : List (List ℕ)) (modules : List Module) (k : ℕ) (bytes : List ℕ) (refusal : Refusal)
     (stop : Stop) → slice_get sources k ≡ Some bytes → AreTaken (take k sources) modules → IsRefusal bytes refusal
     → StopsAtRefused refusal names k stop → StopsAccepting names sources stop
-stops_accepting names sources modules k bytes refusal stops.Usage at taken is why = absurd why
 stops_accepting names sources modules k bytes refusal (stops.Refused name reason) at taken is (because, named) =
     first_refused names sources modules k (string_bytes name) bytes reason named at taken
     (some_reason bytes (reason_of refusal) reason because (refused_for bytes refusal is))
-stops_accepting names sources modules k bytes refusal (stops.Unread name) at taken is why = absurd why
-stops_accepting names sources modules k bytes refusal (stops.Unwritten name) at taken is why = absurd why
 stops_accepting names sources modules k bytes refusal stops.Memory at taken is why = tt
+stops_accepting names sources modules k bytes refusal _ at taken is why = absurd why

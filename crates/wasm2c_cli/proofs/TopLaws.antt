@@ -1,8 +1,20 @@
 -- What the end of the work says of the status, and of what stands.
-use Rattle.wasm2c_cli.proofs.Common.{◌≡◌, ℕ, suc, ◌≤◌, ◌⊎◌, List, [], ◌∷◌, ◌++◌, length, Some, None, string_bytes, Option, MatchOption, sym, refl, ap, ◌∙◌, subst, inl, inr, append-nil, arith, length-map, AllByRecursion, Faulted, Rose, Contents, HasFile, Name, Told, extended, Says, SaysPart, Tells, all_stand, stand_whole, AreHeld, AreDistinct, HasText, StandsAt, file_names, written, Module, File, IsTranslatedFile, TranslationTheorem, IsModuleOf, header_text_of, text_of, Generation, Line, generate, line_of, runtime, set, translate, AreSources, IsJob, IsJobOf, Job, Missing, Refused, Translates, Usage, Write, files_of, IsLine, line_for, memory_line, read_line, refused_line, status_of, summary_line, write_line, AreTaken, FinishesLine, FinishesWork, HasName, HasPassed, IsNamed, IsTranslated, SumsUp, SumsUpPart, Target, inputs_of, names_of_targets, outputs_of, target_in, targets_of, runtime_files, Done, Generates, IsInput, IsOutput, KeepsCurrent, StandsOfJob, StandsOfLine, StopsLine, StopsWork, Answers, NamesModules, DoTheSameWithOthers, HoldAll, HoldsText, HoldsUnit, Stand, StandAll, WritesLinkedUnits, WritesUnits, texts_made, Reason, Stop, Finished}
+use Rattle.wasm2c_cli.proofs.Common.{◌≡◌, ℕ, ◌≤◌, ◌⊎◌, List, [], ◌∷◌, ◌++◌, length, Some, None, string_bytes, Option, MatchOption, sym}
+use Rattle.wasm2c_cli.proofs.Common.{refl, ap, ◌∙◌, subst, inl, inr, arith, length-map, AllByRecursion, Faulted, Rose, Contents, HasFile}
+use Rattle.wasm2c_cli.proofs.Common.{Name, Told, Says, SaysPart, Tells, all_stand, stand_whole, AreDistinct, HasText, StandsAt, file_names}
+use Rattle.wasm2c_cli.proofs.Common.{written, Module, File, IsTranslatedFile, TranslationTheorem, IsModuleOf, header_text_of, text_of}
+use Rattle.wasm2c_cli.proofs.Common.{Generation, Line, generate, line_of, runtime, set, translate, AreSources, IsJob, IsJobOf, Job, Missing}
+use Rattle.wasm2c_cli.proofs.Common.{Refused, Translates, Usage, Write, files_of, IsLine, line_for, memory_line, read_line, refused_line}
+use Rattle.wasm2c_cli.proofs.Common.{status_of, summary_line, write_line, AreTaken, FinishesLine, FinishesWork, HasName, HasPassed, IsNamed}
+use Rattle.wasm2c_cli.proofs.Common.{IsTranslated, SumsUp, SumsUpPart, Target, inputs_of, names_of_targets, outputs_of, target_in}
+use Rattle.wasm2c_cli.proofs.Common.{targets_of, runtime_files, Done, Generates, IsInput, IsOutput, KeepsCurrent, StandsOfJob, StandsOfLine}
+use Rattle.wasm2c_cli.proofs.Common.{StopsLine, StopsWork, Answers, NamesModules, DoTheSameWithOthers, HoldAll, HoldsText, HoldsUnit, Stand}
+use Rattle.wasm2c_cli.proofs.Common.{StandAll, WritesLinkedUnits, WritesUnits, texts_made, Reason, Stop, Finished, same_Some}
+use Rattle.w2c_files.proofs.Honest.{as_many}
 use Rattle.w2c_gen.specs.GeneratedFile.{IsGeneratedFile}
 use Rattle.w2c_sim.proofs.Accepting.{module_of}
 use Rattle.w2c_sim.proofs.Spelling.{spells_unit}
+use Rattle.program_words.proofs.Written.{none_written}
 use Rattle.wasm2c_cli.specs.declared.stop.Stop.TheVariants as stops
 use Rattle.wasm2c_cli.specs.declared.work.Finished.TheVariants as finished
 use Rattle.wasm2c_cli.proofs.Taken.{length-taken, taken_accepted}
@@ -21,9 +33,6 @@ usage_job words contents none =
 same_line : (a b : Line) → ◌≡◌ {A = Option Line} (Some a) (Some b) → a ≡ b
 same_line a b e = cc
 
-same_contents : (m n : Contents) → ◌≡◌ {A = Told} (Some m) (Some n) → m ≡ n
-same_contents m n e = cc
-
 -- ---- work that was finished
 
 -- the modules of a line are translated, and their files stand
@@ -36,13 +45,6 @@ record Made (line : Line) (contents : Contents) (old new : Told) : Type 0 where
   named : AllByRecursion IsNamed (targets_of line)
   stand : new ≡ written old (files_of (targets_of line) modules)
 
-length-held : (contents : Contents) (names : List Name) (sources : List (List ℕ)) → AreHeld contents names sources
-    → length sources ≡ length names
-length-held contents [] [] held = refl
-length-held contents [] (bytes ∷ sources) held = absurd held
-length-held contents (name ∷ names) [] held = absurd held
-length-held contents (name ∷ names) (bytes ∷ sources) (here, held) = ap suc (length-held contents names sources held)
-
 is_made : (line : Line) (contents : Contents) (old new : Told) (f : Finished) → ((dir : Name) → line ≡ runtime dir → ⊥)
     → FinishesLine line old new f → old ≡ Some contents → Made line contents old new
 is_made (translate t) contents old new f names (written_so, fin) told =
@@ -52,7 +54,7 @@ is_made (translate t) contents old new f names (written_so, fin) told =
       modules = m.modules;
       read = m.read;
       taken = m.taken;
-      many = length-taken m.sources m.modules m.taken ∙ length-held contents (inputs_of (translate t)) m.sources m.read.held;
+      many = length-taken m.sources m.modules m.taken ∙ as_many contents (inputs_of (translate t)) m.sources m.read.held;
       named = m.named;
       stand = m.stand;
     }
@@ -63,7 +65,7 @@ is_made (set s) contents old new f names (written_so, fin) told =
       modules = m.modules;
       read = m.read;
       taken = m.taken;
-      many = length-taken m.sources m.modules m.taken ∙ length-held contents (inputs_of (set s)) m.sources m.read.held
+      many = length-taken m.sources m.modules m.taken ∙ as_many contents (inputs_of (set s)) m.sources m.read.held
           ∙ sym (length-map s.inputs (target_in s.dir));
       named = m.named;
       stand = m.stand;
@@ -161,15 +163,11 @@ finish_silent words old new (finished.Generated count bytes) (line, is, passed, 
     generates (generate g) is fin = none g is
     generates (runtime dir) is (other, whole) = cc
 
-unsaid : (said : Option (List ℕ)) → said ≡ extended said []
-unsaid None = refl
-unsaid (Some bytes) = λ i. Some (sym (append-nil bytes) i)
-
 -- where memory was wanting for the summary
 pub finish_part : (f : Finished) (said said' : Option (List ℕ)) → SumsUpPart said said' f
     → (line : List ℕ) × IsLine line × SaysPart said said' line
 finish_part finished.Written said said' same =
-    (memory_line, inl (stops.Memory, refl), ([], (memory_line, refl), same ∙ unsaid said))
+    (memory_line, inl (stops.Memory, refl), ([], (memory_line, refl), same ∙ none_written said))
 finish_part (finished.Generated count bytes) said said' part = (summary_line count bytes, inr (count, bytes, refl), part)
 
 -- work that was finished has no status of a stop
@@ -263,14 +261,9 @@ pub hold_weaker : (P Q : Stand) → ((t : Target) (bytes : List ℕ) (m : Module
     → (targets : List Target) (sources : List (List ℕ)) (modules : List Module) → HoldAll P targets sources modules
     → HoldAll Q targets sources modules
 hold_weaker P Q weaker [] [] [] held = tt
-hold_weaker P Q weaker [] [] (m ∷ modules) held = absurd held
-hold_weaker P Q weaker [] (bytes ∷ sources) [] held = absurd held
-hold_weaker P Q weaker [] (bytes ∷ sources) (m ∷ modules) held = absurd held
-hold_weaker P Q weaker (t ∷ targets) [] [] held = absurd held
-hold_weaker P Q weaker (t ∷ targets) [] (m ∷ modules) held = absurd held
-hold_weaker P Q weaker (t ∷ targets) (bytes ∷ sources) [] held = absurd held
 hold_weaker P Q weaker (t ∷ targets) (bytes ∷ sources) (m ∷ modules) (here, held) =
     (weaker t bytes m here, hold_weaker P Q weaker targets sources modules held)
+hold_weaker P Q weaker _ _ _ held = absurd held
 
 -- files that are translated, and others
 module _ (new : Told) (others : List File) (translated : AllByRecursion IsTranslatedFile others) where
@@ -278,14 +271,9 @@ module _ (new : Told) (others : List File) (translated : AllByRecursion IsTransl
       → HoldAll (HoldsText new) targets sources modules
       → AllByRecursion IsTranslatedFile (texts_made targets sources modules ++ others)
   all_translated [] [] [] held = translated
-  all_translated [] [] (m ∷ modules) held = absurd held
-  all_translated [] (bytes ∷ sources) [] held = absurd held
-  all_translated [] (bytes ∷ sources) (m ∷ modules) held = absurd held
-  all_translated (t ∷ targets) [] [] held = absurd held
-  all_translated (t ∷ targets) [] (m ∷ modules) held = absurd held
-  all_translated (t ∷ targets) (bytes ∷ sources) [] held = absurd held
   all_translated (t ∷ targets) (bytes ∷ sources) (m ∷ modules) (here, held) =
       ((m, here.is_module, refl), all_translated targets sources modules held)
+  all_translated _ _ _ held = absurd held
 
 pub are_linked : TranslationTheorem → (words : List Name) (old new : Told) → WritesUnits words old new → WritesLinkedUnits words old new
 are_linked theorem words old new writes = λ contents told. linked contents (writes contents told)
@@ -331,7 +319,7 @@ line_answers words line old new r r' w w' named status (stops.Unread file) found
     no_reads no_writes = inr (
       Missing (string_bytes file),
       is_job words line contents (Missing (string_bytes file)) found
-          (subst (λ (c : Contents). IsJobOf line c (Missing (string_bytes file))) (same_contents m contents (sym tells ∙ told)) job),
+          (subst (λ (c : Contents). IsJobOf line c (Missing (string_bytes file))) (same_Some m contents (sym tells ∙ told)) job),
       is,
     )
 line_answers words line old new r r' w w' named status (stops.Unwritten file) found (one, faulted, stands) is contents told
@@ -382,10 +370,7 @@ stop_stands words old new r r' w w' named stop (inr (inr (line, found, why))) co
 pub stop_not : {C : Type 0} (status : ℕ) (stop : Stop) → (status ≡ status_of stop) ⊎ (status ≡ 5) → status ≡ 0 → C
 stop_not status stop (inr five) zero = absurd (omega (arith, five, zero))
 stop_not status stops.Usage (inl is) zero = absurd (omega (arith, is, zero))
-stop_not status (stops.Refused file reason) (inl is) zero = absurd (omega (arith, is, zero))
-stop_not status (stops.Unread file) (inl is) zero = absurd (omega (arith, is, zero))
-stop_not status (stops.Unwritten file) (inl is) zero = absurd (omega (arith, is, zero))
-stop_not status stops.Memory (inl is) zero = absurd (omega (arith, is, zero))
+stop_not status _ (inl is) zero = absurd (omega (arith, is, zero))
 
 -- statuses 1 to 3: nothing was written
 not_four : {C : Type 0} (status : ℕ) → status ≡ 4 ⊎ status ≡ 5 → (status ≡ 1) ⊎ (status ≡ 2) ⊎ (status ≡ 3) → C
@@ -464,9 +449,7 @@ module _ (said said' : Option (List ℕ)) (faults faults' status : ℕ) (words :
         line_said (refused_line (string_bytes file) reason) no_memory (says is),
       )
       refused stops.Usage (line, found, why, is) says = absurd why
-      refused (stops.Unread file) (line, found, why, is) says = absurd (omega (arith, is, one))
-      refused (stops.Unwritten file) (line, found, why, is) says = absurd (omega (arith, is, one))
-      refused stops.Memory (line, found, why, is) says = absurd (omega (arith, is, one))
+      refused _ (line, found, why, is) says = absurd (omega (arith, is, one))
 
   -- status 3: the file was asked for and a read of it failed, or it is told not to be there
   pub stop_unread : status ≡ 3 → (stop : Stop) → StopsWork words old new r r' w w' named stop → (status ≡ status_of stop) ⊎ (status ≡ 5)
@@ -496,9 +479,7 @@ module _ (said said' : Option (List ℕ)) (faults faults' status : ℕ) (words :
         line_said (read_line (string_bytes file)) no_memory (says is),
       )
       unread stops.Usage (line, found, why, is) says = absurd why
-      unread (stops.Refused file reason) (line, found, why, is) says = absurd (omega (arith, is, three))
-      unread (stops.Unwritten file) (line, found, why, is) says = absurd (omega (arith, is, three))
-      unread stops.Memory (line, found, why, is) says = absurd (omega (arith, is, three))
+      unread _ (line, found, why, is) says = absurd (omega (arith, is, three))
 
   -- status 4: a write of the file failed, and the files in front of it stand
   pub stop_unwritten : status ≡ 4 → (stop : Stop) → StopsWork words old new r r' w w' named stop → (status ≡ status_of stop) ⊎ (status ≡ 5)
@@ -528,9 +509,7 @@ module _ (said said' : Option (List ℕ)) (faults faults' status : ℕ) (words :
         line_said (write_line (string_bytes file)) no_memory (says is),
       )
       unwritten stops.Usage (line, found, why, is) says = absurd why
-      unwritten (stops.Refused file reason) (line, found, why, is) says = absurd (omega (arith, is, four))
-      unwritten (stops.Unread file) (line, found, why, is) says = absurd (omega (arith, is, four))
-      unwritten stops.Memory (line, found, why, is) says = absurd (omega (arith, is, four))
+      unwritten _ (line, found, why, is) says = absurd (omega (arith, is, four))
 
 -- status 5: a part of the stop's line was said
 pub stop_part : (stop : Stop) (said said' : Option (List ℕ)) → SaysPart said said' (line_for stop)

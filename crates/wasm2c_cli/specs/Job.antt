@@ -3,8 +3,8 @@ use Rattle.std.specs.Prelude.{◌≡◌, ◌⊎◌, ℕ, List, [], ◌∷◌, �
 use Rattle.w2c_io.specs.Contents.{Name, Contents}
 use Rattle.w2c_files.specs.Reading.{AreRead, Missing as NotThere, StopsReading, Unreadable}
 use Rattle.wasm_tree.specs.declared.tree.Module.{Module}
-use Rattle.wasm_spelling.specs.Limits.{most_module_bytes}
-use Rattle.wasm_valid.specs.Verdict.{Accepted}
+use Rattle.wasm_tree.specs.Limits.{most_module_bytes}
+use Rattle.wasm_typing.specs.Verdict.{Accepted}
 use Rattle.wasm_valid.specs.FileVerdict.{Read, IsVerdictOn}
 use Rattle.w2c_gen.specs.GeneratedFile.{IsGeneratedFile}
 use Rattle.w2c_sim.specs.Translation.{text_of, header_text_of}

@@ -2,7 +2,7 @@
 use Rattle.std.specs.Prelude.{◌≡◌, ◌⊎◌, ℕ, List, ◌++◌, codes, decimal, string_bytes}
 use Rattle.w2c_io.specs.Contents.{Name}
 use Rattle.wasm_spelling.specs.FaultTexts.{cause_text, which_text}
-use Rattle.wasm_valid.specs.CauseTexts.{cause_text as rule_text}
+use Rattle.wasm_typing.specs.CauseTexts.{cause_text as rule_text}
 use Rattle.wasm2c_cli.specs.declared.stop.Reason.{Reason}
 use Rattle.wasm2c_cli.specs.declared.stop.Reason.TheVariants.{Malformed, Float, Limit, Invalid}
 use Rattle.wasm2c_cli.specs.declared.stop.Stop.{Stop}

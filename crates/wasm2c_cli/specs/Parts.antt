@@ -11,10 +11,10 @@ use Rattle.w2c_files.specs.Standing.{IsOneOf, written, Stands, StandsAt}
 use Rattle.w2c_files.specs.declared.reading.ReadStop.{ReadStop}
 use Rattle.w2c_files.specs.declared.reading.ReadStop.TheVariants as reading
 use Rattle.wasm_tree.specs.declared.tree.Module.{Module}
-use Rattle.wasm_spelling.specs.Bytes.{AreBytes}
-use Rattle.wasm_spelling.specs.Limits.{most_module_bytes}
+use Rattle.wasm_tree.specs.Bytes.{AreBytes}
+use Rattle.wasm_tree.specs.Limits.{most_module_bytes}
 use Rattle.wasm_spelling.specs.declared.fault.Which.TheVariants.{ModuleBytes, SetBytes}
-use Rattle.wasm_valid.specs.Verdict.{Accepted}
+use Rattle.wasm_typing.specs.Verdict.{Accepted}
 use Rattle.wasm_valid.specs.FileVerdict.{Read, IsVerdictOn}
 use Rattle.w2c_sim.specs.declared.refusal.Refusal.{Refusal}
 use Rattle.w2c_gen.specs.GeneratedFile.{IsGeneratedFile}

@@ -6,7 +6,7 @@ use Rattle.w2c_io.specs.Events.{Event}
 use Rattle.w2c_io.specs.declared.answers.WriteAnswer.TheVariants as writing
 use Rattle.w2c_files.specs.Passing.{WritesFiles, BreaksOffAt, WritesSome}
 use Rattle.w2c_files.specs.Reading.{Missing as NotThere}
-use Rattle.wasm_spelling.specs.Bytes.{AreBytes}
+use Rattle.wasm_tree.specs.Bytes.{AreBytes}
 use Rattle.wasm_tree.specs.declared.tree.Module.{Module}
 use Rattle.wasm2c_words.specs.CommandLine.{Line, Generation, translate, set, generate, runtime, line_of}
 use Rattle.wasm2c_cli.specs.declared.stop.Stop.{Stop}

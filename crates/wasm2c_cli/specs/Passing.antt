@@ -10,7 +10,7 @@ use Rattle.w2c_io.specs.declared.answers.WriteAnswer.TheVariants as writing
 use Rattle.w2c_files.specs.Passing.{limited, ReadsAll, ReadsInOrder, WritesFiles, BreaksOffAt, WritesSome}
 use Rattle.w2c_files.specs.Reading.{Unreadable, Missing as NotThere, TooLong, Past, total}
 use Rattle.wasm_tree.specs.declared.tree.Module.{Module}
-use Rattle.wasm_spelling.specs.Limits.{most_module_bytes}
+use Rattle.wasm_tree.specs.Limits.{most_module_bytes}
 use Rattle.w2c_sim.specs.Translation.{IsModuleOf, SpellsUnit, text_of}
 use Rattle.wasm2c_words.specs.CommandLine.{Line, line_of}
 use Rattle.wasm2c_cli.specs.Job.{Job, Usage, Missing, Refused, Write, AreSourcesBy, IsJobBy, files_of}

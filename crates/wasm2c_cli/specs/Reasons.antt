@@ -5,8 +5,8 @@ use Rattle.w2c_io.specs.Contents.{Name, Contents}
 use Rattle.wasm_tree.specs.declared.tree.Module.{Module}
 use Rattle.wasm_spelling.specs.declared.fault.ReadFault.TheVariants as fault
 use Rattle.wasm_spelling.specs.declared.fault.Which.TheVariants.{ModuleBytes, SetBytes}
-use Rattle.wasm_spelling.specs.Limits.{most_module_bytes}
-use Rattle.wasm_valid.specs.Verdict.{Accepted, Invalid as is_invalid}
+use Rattle.wasm_tree.specs.Limits.{most_module_bytes}
+use Rattle.wasm_typing.specs.Verdict.{Accepted, Invalid as is_invalid}
 use Rattle.wasm_valid.specs.FileVerdict.{FileVerdict, Unread, Read, IsVerdictOn}
 use Rattle.w2c_files.specs.Reading.{StopsReading, Unreadable, TooLong, Past}
 use Rattle.w2c_sim.specs.declared.refusal.Refusal.{Refusal}

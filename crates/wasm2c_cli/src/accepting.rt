@@ -2,9 +2,9 @@
 ghost use Rattle.std.specs.Prelude.{◌≡◌, ◌<◌, ◌≤◌, length, IfOk, IfErr};
 ghost use Rattle.std.specs.List.{AllByRecursion};
 ghost use Rattle.w2c_files.specs.Words.{names_of};
-ghost use Rattle.wasm_spelling.specs.Bytes.{AreBytes};
-ghost use Rattle.wasm_spelling.specs.Limits.{most_module_bytes};
-ghost use Rattle.wasm_valid.specs.Verdict.{Accepted};
+ghost use Rattle.wasm_tree.specs.Bytes.{AreBytes};
+ghost use Rattle.wasm_tree.specs.Limits.{most_module_bytes};
+ghost use Rattle.wasm_typing.specs.Verdict.{Accepted};
 ghost use Rattle.wasm_valid.specs.FileVerdict.{Read, IsVerdictOn};
 ghost use Rattle.wasm2c_cli.specs.Parts.{AreTaken, StopsAccepting, StopsAtRefused};
 ghost use Rattle.w2c_sim.specs.Refusals.{IsRefusal};
@@ -14,7 +14,7 @@ use crate::stop::{Reason, Stop};
 use std::alloc::Global;
 use w2c_base::Bytes;
 use w2c_sim::{Refusal, accept};
-use wasm_valid::ValidModule;
+use wasm_typing::ValidModule;
 
 /// The module that the bytes of each file spell. It stops at the first file that is refused.
 pub fn accept_modules(

@@ -6,7 +6,7 @@ ghost use Rattle.w2c_io.specs.Telling.{Tells};
 ghost use Rattle.w2c_files.specs.Passing.{ReadsAll};
 ghost use Rattle.w2c_files.specs.Reading.{AreRead, total};
 ghost use Rattle.w2c_files.specs.Words.{names_of};
-ghost use Rattle.wasm_spelling.specs.Limits.{most_module_bytes};
+ghost use Rattle.wasm_tree.specs.Limits.{most_module_bytes};
 ghost use Rattle.wasm2c_cli.specs.Parts.{IsAtFile, StopsAtRead, StopsReading};
 ghost use Rattle.wasm2c_cli.specs.PartsPassing.{TriesReading};
 ghost use Rattle.wasm2c_cli.specs.Plan.{most_set_bytes};

@@ -6,7 +6,7 @@ ghost use Rattle.wasm2c_cli.specs.Reasons.{reason_of};
 use w2c_base::Memory;
 use w2c_sim::Refusal;
 use wasm_spelling::{Cause, Which};
-use wasm_valid::ValidCause;
+use wasm_typing::ValidCause;
 
 /// Why a file is refused.
 #[derive(Clone, Copy)]

@@ -4,7 +4,7 @@ ghost use Rattle.std.specs.List.{AllByRecursion};
 ghost use Rattle.w2c_io.specs.Passed.{Passes};
 ghost use Rattle.w2c_files.specs.Words.{names_of};
 ghost use Rattle.w2c_gen.specs.GeneratedFile.{IsGeneratedFile};
-ghost use Rattle.wasm_spelling.specs.Limits.{most_module_bytes};
+ghost use Rattle.wasm_tree.specs.Limits.{most_module_bytes};
 ghost use Rattle.wasm2c_words.specs.CommandLine.{generate as generates};
 ghost use Rattle.wasm2c_words.specs.Seen.{seen_generation};
 ghost use Rattle.wasm2c_cli.specs.Parts.{FinishesLine, FinishesTranslating, HasName, IsFitGeneration, IsGenerated, StopsTranslating, seen_targets};

@@ -8,7 +8,7 @@ ghost use Rattle.w2c_io.specs.Passed.{Passes, WritesFile, BreaksOff};
 ghost use Rattle.w2c_files.specs.Passing.{WritesFiles};
 ghost use Rattle.w2c_files.specs.Standing.{written, IsBegun};
 ghost use Rattle.w2c_sim.specs.Translation.{text_of, header_text_of};
-ghost use Rattle.wasm_spelling.specs.Bytes.{AreBytes};
+ghost use Rattle.wasm_tree.specs.Bytes.{AreBytes};
 ghost use Rattle.wasm2c_cli.specs.declared.work.Finished.TheVariants.{Written};
 ghost use Rattle.wasm2c_cli.specs.Job.{files_of, module_files};
 ghost use Rattle.wasm2c_cli.specs.PartsPassing.{EndsWriting};
@@ -21,7 +21,7 @@ use std::alloc::Global;
 use w2c_files::give_up;
 use w2c_io::{Files, WriteAnswer};
 use w2c_sim::{write_header, write_unit};
-use wasm_valid::ValidModule;
+use wasm_typing::ValidModule;
 
 /// Writes the C file and the header of each module.
 pub fn write_modules<F: Files>(

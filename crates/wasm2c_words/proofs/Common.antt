@@ -1,5 +1,8 @@
 -- What proofs of this crate cite of std, of the crates below and of specs/, passed on from one place. Declares nothing.
-pub use Rattle.std.proofs.Common.{◌≡◌, ℕ, ◌-◌, ◌^◌, ◌<◌, ◌≤◌, Bool, true, false, not, ◌&&◌, ◌||◌, List, [], ◌∷◌, ◌++◌, map, length, get_or, take, drop, IsTrue, ◌==◌, Some, None, Ok, Err, codes, All, Option, Result, option_map, option_and_then, bytes_eq, sym, refl, ap, ◌∙◌, subst, append_assoc, arith, length-append, take-append-drop, take_all, Bor, rules, le-leb, leb-true}
+pub use Rattle.std.proofs.Common.{◌≡◌, ℕ, ◌-◌, ◌^◌, ◌<◌, ◌≤◌, Bool, true, false, not, ◌&&◌, ◌||◌, List, [], ◌∷◌, ◌++◌, map, length, get_or}
+pub use Rattle.std.proofs.Common.{take, drop, IsTrue, ◌==◌, Some, None, Ok, Err, codes, All, Option, Result, option_map, option_and_then}
+pub use Rattle.std.proofs.Common.{bytes_eq, sym, refl, ap, ◌∙◌, subst, append_assoc, arith, length-append, take-append-drop, take_all, Bor}
+pub use Rattle.std.proofs.Common.{rules, le-leb, leb-true}
 pub use Rattle.std.proofs.Math.Seq.{drop-append_seam, get_or-append_seam, take-append_seam}
 pub use Rattle.std.proofs.lemmas.List.{append_cancel_left, append_cancel_right}
 pub use Rattle.std.proofs.lemmas.List.Elements.{All-from_get_or, All-weaker}

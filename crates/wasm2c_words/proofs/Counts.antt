@@ -1,5 +1,6 @@
 -- What a text of 1 to 5 digits is parsed as.
-use Rattle.wasm2c_words.proofs.Common.{◌≡◌, ℕ, ◌^◌, ◌<◌, ◌≤◌, true, ◌&&◌, List, [], ◌∷◌, length, Ok, Err, Result, sym, refl, ap, ◌∙◌, arith, leb-true, list_all, left_holds, right_holds, is_decimal}
+use Rattle.wasm2c_words.proofs.Common.{◌≡◌, ℕ, ◌^◌, ◌<◌, ◌≤◌, true, ◌&&◌, List, [], ◌∷◌, length, Ok, Err, Result, sym, refl, ap, ◌∙◌, arith}
+use Rattle.wasm2c_words.proofs.Common.{leb-true, list_all, left_holds, right_holds, is_decimal}
 use Rattle.std.specs.Char.{is_ascii_digit}
 use Rattle.std.specs.Str.{all_ascii_digits}
 use Rattle.std.specs.Str.Parse.{ParsesUnsigned, digits_value}

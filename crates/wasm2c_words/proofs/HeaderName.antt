@@ -1,5 +1,7 @@
 -- The header's name: what it is made of, and that it is not the C file's.
-use Rattle.wasm2c_words.proofs.Common.{◌≡◌, ℕ, ◌-◌, ◌<◌, Bool, true, false, ◌&&◌, List, [], ◌∷◌, ◌++◌, length, get_or, take, drop, IsTrue, codes, sym, ap, ◌∙◌, subst, append_assoc, arith, length-append, take-append-drop, get_or-append_seam, take-append_seam, append_cancel_left, bytes_eq-Decides, Name, is_c_file, header_name_of}
+use Rattle.wasm2c_words.proofs.Common.{◌≡◌, ℕ, ◌-◌, ◌<◌, Bool, true, false, ◌&&◌, List, [], ◌∷◌, ◌++◌, length, get_or, take, drop, IsTrue}
+use Rattle.wasm2c_words.proofs.Common.{codes, sym, ap, ◌∙◌, subst, append_assoc, arith, length-append, take-append-drop, get_or-append_seam}
+use Rattle.wasm2c_words.proofs.Common.{take-append_seam, append_cancel_left, bytes_eq-Decides, Name, is_c_file, header_name_of}
 
 not_true : IsTrue false → ⊥
 not_true h = cc

@@ -1,6 +1,8 @@
-mod Common
-pub mod Counts
+-- What crates above cite.
 pub mod HeaderName
-pub mod Mapped
-pub mod ModuleName
 pub mod SetFiles
+-- What the crate's own proofs cite.
+mod Common
+mod Counts
+mod Mapped
+mod ModuleName

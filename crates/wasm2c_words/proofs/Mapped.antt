@@ -1,5 +1,7 @@
 -- Tests of the names that files give their modules.
-use Rattle.wasm2c_words.proofs.Common.{◌≡◌, ℕ, ◌-◌, ◌<◌, Bool, true, false, not, ◌&&◌, ◌||◌, List, [], ◌∷◌, map, length, get_or, take, drop, bytes_eq, sym, refl, ap, ◌∙◌, arith, take_all, Bor, list_all, list_any, names_of, is_module_name, are_distinct, module_name_of}
+use Rattle.wasm2c_words.proofs.Common.{◌≡◌, ℕ, ◌-◌, ◌<◌, Bool, true, false, not, ◌&&◌, ◌||◌, List, [], ◌∷◌, map, length, get_or, take, drop}
+use Rattle.wasm2c_words.proofs.Common.{bytes_eq, sym, refl, ap, ◌∙◌, arith, take_all, Bor, list_all, list_any, names_of, is_module_name}
+use Rattle.wasm2c_words.proofs.Common.{are_distinct, module_name_of}
 
 abbrev pub modules : List (Bor (List ℕ)) → List (List ℕ)
 modules files = map module_name_of (names_of files)

@@ -1,5 +1,6 @@
 -- Where a part of a file's name begins.
-use Rattle.wasm2c_words.proofs.Common.{◌≡◌, ℕ, ◌-◌, ◌<◌, ◌≤◌, true, false, not, List, length, get_or, ◌==◌, arith, suffix_len_is, suffix_len}
+use Rattle.wasm2c_words.proofs.Common.{◌≡◌, ℕ, ◌-◌, ◌<◌, ◌≤◌, true, false, not, List, length, get_or, ◌==◌, arith, suffix_len_is}
+use Rattle.wasm2c_words.proofs.Common.{suffix_len}
 
 apart : (a b : ℕ) → (a ≡ b → ⊥) → not (a == b) ≡ true
 apart a b none = grind (arith, none)

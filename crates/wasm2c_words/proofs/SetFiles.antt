@@ -1,6 +1,11 @@
 -- The names of a set's files are distinct, and each is a C file's or a header's.
-use Rattle.wasm2c_words.proofs.Common.{◌≡◌, ℕ, ◌-◌, ◌<◌, ◌≤◌, Bool, true, false, not, ◌&&◌, ◌||◌, List, [], ◌∷◌, ◌++◌, length, get_or, take, drop, IsTrue, codes, All, bytes_eq, sym, refl, ap, ◌∙◌, append_assoc, arith, length-append, le-leb, drop-append_seam, take-append_seam, append_cancel_left, append_cancel_right, All-weaker, AllPass-from_list_all, bytes_eq-Decides, list_any, both_hold, Name, is_c_file, escaped, are_distinct, header_name_of}
+use Rattle.wasm2c_words.proofs.Common.{◌≡◌, ℕ, ◌-◌, ◌<◌, ◌≤◌, Bool, true, false, not, ◌&&◌, ◌||◌, List, [], ◌∷◌, ◌++◌, length, get_or, take}
+use Rattle.wasm2c_words.proofs.Common.{drop, IsTrue, codes, All, bytes_eq, sym, refl, ap, ◌∙◌, append_assoc, arith, length-append, le-leb}
+use Rattle.wasm2c_words.proofs.Common.{drop-append_seam, take-append_seam, append_cancel_left, append_cancel_right, All-weaker}
+use Rattle.wasm2c_words.proofs.Common.{AllPass-from_list_all, bytes_eq-Decides, list_any, both_hold, Name, is_c_file, escaped, are_distinct}
+use Rattle.wasm2c_words.proofs.Common.{header_name_of}
 use Rattle.std.proofs.lemmas.Bool.Decides.{nat_tests}
+use Rattle.std.proofs.lemmas.Bool.{and_from, not-true, or_parts}
 use Rattle.w2c_mangle.specs.Symbols.{is_identifier_character}
 use Rattle.w2c_mangle.proofs.EscapedNames.{escaped-injective}
 use Rattle.w2c_mangle.proofs.SymbolNames.{list_all-escaped}
@@ -46,16 +51,12 @@ equal_not x y differ same =
     let no : false ≡ true = sym differ ∙ yes in
     cc
 
-both_false : (a b : Bool) → (a || b) ≡ false → (a ≡ false) × (b ≡ false)
-both_false true b e = absurd (cc)
-both_false false b e = (refl, e)
-
 -- no file of other modules has the name of a file of this one
 apart : (dir n : List ℕ) (letter : ℕ) (ns : List (List ℕ)) → list_any (λ other. bytes_eq other n) ns ≡ false
     → list_any (λ other. bytes_eq other (file dir n letter)) (files_of dir ns) ≡ false
 apart dir n letter [] none = refl
 apart dir n letter (m ∷ ms) none =
-    let parts = both_false _ _ none in
+    let parts = or_parts _ _ none in
     let differ : m ≡ n → ⊥ = equal_not m n parts.0 in
     let c : bytes_eq (file dir m 99) (file dir n letter) ≡ false = unequal _ _ (λ same. differ (same_file dir m n 99 letter same).0) in
     let h : bytes_eq (file dir m 104) (file dir n letter) ≡ false = unequal _ _ (λ same. differ (same_file dir m n 104 letter same).0) in
@@ -64,15 +65,11 @@ apart dir n letter (m ∷ ms) none =
     || list_any (λ other. bytes_eq other (file dir n letter)) (files_of dir ms))) c
     ∙ ap (λ (b : Bool). b || list_any (λ other. bytes_eq other (file dir n letter)) (files_of dir ms)) h ∙ rest
 
-no_more : (a : Bool) → not a ≡ true → a ≡ false
-no_more true e = absurd (cc)
-no_more false e = refl
-
 pub files_are_distinct : (dir : Name) (names : List (List ℕ)) → are_distinct names ≡ true → are_distinct (files_of dir names) ≡ true
 files_are_distinct dir [] distinct = refl
 files_are_distinct dir (n ∷ ns) distinct =
     let parts = both_hold _ _ distinct in
-    let none : list_any (λ other. bytes_eq other n) ns ≡ false = no_more _ parts.0 in
+    let none : list_any (λ other. bytes_eq other n) ns ≡ false = not-true _ parts.0 in
     let h_c : bytes_eq (file dir n 104) (file dir n 99) ≡ false =
     unequal _ _ (λ same. let letters : ◌≡◌ {A = ℕ} 104 99 = (same_file dir n n 104 99 same).1 in omega (arith, letters)) in
     let c : list_any (λ other. bytes_eq other (file dir n 99)) (file dir n 104 ∷ files_of dir ns) ≡ false =
@@ -106,12 +103,9 @@ header_beside dir name =
     ap (λ (x : List ℕ). take (length x - 2) x ++ codes ".h") (parted dir name 99)
     ∙ ap (λ (l : List ℕ). l ++ codes ".h") (front_of (before_ending dir name) 99) ∙ sym (parted dir name 104)
 
-both_are : (a b : Bool) → a ≡ true → b ≡ true → (a && b) ≡ true
-both_are a b p q = cc
-
 ends_in_c : (front : List ℕ) → 1 ≤ length front → is_c_file (front ++ 46 ∷ 99 ∷ []) ≡ true
 ends_in_c front some =
-    both_are _ _ (le-leb 3 (length (front ++ 46 ∷ 99 ∷ [])) (omega (arith, length-append front (46 ∷ 99 ∷ []))))
+    and_from _ _ (le-leb 3 (length (front ++ 46 ∷ 99 ∷ [])) (omega (arith, length-append front (46 ∷ 99 ∷ []))))
     ((bytes_eq-Decides (drop (length (front ++ 46 ∷ 99 ∷ []) - 2) (front ++ 46 ∷ 99 ∷ [])) (codes ".c")).1 (end_of front 99))
 
 pub is_c : (dir name : List ℕ) → IsTrue (is_c_file (c_file_of dir name))

@@ -1,5 +1,6 @@
 -- The readings of a command line: FILE -o OUT.c [-n NAME], --dir DIR FILE .., --gen N -o OUT.c [-n NAME] and --runtime DIR.
-use Rattle.std.specs.Prelude.{ℕ, ◌&&◌, nat_le, Bool, List, [], ◌∷◌, length, map, Option, Some, None, if◌then◌else◌, unwrap_or, option_and_then, codes}
+use Rattle.std.specs.Prelude.{ℕ, ◌&&◌, nat_le, Bool, List, [], ◌∷◌, length, map, Option, Some, None, if◌then◌else◌, unwrap_or}
+use Rattle.std.specs.Prelude.{option_and_then, codes}
 use Rattle.std.specs.List.{list_all}
 use Rattle.std.specs.Str.Parse.{digits_value}
 use Rattle.w2c_io.specs.Contents.{Name}

@@ -1,5 +1,7 @@
 -- A block is what its opcode says: instructions in which no `else` may stand are closed by an `end`.
-use Rattle.wasm_binary.proofs.Common.{◌≡◌, ℕ, Bool, true, false, Ok, Err, Option, Result, refl, Block, Code, Loop, code_takes, At, Ender, block_of, block_type_at, by_else, by_end, code_at, ender_place, if_closed, a_block, a_loop, an_if, ◌>>=◌, ReadFault, block_closed, head_of_opener, opened_at}
+use Rattle.wasm_binary.proofs.Common.{◌≡◌, ℕ, Bool, true, false, Ok, Err, Option, Result, refl, Block, Code, Loop, code_takes, At, Ender}
+use Rattle.wasm_binary.proofs.Common.{block_of, block_type_at, by_else, by_end, code_at, ender_place, if_closed, a_block, a_loop, an_if}
+use Rattle.wasm_binary.proofs.Common.{◌>>=◌, ReadFault, block_closed, head_of_opener, opened_at}
 use Rattle.w2c_base.specs.declared.value.ValType.{ValType}
 use Rattle.wasm_spelling.specs.Steps.{reads}
 use Rattle.wasm_binary.specs.declared.code.Opener.{Opener}
@@ -35,9 +37,8 @@ unfolding reads
 typed room opener.Block (Ok t) a e = rw e (block_is room t.0 t.1 (code_at room false t.1) refl)
 typed room opener.Block (Err f) a e = rw e refl
 typed room opener.Loop (Ok t) a e = rw e (loop_is room t.0 t.1 (code_at room false t.1) refl)
-typed room opener.Loop (Err f) a e = rw e refl
 typed room opener.If (Ok t) a e = rw e (if_is room t.0 (code_at room true t.1))
-typed room opener.If (Err f) a e = rw e refl
+typed room _ (Err f) a e = rw e refl
 
 pub opened_is : (room : ℕ) (o : Opener) (a : At)
     → opened_at room (head_of_opener o) a ≡ block_of (λ may_else. code_at room may_else) (head_of_opener o) a

@@ -1,5 +1,11 @@
 -- Instructions but for blocks: what their opcodes say of what is read behind them.
-use Rattle.wasm_binary.proofs.Common.{◌≡◌, ℕ, [], pos, Some, None, Ok, Err, Option, Result, sym, refl, ap, ◌∙◌, subst, Makes, form_in, form_of, Form, Prefixed, Row, a_mem_arg, a_sub_opcode, a_type, a_zero, an_i32, an_i64, an_index, labels, nothing, opcode_of, prefixed_of, row_of, Binary, Block, Br, BrIf, BrTable, Call, CallIndirect, Compare, Drop, Eqz, Extend, GlobalGet, GlobalSet, I32Const, I32WrapI64, I64Const, I64ExtendI32S, I64ExtendI32U, If, Kind, Load, LocalGet, LocalSet, LocalTee, Loop, MemoryCopy, MemoryFill, MemoryGrow, MemorySize, Nop, Return, Select, Store, Unary, Unreachable, At, times_at, number_at, ◌>>=◌, ReadFault, Float, Limit, Malformed, Memory, Fails, Gives, kept}
+use Rattle.wasm_binary.proofs.Common.{◌≡◌, ℕ, [], pos, Some, None, Ok, Err, Option, Result, sym, refl, ap, ◌∙◌, subst, Makes, form_in}
+use Rattle.wasm_binary.proofs.Common.{form_of, Form, Prefixed, Row, a_mem_arg, a_sub_opcode, a_type, a_zero, an_i32, an_i64, an_index}
+use Rattle.wasm_binary.proofs.Common.{labels, nothing, opcode_of, prefixed_of, row_of, Binary, Br, BrIf, BrTable, Call, CallIndirect}
+use Rattle.wasm_binary.proofs.Common.{Compare, Drop, Eqz, Extend, GlobalGet, GlobalSet, I32Const, I32WrapI64, I64Const, I64ExtendI32S}
+use Rattle.wasm_binary.proofs.Common.{I64ExtendI32U, Kind, Load, LocalGet, LocalSet, LocalTee, MemoryCopy, MemoryFill, MemoryGrow}
+use Rattle.wasm_binary.proofs.Common.{MemorySize, Nop, Return, Select, Store, Unary, Unreachable, At, times_at, number_at, ◌>>=◌, ReadFault}
+use Rattle.wasm_binary.proofs.Common.{Malformed, Memory, Fails, Gives, kept}
 use Rattle.wasm_tree.specs.declared.code.MemArg.{MemArg}
 use Rattle.wasm_tree.specs.declared.opcodes.Op.{Op}
 use Rattle.wasm_tree.specs.declared.opcodes.Op.TheVariants as op
@@ -52,28 +58,11 @@ op_tree (op.Numeric o) = numeric_tree o
 
 op_has : (o : Op) → (opcode_of (op_tree o) ≡ op_opcode o) × (form_of (op_tree o) ≡ Some (op_form o))
 op_has (op.Simple simple.Unreachable) = (refl, refl)
-op_has (op.Simple simple.Nop) = (refl, refl)
-op_has (op.Simple simple.Return) = (refl, refl)
-op_has (op.Simple simple.Drop) = (refl, refl)
-op_has (op.Simple simple.Select) = (refl, refl)
 op_has (op.Index index.Br) = (refl, refl)
-op_has (op.Index index.BrIf) = (refl, refl)
-op_has (op.Index index.Call) = (refl, refl)
-op_has (op.Index index.LocalGet) = (refl, refl)
-op_has (op.Index index.LocalSet) = (refl, refl)
-op_has (op.Index index.LocalTee) = (refl, refl)
-op_has (op.Index index.GlobalGet) = (refl, refl)
-op_has (op.Index index.GlobalSet) = (refl, refl)
 op_has (op.Access (access.Load o)) = (refl, refl)
 op_has (op.Access (access.Store o)) = (refl, refl)
 op_has (op.Numeric (numeric.Eqz ty)) = (refl, refl)
-op_has (op.Numeric (numeric.Compare ty o)) = (refl, refl)
-op_has (op.Numeric (numeric.Unary ty o)) = (refl, refl)
-op_has (op.Numeric (numeric.Binary ty o)) = (refl, refl)
-op_has (op.Numeric numeric.I32WrapI64) = (refl, refl)
-op_has (op.Numeric numeric.I64ExtendI32S) = (refl, refl)
-op_has (op.Numeric numeric.I64ExtendI32U) = (refl, refl)
-op_has (op.Numeric (numeric.Extend o)) = (refl, refl)
+op_has _ = (refl, refl)
 
 op_row : (o : Op) → form_in (row_of (op_opcode o)) ≡ Some (op_form o)
 op_row o =
@@ -98,9 +87,6 @@ record OfNone (b : ℕ) : Type 0 where
 
 -- of such an opcode there are blocks alone
 opens_block : (k : Kind) → OfNone (opcode_of k) → form_of k ≡ None
-opens_block (Block r c e) n = refl
-opens_block (Loop r c e) n = refl
-opens_block (If r c o e) n = refl
 opens_block Unreachable n = absurd (n.no_op (op.Simple simple.Unreachable, refl))
 opens_block Nop n = absurd (n.no_op (op.Simple simple.Nop, refl))
 opens_block Return n = absurd (n.no_op (op.Simple simple.Return, refl))
@@ -132,6 +118,7 @@ opens_block MemoryCopy n = absurd (n.not_prefix refl)
 opens_block MemoryFill n = absurd (n.not_prefix refl)
 opens_block (I32Const i) n = absurd (n.not_i32 refl)
 opens_block (I64Const i) n = absurd (n.not_i64 refl)
+opens_block _ n = refl
 
 -- a form makes some instruction
 OneOf : ℕ → Form → Type 0
@@ -162,8 +149,7 @@ none_in b (Some r) e n =
 as_fails : (A : Type 0) (f : ReadFault) (r : Result A ReadFault) → r ≡ Err f → Fails f r
 as_fails A Memory r e = tt
 as_fails A (Malformed p c) r e = e
-as_fails A (Float p) r e = e
-as_fails A (Limit p w) r e = e
+as_fails A _ r e = e
 
 pub none_fails : (place b : ℕ) (a : At) (f : ReadFault) → f ≡ fault_of place b → (HasOp b → ⊥)
     → (b ≡ 0x0E → ⊥) → (b ≡ 0x11 → ⊥) → (b ≡ 0x3F → ⊥)

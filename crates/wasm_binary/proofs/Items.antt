@@ -1,5 +1,8 @@
 -- The loop over instructions, and one turn of it.
-use Rattle.wasm_binary.proofs.Common.{◌≡◌, ℕ, zero, suc, ◌-◌, ◌<◌, Bool, true, false, cond, ◌&&◌, eqb, length, Some, None, Ok, Err, Option, Result, sym, refl, ap, ◌∙◌, subst, arith, eqb-true, form_in, Form, row_of, Code, Kind, end_code, then_code, block_takes, item_takes, At, Ender, block_of, by_else, by_end, code_at, Reader, a_block, a_loop, an_if, ◌>>=◌, ReadFault, Float, Limit, Malformed, Memory, opener_head, Fails}
+use Rattle.wasm_binary.proofs.Common.{◌≡◌, ℕ, zero, suc, ◌-◌, ◌<◌, Bool, true, false, cond, ◌&&◌, eqb, length, Some, None, Ok, Err, Option}
+use Rattle.wasm_binary.proofs.Common.{Result, sym, refl, ap, ◌∙◌, subst, arith, eqb-true, form_in, Form, row_of, Code, Kind, end_code}
+use Rattle.wasm_binary.proofs.Common.{then_code, block_takes, item_takes, At, Ender, block_of, by_else, by_end, code_at, Reader, a_block}
+use Rattle.wasm_binary.proofs.Common.{a_loop, an_if, ◌>>=◌, ReadFault, Float, Limit, Malformed, Memory, opener_head, Fails}
 use Rattle.std.proofs.lemmas.Bool.{and_parts}
 use Rattle.wasm_tree.specs.Appended.{InstrTree, ◌+>◌}
 use Rattle.wasm_spelling.specs.declared.fault.Cause.TheVariants as cause
@@ -75,9 +78,7 @@ failed room may_else front a f total e (suc k, less, h) =
 pub stops : (room : ℕ) (may_else : Bool) (front : Code) (a : At) (f : ReadFault) (total : Result ((Code × Ender) × At) ReadFault)
     → Fails f (item_at room may_else (block_at room) a) → Ahead room may_else front a total → Fails f total
 stops room may_else front a Memory total e w = tt
-stops room may_else front a (Malformed p c) total e w = failed room may_else front a _ total e w
-stops room may_else front a (Float p) total e w = failed room may_else front a _ total e w
-stops room may_else front a (Limit p l) total e w = failed room may_else front a _ total e w
+stops room may_else front a _ total e w = failed room may_else front a _ total e w
 
 pub is_done : (room : ℕ) (may_else : Bool) (front : Code) (a : At) (x : Ender) (b : At) (total : Result ((Code × Ender) × At) ReadFault)
     → item_at room may_else (block_at room) a ≡ Ok (closed x, b) → Ahead room may_else front a total → total ≡ Ok ((front, x), b)
@@ -106,9 +107,7 @@ no_byte room may_else a f e =
 pub byte_fails : (room : ℕ) (may_else : Bool) (a : At) (f : ReadFault) → Fails f (byte_at a)
     → Fails f (item_at room may_else (block_at room) a)
 byte_fails room may_else a Memory e = tt
-byte_fails room may_else a (Malformed p c) e = no_byte room may_else a _ e
-byte_fails room may_else a (Float p) e = no_byte room may_else a _ e
-byte_fails room may_else a (Limit p w) e = no_byte room may_else a _ e
+byte_fails room may_else a _ e = no_byte room may_else a _ e
 
 pub end_item : (room : ℕ) (may_else : Bool) (a : At) (op : ℕ) (b : At) → byte_at a ≡ Ok (op, b) → op ≡ 0x0B
     → item_at room may_else (block_at room) a ≡ Ok (closed (by_end a.place), b)

@@ -1,5 +1,6 @@
 -- A value that is kept, seen as what it stands for.
-use Rattle.wasm_binary.proofs.Common.{◌≡◌, Ok, Err, Result, sym, refl, ap, ◌∙◌, At, ◌>>=◌, ReadFault, Float, Limit, Malformed, Memory, Gives, at, kept, seen}
+use Rattle.wasm_binary.proofs.Common.{◌≡◌, Ok, Err, Result, sym, refl, ap, ◌∙◌, At, ◌>>=◌, ReadFault, Malformed, Memory, Gives, at, kept}
+use Rattle.wasm_binary.proofs.Common.{seen}
 use Rattle.wasm_binary.specs.declared.rest.Rest.{Rest}
 
 abbrev see : {T V : Type 0} → (T → V) → Result (T × At) ReadFault → Result (V × At) ReadFault
@@ -15,5 +16,4 @@ pub viewed : {U T V : Type 0} (view : T → V) (value : T) (r : Result (T × Res
 viewed view value (Ok x) given g = sym (see_kept view value given) ∙ ap (see view) g
 viewed view value (Err Memory) given g = tt
 viewed view value (Err (Malformed p c)) given g = sym (see_kept view value given) ∙ ap (see view) g
-viewed view value (Err (Float p)) given g = sym (see_kept view value given) ∙ ap (see view) g
-viewed view value (Err (Limit p w)) given g = sym (see_kept view value given) ∙ ap (see view) g
+viewed view value (Err _) given g = sym (see_kept view value given) ∙ ap (see view) g

@@ -1,9 +1,10 @@
+-- What the crate's own proofs cite.
 mod Common
-pub mod NoWindow
-pub mod Loop
-pub mod Instructions
-pub mod Items
-pub mod Blocks
-pub mod SectionLoop
-pub mod Result
-pub mod Kept
+mod NoWindow
+mod Loop
+mod Instructions
+mod Items
+mod Blocks
+mod SectionLoop
+mod Result
+mod Kept

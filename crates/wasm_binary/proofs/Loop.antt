@@ -1,5 +1,6 @@
 -- The loop over a vector's entries.
-use Rattle.wasm_binary.proofs.Common.{◌≡◌, ℕ, suc, ◌+◌, ◌-◌, ◌<◌, ◌≤◌, List, [], ◌∷◌, ◌++◌, Ok, Err, Result, sym, refl, ap, ◌∙◌, subst, append_assoc, append-nil, arith, At, Reader, ◌>>=◌, ReadFault, Float, Limit, Malformed, Memory, Fails}
+use Rattle.wasm_binary.proofs.Common.{◌≡◌, ℕ, suc, ◌+◌, ◌-◌, ◌<◌, ◌≤◌, List, [], ◌∷◌, ◌++◌, Ok, Err, Result, sym, refl, ap, ◌∙◌, subst}
+use Rattle.wasm_binary.proofs.Common.{append_assoc, append-nil, arith, At, Reader, ◌>>=◌, ReadFault, Memory, Fails}
 use Rattle.wasm_spelling.specs.Reading.{times_at}
 use Rattle.wasm_spelling.proofs.Vectors.{with_front}
 
@@ -48,13 +49,7 @@ failed {A} read k front a f total e h =
 pub stops : {A : Type 0} (read : Reader A) (count done : ℕ) (front : List A) (a : At) (f : ReadFault)
     (total : Result (List A × At) ReadFault) → done < count → Fails f (read a) → Ahead read count done front a total → Fails f total
 stops read count done front a Memory total less e h = tt
-stops read count done front a (Malformed p c) total less e h =
-    failed read (count - done - 1) front a _ total e
-    (subst (λ n. (times_at read n a >>= after_front front) ≡ total) (omega (arith, less)) h)
-stops read count done front a (Float p) total less e h =
-    failed read (count - done - 1) front a _ total e
-    (subst (λ n. (times_at read n a >>= after_front front) ≡ total) (omega (arith, less)) h)
-stops read count done front a (Limit p w) total less e h =
+stops read count done front a _ total less e h =
     failed read (count - done - 1) front a _ total e
     (subst (λ n. (times_at read n a >>= after_front front) ≡ total) (omega (arith, less)) h)
 

@@ -1,5 +1,6 @@
 -- Where no window stands, nothing is read in it.
-use Rattle.wasm_binary.proofs.Common.{◌≡◌, ℕ, Bool, true, false, cond, length, nat_lt, Ok, Err, Result, At, Reader, malformed, number_at, ◌>>=◌, ReadFault, Float, Limit, Malformed, Memory, Fails}
+use Rattle.wasm_binary.proofs.Common.{◌≡◌, ℕ, Bool, true, false, cond, length, nat_lt, Ok, Err, Result, At, Reader, malformed, number_at}
+use Rattle.wasm_binary.proofs.Common.{◌>>=◌, ReadFault, Memory, Fails}
 use Rattle.wasm_spelling.specs.declared.fault.Cause.{Cause}
 use Rattle.wasm_spelling.specs.declared.fault.Cause.TheVariants as cause
 use Rattle.wasm_spelling.specs.Reading.{inside_at, window_at}
@@ -21,6 +22,4 @@ failed f c read a e = by_number f c read a.place (number_at a) e
 
 pub no_window : {A : Type 0} (f : ReadFault) (c : Cause) (read : Reader A) (a : At) → Fails f (window_of a) → Fails f (window_at c read a)
 no_window Memory c read a e = tt
-no_window (Malformed p d) c read a e = failed _ c read a e
-no_window (Float p) c read a e = failed _ c read a e
-no_window (Limit p w) c read a e = failed _ c read a e
+no_window _ c read a e = failed _ c read a e

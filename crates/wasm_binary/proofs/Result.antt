@@ -1,19 +1,18 @@
 -- What a file's reading says of the result.
-use Rattle.wasm_binary.proofs.Common.{◌≡◌, ℕ, ◌≤◌, ◌≢◌, List, [], length, IfOk, Ok, Err, Result, sym, refl, ◌∙◌, Module, file_at, ReadFault, Float, Limit, Malformed, Memory, Fails, Gives, UnlessMemory}
-use Rattle.wasm_spelling.specs.Bytes.{AreBytes}
+use Rattle.wasm_binary.proofs.Common.{◌≡◌, ℕ, ◌≤◌, ◌≢◌, List, [], length, IfOk, Ok, Err, Result, sym, refl, ◌∙◌, Module, file_at, ReadFault}
+use Rattle.wasm_binary.proofs.Common.{Memory, Fails, Gives, UnlessMemory}
 use Rattle.wasm_spelling.specs.ModuleFields.{Spells}
 use Rattle.wasm_spelling.specs.Places.{IsFormed}
 use Rattle.wasm_spelling.specs.Table.{Upto}
 use Rattle.wasm_spelling.proofs.Whole.{file_takes, file_again, file_stops, first_is_read}
+use Rattle.wasm_tree.specs.Bytes.{AreBytes}
 
 abbrev bad : ReadFault → Result Module ReadFault
 bad f = Err f
 
 failed : (f : ReadFault) (r : Result Module ReadFault) → (bad f ≢ Err Memory) → Fails f r → r ≡ Err f
 failed Memory r n h = absurd (n refl)
-failed (Malformed p c) r n h = h
-failed (Float p) r n h = h
-failed (Limit p w) r n h = h
+failed _ r n h = h
 
 pub given : (result r : Result Module ReadFault) → Gives (λ x. x) result r → UnlessMemory result r
 given (Ok t) r g n = sym g

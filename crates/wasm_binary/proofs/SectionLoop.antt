@@ -1,5 +1,6 @@
 -- The loop over sections.
-use Rattle.wasm_binary.proofs.Common.{◌≡◌, ℕ, zero, suc, ◌<◌, true, false, length, Ok, Err, Result, sym, refl, ap, ◌∙◌, arith, Module, At, all_sections_at, ◌>>=◌, ReadFault, Float, Limit, Malformed, Memory, behind_id, is_no_section, Fails}
+use Rattle.wasm_binary.proofs.Common.{◌≡◌, ℕ, zero, suc, ◌<◌, true, false, length, Ok, Err, Result, sym, refl, ap, ◌∙◌, arith, Module, At}
+use Rattle.wasm_binary.proofs.Common.{all_sections_at, ◌>>=◌, ReadFault, Memory, behind_id, is_no_section, Fails}
 use Rattle.wasm_spelling.specs.Steps.{reads, SectionId, no_section, a_custom, a_part, section_id_at}
 use Rattle.wasm_spelling.specs.Reading.{after_id, sections_at}
 use Rattle.wasm_spelling.proofs.Sections.{IdIs, id_takes, custom_taken, section_shorter}
@@ -62,9 +63,7 @@ id_failed m a f total e (suc k, less, w) =
 pub id_stops : (m : Module) (a : At) (f : ReadFault) (total : Result (Module × At) ReadFault) → Fails f (section_id_at a) → Ahead m a total
     → Fails f total
 id_stops m a Memory total e w = tt
-id_stops m a (Malformed p c) total e w = id_failed m a _ total e w
-id_stops m a (Float p) total e w = id_failed m a _ total e w
-id_stops m a (Limit p l) total e w = id_failed m a _ total e w
+id_stops m a _ total e w = id_failed m a _ total e w
 
 section_failed : (m : Module) (a : At) (h : SectionId) (b : At) (f : ReadFault) (total : Result (Module × At) ReadFault)
     → section_id_at a ≡ Ok (h, b) → is_no_section h ≡ false → behind_id h m b ≡ Err f → Ahead m a total → total ≡ Err f
@@ -77,6 +76,4 @@ section_failed m a h b f total e t r (suc k, less, w) =
 pub section_stops : (m : Module) (a : At) (h : SectionId) (b : At) (f : ReadFault) (total : Result (Module × At) ReadFault)
     → section_id_at a ≡ Ok (h, b) → is_no_section h ≡ false → Fails f (behind_id h m b) → Ahead m a total → Fails f total
 section_stops m a h b Memory total e t r w = tt
-section_stops m a h b (Malformed p c) total e t r w = section_failed m a h b _ total e t r w
-section_stops m a h b (Float p) total e t r w = section_failed m a h b _ total e t r w
-section_stops m a h b (Limit p l) total e t r w = section_failed m a h b _ total e t r w
+section_stops m a h b _ total e t r w = section_failed m a h b _ total e t r w

@@ -1,16 +1,22 @@
 -- What an operator gives has its width.
-use Rattle.wasm_meaning.proofs.Common.{◌≡◌, ℕ, zero, suc, ◌+◌, ◌-◌, ◌*◌, ◌/◌, ◌%◌, ◌^◌, ◌<◌, ◌≤◌, Bool, true, false, cond, List, [], ◌∷◌, length, take, drop, ℤ, pos, negsuc, nat_eq, nat_le, bit_or, int_div, int_rem, ◌∙◌, add-zero, mod-lt, pow-suc, div-le_self, arith, pow_pos, AllByRecursion, bits, DivByZero, IntOverflow, MemoryOut, ValType, I32, I64}
+use Rattle.wasm_meaning.proofs.Common.{◌≡◌, ℕ, zero, suc, ◌+◌, ◌-◌, ◌*◌, ◌/◌, ◌%◌, ◌^◌, ◌<◌, ◌≤◌, Bool, true, false, cond, List, [], ◌∷◌}
+use Rattle.wasm_meaning.proofs.Common.{length, take, drop, ℤ, pos, negsuc, nat_eq, nat_le, bit_or, int_div, int_rem, ◌∙◌, add-zero, mod-lt}
+use Rattle.wasm_meaning.proofs.Common.{pow-suc, div-le_self, arith, pow_pos, AllByRecursion, bits, DivByZero, IntOverflow, MemoryOut}
+use Rattle.wasm_meaning.proofs.Common.{ValType, I32, I64}
 use Rattle.std.specs.Int.{int_div_euclid}
 use Rattle.std.proofs.lemmas.Nat.{ones-le, leading_le, trailing_le, or_lt, xor_lt, shr_le, or_shifted, shr_below, mod-pow-add, shl-shr}
 use lib.Bits.{and_lt}
 use native.Mathlib.Nat.{mod-le, mul-mod_left}
 use Rattle.w2c_base.specs.LittleEndian.{little_endian, bytes_at}
+use Rattle.w2c_base.proofs.Types.{bits_below}
 use Rattle.wasm_tree.specs.declared.operators.UnaryOp.{UnaryOp}
 use Rattle.wasm_tree.specs.declared.operators.UnaryOp.TheVariants.{Clz, Ctz, Popcnt}
 use Rattle.wasm_tree.specs.declared.operators.BinaryOp.{BinaryOp}
-use Rattle.wasm_tree.specs.declared.operators.BinaryOp.TheVariants.{Add, Sub, Mul, DivS, DivU, RemS, RemU, And, Or, Xor, Shl, ShrS, ShrU, Rotl, Rotr}
+use Rattle.wasm_tree.specs.declared.operators.BinaryOp.TheVariants.{Add, Sub, Mul, DivS, DivU, RemS, RemU, And, Or, Xor, Shl, ShrS, ShrU}
+use Rattle.wasm_tree.specs.declared.operators.BinaryOp.TheVariants.{Rotl, Rotr}
 use Rattle.wasm_tree.specs.declared.operators.LoadOp.{LoadOp}
-use Rattle.wasm_tree.specs.declared.operators.LoadOp.TheVariants.{I32Load, I64Load, I32Load8S, I32Load8U, I32Load16S, I32Load16U, I64Load8S, I64Load8U, I64Load16S, I64Load16U, I64Load32S, I64Load32U}
+use Rattle.wasm_tree.specs.declared.operators.LoadOp.TheVariants.{I32Load, I64Load, I32Load8S, I32Load16S, I64Load8S, I64Load16S}
+use Rattle.wasm_tree.specs.declared.operators.LoadOp.TheVariants.{I64Load32S}
 use Rattle.wasm_tree.specs.declared.operators.ExtendOp.{ExtendOp}
 use Rattle.wasm_tree.specs.Accesses.{load_access, extend_width, extend_type}
 use Rattle.wasm_meaning.specs.Memories.{load_number, extended}
@@ -23,10 +29,6 @@ pattern_below N (negsuc a) = let p : 0 < 2 ^ N = pow_pos N in omega arith
 chosen : (N : ℕ) (b : Bool) (s t : Answer) → AnswerFits N s → AnswerFits N t → AnswerFits N (cond b s t)
 chosen N true s t p q = p
 chosen N false s t p q = q
-
-width_below : (t : ValType) → bits t < 2 ^ bits t
-width_below I32 = omega arith
-width_below I64 = omega arith
 
 count_below : (t : ValType) (y : ℕ) → y % bits t < bits t
 count_below I32 y = omega arith
@@ -74,9 +76,9 @@ binary_fits t Rotr x y p q =
     rotated (bits t) (bits t - y % bits t) (y % bits t) x (omega (arith, l)) p
 
 pub unary_fits : (t : ValType) (op : UnaryOp) (x : ℕ) → x < 2 ^ bits t → unary op (bits t) x < 2 ^ bits t
-unary_fits t Clz x p = let l = leading_le (bits t) x in let b = width_below t in omega (arith, l, b)
-unary_fits t Ctz x p = let l = trailing_le (bits t) x in let b = width_below t in omega (arith, l, b)
-unary_fits t Popcnt x p = let l = ones-le (bits t) x p in let b = width_below t in omega (arith, l, b)
+unary_fits t Clz x p = let l = leading_le (bits t) x in let b = bits_below t in omega (arith, l, b)
+unary_fits t Ctz x p = let l = trailing_le (bits t) x in let b = bits_below t in omega (arith, l, b)
+unary_fits t Popcnt x p = let l = ones-le (bits t) x p in let b = bits_below t in omega (arith, l, b)
 
 -- so many bytes spell a number below that power of 256
 bytes_below : (width : ℕ) (bytes : List ℕ) → AllByRecursion (λ b. b < 256) bytes → little_endian (take width bytes) < 256 ^ width
@@ -104,15 +106,11 @@ extended_fits : (op : LoadOp) (n : ℕ) → n < 256 ^ (load_access op).width →
 extended_fits I32Load n h = h
 extended_fits I64Load n h = h
 extended_fits I32Load8S n h = pattern_below 32 _
-extended_fits I32Load8U n h = omega arith
 extended_fits I32Load16S n h = pattern_below 32 _
-extended_fits I32Load16U n h = omega arith
 extended_fits I64Load8S n h = pattern_below 64 _
-extended_fits I64Load8U n h = omega arith
 extended_fits I64Load16S n h = pattern_below 64 _
-extended_fits I64Load16U n h = omega arith
 extended_fits I64Load32S n h = pattern_below 64 _
-extended_fits I64Load32U n h = omega arith
+extended_fits _ n h = omega arith
 
 pub load_fits : (op : LoadOp) (bytes : List ℕ) (address : ℕ) → AllByRecursion (λ b. b < 256) bytes
     → AnswerFits (bits (load_access op).ty) (load_number op bytes address)

@@ -1,5 +1,7 @@
-mod Common
+-- What crates above cite.
 pub mod Fits
-pub mod Longer
-pub mod LongerRun
 pub mod Typed
+-- What the crate's own proofs cite.
+mod Common
+mod Longer
+mod LongerRun

@@ -1,9 +1,18 @@
 -- A larger budget changes nothing but what is left of it, where the smaller one was enough.
-use Rattle.wasm_meaning.proofs.Common.{◌≡◌, ℕ, zero, suc, ◌+◌, ◌≤◌, Bool, true, false, List, [], ◌∷◌, ◌++◌, reverse, length, take, drop, if◌then◌else◌, slice_get, Some, None, Option, unwrap_or, sym, refl, ap, subst, arith, if_found, Ask, Event, Gave, HostTrapped, Reply, Trail, asked, equal_func_types, equal_types, is_result, types_of, zeros, FuncType, Signature, ValType, Value, Asks, Back, Branch, CallStops, Called, Calls, Done, Faults, Leaves, NoRule, Normal, OutOfSteps, Result, Returned, Stop, Stops, Stuck, Trapped, and_then, call, call_element, call_indirect, call_within, came_back, choose, count_on, did, did_all, dropped, enter, exec, exec_else, exec_kind, finish, gave, gives_all, gives_top, invoke, leave, onto, pick, plain, replied, spend, spend_all, top, turn, turns, FuncAddress, HostFunc, LinkedSet, ModuleFunc, body_of, func_at, func_type, table_at, type_at}
+use Rattle.wasm_meaning.proofs.Common.{◌≡◌, ℕ, zero, suc, ◌+◌, ◌≤◌, Bool, true, false, List, [], ◌∷◌, ◌++◌, reverse, length, take, drop}
+use Rattle.wasm_meaning.proofs.Common.{if◌then◌else◌, slice_get, Some, None, Option, unwrap_or, sym, refl, ap, subst, arith, if_found, Ask}
+use Rattle.wasm_meaning.proofs.Common.{Event, Gave, HostTrapped, Reply, Trail, asked, equal_func_types, equal_types, is_result, types_of}
+use Rattle.wasm_meaning.proofs.Common.{zeros, FuncType, Signature, ValType, Value, Asks, Back, Branch, CallStops, Called, Calls, Done}
+use Rattle.wasm_meaning.proofs.Common.{Leaves, Normal, OutOfSteps, Result, Returned, Stop, Stops, Stuck, Trapped, and_then, call}
+use Rattle.wasm_meaning.proofs.Common.{call_element, call_indirect, call_within, came_back, choose, count_on, did, did_all, dropped, enter}
+use Rattle.wasm_meaning.proofs.Common.{exec, exec_else, exec_kind, finish, gave, gives_all, gives_top, invoke, leave, onto, pick, plain}
+use Rattle.wasm_meaning.proofs.Common.{replied, spend, spend_all, top, turn, turns, FuncAddress, HostFunc, LinkedSet, ModuleFunc, body_of}
+use Rattle.wasm_meaning.proofs.Common.{func_at, func_type, table_at, type_at}
 use Rattle.std.specs.Prelude.{⊤}
 use Rattle.w2c_base.specs.declared.value.Value.TheVariants.{I32, I64}
 use Rattle.w2c_base.specs.declared.trap.TrapKind.TheVariants as trap
-use Rattle.wasm_tree.specs.Instructions.{Code, end_code, then_code, Kind, Otherwise, no_else, else_code, Unreachable, Nop, Return, Drop, Block, Loop, If, Br, BrIf, BrTable, Call, CallIndirect, MemoryCopy, MemoryFill}
+use Rattle.wasm_tree.specs.Instructions.{Code, end_code, then_code, Kind, Otherwise, no_else, else_code, Unreachable, Nop, Return, Drop}
+use Rattle.wasm_tree.specs.Instructions.{Block, Loop, If, Br, BrIf, BrTable, Call, CallIndirect, MemoryCopy, MemoryFill}
 use Rattle.wasm_tree.specs.declared.entries.BodyEntry.{BodyEntry}
 use Rattle.wasm_tree.specs.IndexSpaces.{declared_locals}
 use Rattle.wasm_meaning.specs.Store as store
@@ -33,17 +42,8 @@ LongerCalls d calls = (f : FuncAddress) (args : List Value) (n : ℕ) (made : st
 
 -- a stop that is no want of steps is the same
 stopped : (d : ℕ) (why : Stop) (state : store.State) → Longer d (Stops why state) (Stops why state)
-stopped d (Trapped kind) state = refl
-stopped d Asks state = refl
 stopped d OutOfSteps state = tt
-stopped d Stuck state = refl
-
-call_stopped : (d : ℕ) (why : Stop) (made : store.Store) (trail : Trail)
-    → LongerCall d (CallStops why made trail) (CallStops why made trail)
-call_stopped d (Trapped kind) made trail = refl
-call_stopped d Asks made trail = refl
-call_stopped d OutOfSteps made trail = tt
-call_stopped d Stuck made trail = refl
+stopped d _ state = refl
 
 spent : (d n : ℕ) (state : store.State) (go : ℕ → Result) → ((m : ℕ) → Longer d (go m) (go (m + d)))
     → Longer d (spend n state go) (spend (n + d) state go)
@@ -52,8 +52,7 @@ spent d (suc n) state go h = let e : suc n + d ≡ suc (n + d) = omega arith in 
 
 did_longer : (d n : ℕ) (state : store.State) (o : Done) → Longer d (did n state o) (did (n + d) state o)
 did_longer d n state (Leaves stack after) = refl
-did_longer d n state (Faults kind) = refl
-did_longer d n state NoRule = refl
+did_longer d n state _ = refl
 
 spent_all : (d count n : ℕ) (state : store.State) (go : ℕ → Result) → ((m : ℕ) → Longer d (go m) (go (m + d)))
     → Longer d (spend_all count n state go) (spend_all count (n + d) state go)
@@ -63,19 +62,17 @@ spent_all d (suc count) n state go h =
 
 did_all_longer : (d count n : ℕ) (state : store.State) (o : Done) → Longer d (did_all count n state o) (did_all count (n + d) state o)
 did_all_longer d count n state (Leaves stack after) = spent_all d count n state (λ left. Normal left stack after) (λ m. refl)
-did_all_longer d count n state (Faults kind) = refl
-did_all_longer d count n state NoRule = refl
+did_all_longer d count n state _ = refl
 
 and_then_longer : (d : ℕ) (r s : Result) (go : ℕ → List Value → store.State → Result) → Longer d r s
     → ((n : ℕ) (stack : List Value) (state : store.State) → Longer d (go n stack state) (go (n + d) stack state))
     → Longer d (and_then r go) (and_then s go)
 and_then_longer d (Normal n stack state) s go e h = subst (λ t. Longer d (go n stack state) (and_then t go)) (sym e) (h n stack state)
-and_then_longer d (Branch label n stack state) s go e h = ap (λ t. and_then t go) e
-and_then_longer d (Returned n stack state) s go e h = ap (λ t. and_then t go) e
 and_then_longer d (Stops (Trapped kind) state) s go e h = ap (λ t. and_then t go) e
 and_then_longer d (Stops Asks state) s go e h = ap (λ t. and_then t go) e
 and_then_longer d (Stops OutOfSteps state) s go e h = tt
 and_then_longer d (Stops Stuck state) s go e h = ap (λ t. and_then t go) e
+and_then_longer d _ s go e h = ap (λ t. and_then t go) e
 
 onto_longer : (d n : ℕ) (values : Option (List Value)) (under : List Value) (state : store.State)
     → Longer d (onto n values under state) (onto (n + d) values under state)
@@ -84,28 +81,26 @@ onto_longer d n (Some values) under state = refl
 
 leave_longer : (d : ℕ) (t : Option ValType) (under : List Value) (r s : Result) → Longer d r s
     → Longer d (leave t under r) (leave t under s)
-leave_longer d t under (Normal n stack state) s e = ap (leave t under) e
 leave_longer d t under (Branch zero n stack state) s e =
     subst (λ o. Longer d (onto n (top t stack) under state) (leave t under o)) (sym e) (onto_longer d n (top t stack) under state)
 leave_longer d t under (Branch (suc label) n stack state) s e = ap (leave t under) e
-leave_longer d t under (Returned n stack state) s e = ap (leave t under) e
 leave_longer d t under (Stops (Trapped kind) state) s e = ap (leave t under) e
 leave_longer d t under (Stops Asks state) s e = ap (leave t under) e
 leave_longer d t under (Stops OutOfSteps state) s e = tt
 leave_longer d t under (Stops Stuck state) s e = ap (leave t under) e
+leave_longer d t under _ s e = ap (leave t under) e
 
 turn_longer : (d : ℕ) (again other : ℕ → store.State → Result) (under : List Value) (r s : Result) → Longer d r s
     → ((n : ℕ) (state : store.State) → Longer d (again n state) (other (n + d) state))
     → Longer d (turn again under r) (turn other under s)
-turn_longer d again other under (Normal n stack state) s e h = ap (turn other under) e
 turn_longer d again other under (Branch zero n stack state) s e h =
     subst (λ o. Longer d (again n state) (turn other under o)) (sym e) (h n state)
 turn_longer d again other under (Branch (suc label) n stack state) s e h = ap (turn other under) e
-turn_longer d again other under (Returned n stack state) s e h = ap (turn other under) e
 turn_longer d again other under (Stops (Trapped kind) state) s e h = ap (turn other under) e
 turn_longer d again other under (Stops Asks state) s e h = ap (turn other under) e
 turn_longer d again other under (Stops OutOfSteps state) s e h = tt
 turn_longer d again other under (Stops Stuck state) s e h = ap (turn other under) e
+turn_longer d again other under _ s e h = ap (turn other under) e
 
 -- with at least as many turns
 turns_longer : (d k j : ℕ) → k ≤ j → (body : ℕ → store.State → Result)
@@ -139,9 +134,8 @@ came_back_longer : (d : ℕ) (c e : Called) (stack : List Value) (state : store.
     → Longer d (came_back c stack state) (came_back e stack state)
 came_back_longer d (Back n value made trail) e stack state h = ap (λ o. came_back o stack state) h
 came_back_longer d (CallStops (Trapped kind) made trail) e stack state h = ap (λ o. came_back o stack state) h
-came_back_longer d (CallStops Asks made trail) e stack state h = ap (λ o. came_back o stack state) h
 came_back_longer d (CallStops OutOfSteps made trail) e stack state h = tt
-came_back_longer d (CallStops Stuck made trail) e stack state h = ap (λ o. came_back o stack state) h
+came_back_longer d (CallStops _ made trail) e stack state h = ap (λ o. came_back o stack state) h
 
 branch_longer : (d : ℕ) (b : Bool) (r s u v : Result) → Longer d r s → Longer d u v → Longer d (if b then r else u) (if b then s else v)
 branch_longer d true r s u v h k = h
@@ -202,10 +196,6 @@ call_indirect_longer d s calls h (Some t) (Some want) n (I32 i ∷ stack) state 
     call_element_longer d s calls h (slice_get t.elements i) want n stack state
 call_indirect_longer d s calls h (Some t) (Some want) n (I64 i ∷ stack) state = refl
 
-plain_longer : (d : ℕ) (o : Done) (n : ℕ) (state : store.State)
-    → Longer d (spend n state (λ left. did left state o)) (spend (n + d) state (λ left. did left state o))
-plain_longer d o n state = spent d n state (λ left. did left state o) (λ m. did_longer d m state o)
-
 counted_longer : (d count : ℕ) (o : Done) (n : ℕ) (state : store.State)
     → Longer d (spend n state (λ left. did_all count left state o)) (spend (n + d) state (λ left. did_all count left state o))
 counted_longer d count o n state = spent d n state (λ left. did_all count left state o) (λ m. did_all_longer d count m state o)
@@ -260,7 +250,8 @@ mutual
       (type_at s p type_index) m stack state)
   kind_longer d s calls h p MemoryCopy n stack state = counted_longer d (count_on stack) (plain s p MemoryCopy stack state) n state
   kind_longer d s calls h p MemoryFill n stack state = counted_longer d (count_on stack) (plain s p MemoryFill stack state) n state
-  kind_longer d s calls h p kind n stack state = plain_longer d (plain s p kind stack state) n state
+  kind_longer d s calls h p kind n stack state =
+      spent d n state (λ left. did left state (plain s p kind stack state)) (λ m. did_longer d m state (plain s p kind stack state))
 
   else_longer : (d : ℕ) (s : LinkedSet) (calls : Calls) → LongerCalls d calls
       → (p : ℕ) (otherwise : Otherwise) (n : ℕ) (state : store.State)
@@ -282,9 +273,8 @@ finish_longer d t (Branch (suc label) n stack state) s e = ap (finish t) e
 finish_longer d t (Returned n stack state) s e =
     subst (λ o. LongerCall d (gave (gives_top t stack) n state) (finish t o)) (sym e) (gave_longer d (gives_top t stack) n state)
 finish_longer d t (Stops (Trapped kind) state) s e = ap (finish t) e
-finish_longer d t (Stops Asks state) s e = ap (finish t) e
 finish_longer d t (Stops OutOfSteps state) s e = tt
-finish_longer d t (Stops Stuck state) s e = ap (finish t) e
+finish_longer d t (Stops _ state) s e = ap (finish t) e
 
 enter_longer : (d : ℕ) (s : LinkedSet) (calls : Calls) → LongerCalls d calls
     → (p : ℕ) (body : Option BodyEntry) (ty : Option FuncType) (args : List Value) (n : ℕ) (made : store.Store) (trail : Trail)

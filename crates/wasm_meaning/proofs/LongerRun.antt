@@ -1,5 +1,12 @@
 -- A run that is not out of steps is the same with a larger budget.
-use Rattle.wasm_meaning.proofs.Common.{◌≡◌, ℕ, zero, suc, ◌+◌, ◌-◌, ◌≤◌, Bool, true, false, ◌≢◌, List, [], ◌∷◌, ◌++◌, length, replicate, nat_le, slice_set, Some, None, Option, sym, refl, ap, ◌∙◌, arith, if_found, Init, Phase, Reply, Trail, ImportKind, ImportFunc, ImportGlobal, ImportMemory, ImportTable, Asks, Back, CallStops, Called, OutOfSteps, Stuck, Trapped, call_within, LinkedSet, as_memory, as_table, func_at, import_at, memory_at, table_at, Begin, CallExport, CallStart, Ended, ListedCall, MakeGlobal, MakeMemory, MakeTable, Outcome, Planned, Stopped, Take, Task, TestData, TestElements, WasmRun, WriteByte, WriteElement, as_offset, called_func, constant_of, do_task, done, first_value, is_free, limits_fit, paid, plan_of, run_tasks, tested, then_run, trail_after, wasm_run, with_found, with_memory_at, with_table_at}
+use Rattle.wasm_meaning.proofs.Common.{◌≡◌, ℕ, zero, suc, ◌+◌, ◌-◌, ◌≤◌, Bool, true, false, ◌≢◌, List, [], ◌∷◌, ◌++◌, length, replicate}
+use Rattle.wasm_meaning.proofs.Common.{nat_le, slice_set, Some, None, Option, sym, refl, ap, ◌∙◌, arith, if_found, Init, Phase, Reply}
+use Rattle.wasm_meaning.proofs.Common.{Trail, ImportKind, ImportFunc, ImportGlobal, ImportMemory, ImportTable, Back, CallStops, Called}
+use Rattle.wasm_meaning.proofs.Common.{OutOfSteps, Trapped, call_within, LinkedSet, as_memory, as_table, func_at, import_at, memory_at}
+use Rattle.wasm_meaning.proofs.Common.{table_at, CallExport, CallStart, Ended, ListedCall, MakeGlobal, Outcome, Planned, Stopped, Take}
+use Rattle.wasm_meaning.proofs.Common.{Task, TestData, TestElements, WasmRun, WriteByte, WriteElement, as_offset, called_func, constant_of}
+use Rattle.wasm_meaning.proofs.Common.{do_task, done, first_value, is_free, limits_fit, paid, plan_of, run_tasks, tested, then_run}
+use Rattle.wasm_meaning.proofs.Common.{trail_after, wasm_run, with_found, with_memory_at, with_table_at}
 use Rattle.w2c_base.specs.declared.trap.TrapKind.{TrapKind}
 use Rattle.w2c_base.specs.declared.trap.TrapKind.TheVariants as trap
 use Rattle.wasm_tree.specs.declared.entries.Import.{Import}
@@ -31,7 +38,6 @@ taken s p i made trail kind n = elim kind [
 
 taken_longer : (d : ℕ) (s : LinkedSet) (p : ℕ) (i : Import) (kind : ImportKind) (n : ℕ) (made : store.Store) (trail : Trail)
     → LongerCall d (taken s p i made trail kind n) (taken s p i made trail kind (n + d))
-taken_longer d s p i (ImportFunc t) n made trail = refl
 taken_longer d s p i (ImportTable want) n made trail =
     found_longer d (if_found (if_found (import_at s p i) as_table) (store.table_in made)) made trail
     (λ t. tested (limits_fit (length t.elements) t.max want) trap.ImportLimits n made trail)
@@ -42,7 +48,7 @@ taken_longer d s p i (ImportMemory want) n made trail =
     (λ m. tested (limits_fit (store.pages m) m.max want) trap.ImportLimits n made trail)
     (λ m. tested (limits_fit (store.pages m) m.max want) trap.ImportLimits (n + d) made trail)
     (λ m. tested_longer d (limits_fit (store.pages m) m.max want) trap.ImportLimits n made trail)
-taken_longer d s p i (ImportGlobal t mutable) n made trail = refl
+taken_longer d s p i _ n made trail = refl
 
 table_longer : (d : ℕ) (s : LinkedSet) (p : ℕ) (e : ElementEntry) (made : store.Store) (trail : Trail)
     (go other : ℕ → store.Table → ℕ → Called) →
@@ -78,10 +84,7 @@ memory_longer d s p e made trail go other h =
 
 task_longer : (d : ℕ) (s : LinkedSet) (p : ℕ) (t : Task) (n : ℕ) (made : store.Store) (trail : Trail)
     → LongerCall d (do_task s p t n made trail) (do_task s p t (n + d) made trail)
-task_longer d s p Begin n made trail = refl
 task_longer d s p (Take i) n made trail = taken_longer d s p i i.kind n made trail
-task_longer d s p (MakeTable l) n made trail = refl
-task_longer d s p (MakeMemory l) n made trail = refl
 task_longer d s p (MakeGlobal ty initial) n made trail = found_longer d (first_value s p made ty initial) made trail
     (λ v. done n (store.with_objects made p (λ o. record { memory = o.memory; table = o.table; globals = o.globals ++ v ∷ [] })) trail)
     (λ v. done (n + d) (store.with_objects made p (λ o. record { memory = o.memory; table = o.table; globals = o.globals ++ v ∷ [] }))
@@ -122,6 +125,7 @@ task_longer d s p (CallStart func) n made trail = found_longer d (func_at s p fu
 task_longer d s p (CallExport c) n made trail = found_longer d (called_func s c) made trail
     (λ f. call_within s 1024 f c.args n made trail) (λ f. call_within s 1024 f c.args (n + d) made trail)
     (λ f. calls_longer d s 1024 f c.args n made trail)
+task_longer d s p _ n made trail = refl
 
 paid_longer : (d : ℕ) (free : Bool) (n : ℕ) (made : store.Store) (trail : Trail) (go : ℕ → Called)
     → ((m : ℕ) → LongerCall d (go m) (go (m + d))) → LongerCall d (paid free n made trail go) (paid free (n + d) made trail go)
@@ -138,9 +142,8 @@ then_longer : (d : ℕ) (c e : Called) (t : Planned) (go : ℕ → store.Store �
     → Same (then_run c t go) (then_run e t go)
 then_longer d (Back n value made trail) e t go h k over = ap (λ o. then_run o t go) h ∙ k n made (trail_after t.task value trail) over
 then_longer d (CallStops (Trapped kind) made trail) e t go h k over = ap (λ o. then_run o t go) h
-then_longer d (CallStops Asks made trail) e t go h k over = ap (λ o. then_run o t go) h
 then_longer d (CallStops OutOfSteps made trail) e t go h k over = absurd (over refl)
-then_longer d (CallStops Stuck made trail) e t go h k over = ap (λ o. then_run o t go) h
+then_longer d (CallStops _ made trail) e t go h k over = ap (λ o. then_run o t go) h
 
 tasks_longer : (d : ℕ) (s : LinkedSet) (plan : List Planned) (last : Phase) (n : ℕ) (made : store.Store) (trail : Trail)
     → Same (run_tasks s plan last n made trail) (run_tasks s plan last (n + d) made trail)
@@ -169,8 +172,7 @@ decided : (o : Outcome) (A : Type 0) → (o ≡ Stopped OutOfSteps → A) → (o
 decided (Stopped OutOfSteps) A out over = out refl
 decided Ended A out over = over (λ e. grind arith)
 decided (Stopped (Trapped kind)) A out over = over (λ e. grind arith)
-decided (Stopped Asks) A out over = over (λ e. grind arith)
-decided (Stopped Stuck) A out over = over (λ e. grind arith)
+decided (Stopped _) A out over = over (λ e. grind arith)
 
 pub run_shorter : (s : LinkedSet) (calls : List ListedCall) (replies : List Reply) (n m : ℕ) → n ≤ m
     → (wasm_run s calls m replies).outcome ≡ Stopped OutOfSteps → (wasm_run s calls n replies).outcome ≡ Stopped OutOfSteps

@@ -1,7 +1,8 @@
 -- The execution of instructions with a budget of steps (WebAssembly Core 1.0, 4.4; Core 2.0, 4.4.7 for copied and filled
 -- bytes). `nop`, `drop`, `block`, `loop` and the ends of blocks cost nothing. `memory.copy` and `memory.fill` cost one step and
 -- one more for each byte, unless they trap, every other instruction one step.
-use Rattle.std.specs.Prelude.{ℕ, zero, suc, ◌+◌, ◌%◌, ◌^◌, ◌==◌, Bool, false, ◌&&◌, List, [], ◌∷◌, ◌++◌, if◌then◌else◌, take, drop, reverse, length, slice_get, slice_set, Option, Some, None, unwrap_or}
+use Rattle.std.specs.Prelude.{ℕ, zero, suc, ◌+◌, ◌%◌, ◌^◌, ◌==◌, Bool, false, ◌&&◌, List, [], ◌∷◌, ◌++◌, if◌then◌else◌, take, drop, reverse}
+use Rattle.std.specs.Prelude.{length, slice_get, slice_set, Option, Some, None, unwrap_or}
 use Rattle.w2c_base.specs.declared.value.ValType.{ValType}
 use Rattle.w2c_base.specs.declared.value.ValType.TheVariants as type
 use Rattle.w2c_base.specs.declared.value.Value.{Value}
@@ -12,7 +13,10 @@ use Rattle.w2c_base.specs.declared.trap.TrapKind.TheVariants as trap
 use Rattle.w2c_base.specs.Values.{bits, value, number_of, type_of, types_of, equal_type, equal_types, equal_func_types, is_result, zeros}
 use Rattle.w2c_base.specs.Lookup.{if_found}
 use Rattle.w2c_base.specs.Run.{Reply, Gave, HostTrapped, Ask, Event, Trail, asked}
-use Rattle.wasm_tree.specs.Instructions.{Code, end_code, then_code, Kind, Otherwise, no_else, else_code, Unreachable, Nop, Return, Drop, Select, MemorySize, MemoryGrow, MemoryCopy, MemoryFill, Block, Loop, If, Br, BrIf, BrTable, Call, CallIndirect, LocalGet, LocalSet, LocalTee, GlobalGet, GlobalSet, Load, Store, I32Const, I64Const, Eqz, Compare, Unary, Binary, I32WrapI64, I64ExtendI32S, I64ExtendI32U, Extend}
+use Rattle.wasm_tree.specs.Instructions.{Code, end_code, then_code, Kind, Otherwise, no_else, else_code, Unreachable, Nop, Return, Drop}
+use Rattle.wasm_tree.specs.Instructions.{Select, MemorySize, MemoryGrow, MemoryCopy, MemoryFill, Block, Loop, If, Br, BrIf, BrTable, Call}
+use Rattle.wasm_tree.specs.Instructions.{CallIndirect, LocalGet, LocalSet, LocalTee, GlobalGet, GlobalSet, Load, Store, I32Const, I64Const}
+use Rattle.wasm_tree.specs.Instructions.{Eqz, Compare, Unary, Binary, I32WrapI64, I64ExtendI32S, I64ExtendI32U, Extend}
 use Rattle.wasm_tree.specs.declared.operators.LoadOp.{LoadOp}
 use Rattle.wasm_tree.specs.declared.operators.StoreOp.{StoreOp}
 use Rattle.wasm_tree.specs.Accesses.{load_access, store_access, extend_width, extend_type}
@@ -20,7 +24,8 @@ use Rattle.wasm_tree.specs.declared.entries.BodyEntry.{BodyEntry}
 use Rattle.wasm_tree.specs.IndexSpaces.{declared_locals}
 use Rattle.wasm_meaning.specs.Operators.{Answer, Gives, Traps, pattern_of, truth, extend_s, unary, binary, compare}
 use Rattle.wasm_meaning.specs.Memories.{load_number, store_number, copy_bytes, fill_bytes}
-use Rattle.wasm_meaning.specs.LinkedSet.{LinkedSet, FuncAddress, ModuleFunc, HostFunc, GlobalAddress, func_at, table_at, memory_at, global_at, type_at, func_type, global_type, body_of}
+use Rattle.wasm_meaning.specs.LinkedSet.{LinkedSet, FuncAddress, ModuleFunc, HostFunc, GlobalAddress, func_at, table_at, memory_at}
+use Rattle.wasm_meaning.specs.LinkedSet.{global_at, type_at, func_type, global_type, body_of}
 use Rattle.wasm_meaning.specs.Store as store
 
 -- why an execution stops before its end

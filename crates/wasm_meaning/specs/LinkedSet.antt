@@ -1,6 +1,7 @@
 -- Linked sets, and what each index of a module stands for (WebAssembly Core 1.0, 4.2.5 module
 -- instances, 4.2.11 external values, 4.5.4 imports): made from the trees, module by module.
-use Rattle.std.specs.Prelude.{◌≡◌, ℕ, ◌≤◌, Bool, List, [], ◌∷◌, ◌++◌, length, map, filter, find, take, replicate, bytes_eq, slice_get, Option, Some, None, option_map}
+use Rattle.std.specs.Prelude.{◌≡◌, ℕ, ◌≤◌, Bool, List, [], ◌∷◌, ◌++◌, length, map, filter, find, take, replicate, bytes_eq, slice_get}
+use Rattle.std.specs.Prelude.{Option, Some, None, option_map}
 use Rattle.std.specs.List.{range_with_len, position_from, AllByRecursion}
 use Rattle.std.specs.Option.{option_or}
 use Rattle.w2c_base.specs.declared.value.ValType.{ValType}
@@ -8,12 +9,15 @@ use Rattle.w2c_base.specs.declared.signature.FuncType.{FuncType}
 use Rattle.w2c_base.specs.Lookup.{if_found, at_index, named, AreDistinct}
 use Rattle.w2c_base.specs.Run.{Host}
 use Rattle.wasm_tree.specs.declared.tree.Module.{Module}
-use Rattle.wasm_tree.specs.IndexSpaces.{is_func_import, is_table_import, is_memory_import, is_global_import, imported_funcs, type_in, at_defined}
+use Rattle.wasm_tree.specs.IndexSpaces.{is_func_import, is_table_import, is_memory_import, is_global_import, imported_funcs, type_in}
+use Rattle.wasm_tree.specs.IndexSpaces.{at_defined}
 use Rattle.wasm_tree.specs.declared.entries.Import.{Import}
 use Rattle.wasm_tree.specs.declared.entries.Export.{Export}
 use Rattle.wasm_tree.specs.declared.entries.BodyEntry.{BodyEntry}
-use Rattle.wasm_tree.specs.declared.entries.ImportKind.TheVariants.{Func as ImportFunc, Table as ImportTable, Memory as ImportMemory, Global as ImportGlobal}
-use Rattle.wasm_tree.specs.declared.entries.ExportKind.TheVariants.{Func as ExportFunc, Table as ExportTable, Memory as ExportMemory, Global as ExportGlobal}
+use Rattle.wasm_tree.specs.declared.entries.ImportKind.TheVariants.{Func as ImportFunc, Table as ImportTable, Memory as ImportMemory}
+use Rattle.wasm_tree.specs.declared.entries.ImportKind.TheVariants.{Global as ImportGlobal}
+use Rattle.wasm_tree.specs.declared.entries.ExportKind.TheVariants.{Func as ExportFunc, Table as ExportTable, Memory as ExportMemory}
+use Rattle.wasm_tree.specs.declared.entries.ExportKind.TheVariants.{Global as ExportGlobal}
 
 pub record NamedModule : Type 0 where
   pub name : List ℕ

@@ -1,6 +1,7 @@
 -- The integer operators, on bit patterns of N bits read as numbers below 2 ^ N (WebAssembly Core
 -- 1.0, 4.3.1 and 4.3.2): unbounded arithmetic, and the signed reading of a pattern.
-use Rattle.std.specs.Prelude.{ℕ, ◌+◌, ◌-◌, ◌*◌, ◌/◌, ◌%◌, ◌^◌, ◌<◌, Bool, ◌&&◌, not, ◌==◌, nat_lt, nat_le, if◌then◌else◌, ℤ, pos, ◌-ℤ◌, int_lt, int_le, int_div, int_rem, unsigned_abs, bit_and, bit_or, bit_xor, ⊤}
+use Rattle.std.specs.Prelude.{ℕ, ◌+◌, ◌-◌, ◌*◌, ◌/◌, ◌%◌, ◌^◌, ◌<◌, Bool, ◌&&◌, not, ◌==◌, nat_lt, nat_le, if◌then◌else◌, ℤ, pos, ◌-ℤ◌}
+use Rattle.std.specs.Prelude.{int_lt, int_le, int_div, int_rem, unsigned_abs, bit_and, bit_or, bit_xor, ⊤}
 use Rattle.std.specs.Int.{int_rem_euclid, int_div_euclid}
 use Rattle.std.specs.Int.Count.{ones, count_leading_zeros, count_trailing_zeros}
 use Rattle.w2c_base.specs.declared.trap.TrapKind.{TrapKind}
@@ -8,7 +9,8 @@ use Rattle.w2c_base.specs.declared.trap.TrapKind.TheVariants.{DivByZero, IntOver
 use Rattle.wasm_tree.specs.declared.operators.UnaryOp.{UnaryOp}
 use Rattle.wasm_tree.specs.declared.operators.UnaryOp.TheVariants.{Clz, Ctz, Popcnt}
 use Rattle.wasm_tree.specs.declared.operators.BinaryOp.{BinaryOp}
-use Rattle.wasm_tree.specs.declared.operators.BinaryOp.TheVariants.{Add, Sub, Mul, DivS, DivU, RemS, RemU, And, Or, Xor, Shl, ShrS, ShrU, Rotl, Rotr}
+use Rattle.wasm_tree.specs.declared.operators.BinaryOp.TheVariants.{Add, Sub, Mul, DivS, DivU, RemS, RemU, And, Or, Xor, Shl, ShrS, ShrU}
+use Rattle.wasm_tree.specs.declared.operators.BinaryOp.TheVariants.{Rotl, Rotr}
 use Rattle.wasm_tree.specs.declared.operators.CompareOp.{CompareOp}
 use Rattle.wasm_tree.specs.declared.operators.CompareOp.TheVariants.{Eq, Ne, LtS, LtU, GtS, GtU, LeS, LeU, GeS, GeU}
 

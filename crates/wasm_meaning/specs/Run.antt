@@ -1,6 +1,7 @@
 -- The run of a linked set: its modules are instantiated in order, then calls of exports run
 -- (WebAssembly Core 1.0, 4.5.3 to 4.5.5). A run is a list of tasks of one step each.
-use Rattle.std.specs.Prelude.{◌≡◌, ℕ, zero, suc, ◌+◌, ◌&&◌, not, List, [], ◌∷◌, ◌++◌, Bool, true, false, if◌then◌else◌, nat_le, length, map, filter, flat_map, slice_set, replicate, Option, Some, None}
+use Rattle.std.specs.Prelude.{◌≡◌, ℕ, zero, suc, ◌+◌, ◌&&◌, not, List, [], ◌∷◌, ◌++◌, Bool, true, false, if◌then◌else◌, nat_le, length, map}
+use Rattle.std.specs.Prelude.{filter, flat_map, slice_set, replicate, Option, Some, None}
 use Rattle.std.specs.List.{AllByRecursion}
 use Rattle.w2c_base.specs.declared.value.ValType.{ValType}
 use Rattle.w2c_base.specs.declared.value.Value.{Value}
@@ -21,7 +22,8 @@ use Rattle.wasm_tree.specs.declared.entries.ElementEntry.{ElementEntry}
 use Rattle.wasm_tree.specs.declared.entries.SegmentEntry.{SegmentEntry}
 use Rattle.wasm_tree.specs.declared.entries.ImportKind.TheVariants.{Table as ImportTable, Memory as ImportMemory}
 use Rattle.wasm_meaning.specs.Operators.{pattern_of}
-use Rattle.wasm_meaning.specs.LinkedSet.{LinkedSet, FuncAddress, as_func, as_table, as_memory, exported, instances, import_at, func_at, table_at, memory_at, global_at, func_type}
+use Rattle.wasm_meaning.specs.LinkedSet.{LinkedSet, FuncAddress, as_func, as_table, as_memory, exported, instances, import_at, func_at}
+use Rattle.wasm_meaning.specs.LinkedSet.{table_at, memory_at, global_at, func_type}
 use Rattle.wasm_meaning.specs.Store as store
 use Rattle.wasm_meaning.specs.Execution.{Stop, Trapped, OutOfSteps, Stuck, Called, Back, CallStops, of_type, call_within}
 

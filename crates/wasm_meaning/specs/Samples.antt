@@ -5,7 +5,8 @@ use Rattle.w2c_base.specs.declared.value.ValType.{ValType}
 use Rattle.w2c_base.specs.declared.value.ValType.TheVariants as type
 use Rattle.w2c_base.specs.declared.value.Value.{Value}
 use Rattle.w2c_base.specs.Run.{Host, HostFunction, Reply, Ask}
-use Rattle.wasm_tree.specs.Instructions.{Code, end_code, then_code, Kind, Block, BrTable, Call, CallIndirect, MemoryGrow, LocalGet, GlobalGet, GlobalSet, I32Const, I64Const, Binary}
+use Rattle.wasm_tree.specs.Instructions.{Code, end_code, then_code, Kind, Block, BrTable, Call, CallIndirect, MemoryGrow, LocalGet}
+use Rattle.wasm_tree.specs.Instructions.{GlobalGet, GlobalSet, I32Const, I64Const, Binary}
 use Rattle.wasm_tree.specs.declared.operators.BinaryOp.TheVariants.{Add}
 use Rattle.wasm_tree.specs.declared.tree.Module.{Module}
 use Rattle.wasm_tree.specs.declared.entries.TypeEntry.{TypeEntry}
@@ -18,8 +19,10 @@ use Rattle.wasm_tree.specs.declared.entries.SegmentEntry.{SegmentEntry}
 use Rattle.wasm_tree.specs.declared.entries.Start.{Start}
 use Rattle.wasm_tree.specs.declared.entries.Import.{Import}
 use Rattle.wasm_tree.specs.declared.entries.ImportKind.{ImportKind}
-use Rattle.wasm_tree.specs.declared.entries.ImportKind.TheVariants.{Func as ImportFunc, Table as ImportTable, Memory as ImportMemory, Global as ImportGlobal}
-use Rattle.wasm_tree.specs.declared.entries.ExportKind.TheVariants.{Func as ExportFunc, Table as ExportTable, Memory as ExportMemory, Global as ExportGlobal}
+use Rattle.wasm_tree.specs.declared.entries.ImportKind.TheVariants.{Func as ImportFunc, Table as ImportTable, Memory as ImportMemory}
+use Rattle.wasm_tree.specs.declared.entries.ImportKind.TheVariants.{Global as ImportGlobal}
+use Rattle.wasm_tree.specs.declared.entries.ExportKind.TheVariants.{Func as ExportFunc, Table as ExportTable, Memory as ExportMemory}
+use Rattle.wasm_tree.specs.declared.entries.ExportKind.TheVariants.{Global as ExportGlobal}
 use Rattle.wasm_meaning.specs.LinkedSet.{LinkedSet}
 use Rattle.wasm_meaning.specs.Store.{State, no_objects}
 use Rattle.wasm_meaning.specs.Execution.{Result, exec, call_within}

@@ -1,6 +1,7 @@
 -- The store of a linked set: what each module defines, as far as it is made, and what code reads
 -- and changes of it (WebAssembly Core 1.0, 4.2.3 to 4.2.9).
-use Rattle.std.specs.Prelude.{ℕ, ◌+◌, ◌*◌, ◌/◌, if◌then◌else◌, nat_le, min, List, [], ◌++◌, length, replicate, slice_get, slice_set, Option, Some, None, unwrap_or}
+use Rattle.std.specs.Prelude.{ℕ, ◌+◌, ◌*◌, ◌/◌, if◌then◌else◌, nat_le, min, List, [], ◌++◌, length, replicate, slice_get, slice_set, Option}
+use Rattle.std.specs.Prelude.{Some, None, unwrap_or}
 use Rattle.w2c_base.specs.declared.value.Value.{Value}
 use Rattle.w2c_base.specs.Lookup.{if_found}
 use Rattle.w2c_base.specs.Run.{Trail}

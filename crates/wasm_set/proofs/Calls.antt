@@ -1,8 +1,14 @@
 -- A call fits exactly where the module of its name offers a function that takes its arguments.
-use Rattle.wasm_set.proofs.Common.{◌≡◌, ◌≤◌, true, List, [], ◌∷◌, map, length, Some, None, Option, option_map, sym, refl, ap, ◌∙◌, subst, append-nil, arith, take_all, nat_tests, AllByRecursion, list_all, both_hold, if_found, IsNumber, equal_types, is_number, types_of, FuncType, ValType, Value, type_in, Module, External, FuncAddress, Instance, IsFunc, IsGlobal, IsLinked, IsMemory, IsTable, LinkedSet, NamedModule, as_func, exported, func_type, instances, module_named, module_takes, offer_takes, takes, offered, named_of, set_of, Offer, Func, Global, Memory, Table, SetModule}
+use Rattle.wasm_set.proofs.Common.{◌≡◌, ◌≤◌, true, List, [], ◌∷◌, map, length, Some, None, Option, option_map, sym, refl, ap, ◌∙◌, subst}
+use Rattle.wasm_set.proofs.Common.{append-nil, arith, take_all, AllByRecursion, list_all, both_hold, if_found, IsNumber, equal_types}
+use Rattle.wasm_set.proofs.Common.{is_number, types_of, FuncType, ValType, Value, type_in, Module, External, FuncAddress, Instance, IsFunc}
+use Rattle.wasm_set.proofs.Common.{IsGlobal, IsLinked, IsMemory, IsTable, LinkedSet, NamedModule, as_func, exported, func_type, instances}
+use Rattle.wasm_set.proofs.Common.{module_named, module_takes, offer_takes, takes, offered, named_of, set_of, Offer, Func, Global, Memory}
+use Rattle.wasm_set.proofs.Common.{Table, SetModule}
+use Rattle.w2c_base.proofs.Types.{types_equal_themselves, equal_types-eq}
+use Rattle.w2c_base.proofs.Numbers.{found_is_number}
 use Rattle.wasm_meaning.specs.Run.{ListedCall, Fits}
 use Rattle.wasm_set.proofs.Pairs.{Together}
-use Rattle.wasm_set.proofs.EqualTypes.{one_list, same_list}
 use Rattle.wasm_set.proofs.Stands.{Stands}
 use Rattle.wasm_set.proofs.Instances.{IsInstanceOf, StandsIn, behind_is, first_stand, found_stands}
 
@@ -11,15 +17,12 @@ numbers : (values : List Value) → list_all is_number values ≡ true → AllBy
 numbers [] e = tt
 numbers (v ∷ values) e =
     let h = both_hold (is_number v) (list_all is_number values) e in
-    (is_one v h.0, numbers values h.1)
-  where
-    is_one : (v : Value) → is_number v ≡ true → IsNumber v
-    is_one v e = grind (arith, nat_tests)
+    (found_is_number v h.0, numbers values h.1)
 
 taken : (ty : Option FuncType) (args : List Value) → takes ty args ≡ true
     → (f : FuncType) × (ty ≡ Some f) × (f.params ≡ types_of args)
 taken None args e = absurd (cc)
-taken (Some f) args e = (f, refl, one_list f.params (types_of args) e)
+taken (Some f) args e = (f, refl, equal_types-eq f.params (types_of args) e)
 
 -- the instances of a linked set go together with its modules
 all_stand : (modules : List SetModule) → IsLinked (set_of modules)
@@ -47,19 +50,17 @@ called_from s m (Some (IsFunc f)) (Some (Func u)) args stands e =
     let h = taken (type_in m u) args e in (f, h.0, refl, stands ∙ h.1, h.2)
 called_from s m None (Some (Func u)) args stands e = absurd stands
 called_from s m (Some (IsTable owner)) (Some (Func u)) args stands e = absurd stands
-called_from s m (Some (IsMemory owner)) (Some (Func u)) args stands e = absurd stands
-called_from s m (Some (IsGlobal g)) (Some (Func u)) args stands e = absurd stands
+called_from s m (Some _) (Some (Func u)) args stands e = absurd stands
 called_from s m x None args stands e = absurd (cc)
 called_from s m x (Some Table) args stands e = absurd (cc)
-called_from s m x (Some Memory) args stands e = absurd (cc)
-called_from s m x (Some (Global ty mutable)) args stands e = absurd (cc)
+called_from s m x (Some _) args stands e = absurd (cc)
 
 called_takes : (s : LinkedSet) (m : Module) (x : Option External) (o : Option Offer) (args : List Value) → Stands s m x o
     → called s x args → offer_takes m o args ≡ true
 called_takes s m (Some (IsFunc f)) (Some (Func u)) args stands h =
     let same : f ≡ h.0 = cc in
     ap (λ (ty : Option FuncType). takes ty args) (sym stands ∙ ap (func_type s) same ∙ h.3)
-    ∙ ap (λ (types : List ValType). equal_types types (types_of args)) h.4 ∙ same_list (types_of args)
+    ∙ ap (λ (types : List ValType). equal_types types (types_of args)) h.4 ∙ types_equal_themselves (types_of args)
 called_takes s m (Some (IsTable owner)) (Some Table) args stands h = absurd (cc)
 called_takes s m (Some (IsMemory owner)) (Some Memory) args stands h = absurd (cc)
 called_takes s m (Some (IsGlobal g)) (Some (Global ty mutable)) args stands h = absurd (cc)

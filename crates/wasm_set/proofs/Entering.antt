@@ -1,5 +1,7 @@
 -- A table of offers grows by one export after the other.
-use Rattle.wasm_set.proofs.Common.{◌≡◌, ℕ, ◌+◌, ◌<◌, ◌≤◌, Bool, true, false, List, ◌∷◌, map, length, get_or, drop, if◌then◌else◌, Some, None, Option, bytes_eq, sym, refl, ap, ◌∙◌, subst, at_drop_all, at_drop_more, option_or, named, Export, Module, offer_of, offers, OfferTable, Tells, Offer}
+use Rattle.wasm_set.proofs.Common.{◌≡◌, ℕ, ◌+◌, ◌<◌, ◌≤◌, Bool, true, false, List, ◌∷◌, map, length, get_or, drop, if◌then◌else◌, Some}
+use Rattle.wasm_set.proofs.Common.{None, Option, bytes_eq, sym, refl, ap, ◌∙◌, subst, at_drop_all, at_drop_more, option_or, named, Export}
+use Rattle.wasm_set.proofs.Common.{Module, offer_of, offers, OfferTable, Tells, Offer}
 
 -- what exports enter
 abbrev pub entries : Module → List Export → OfferTable

@@ -1,5 +1,9 @@
 -- A set with more modules behind it: what resolves in the front resolves in the whole.
-use Rattle.wasm_set.proofs.Common.{◌≡◌, ℕ, zero, suc, ◌≤◌, Bool, List, [], ◌∷◌, ◌++◌, length, take, slice_get, Some, None, Option, option_map, refl, ap, ◌∙◌, arith, take-append-le, AllByRecursion, if_found, Host, FuncType, ValType, at_defined, type_in, FuncEntry, GlobalEntry, Import, ImportKind, ImportFunc, ImportGlobal, ImportMemory, ImportTable, Module, FuncAddress, GlobalAddress, HostFunc, Instance, LinkedSet, ModuleFunc, NamedModule, Resolves, func_type, global_type, import_at, instance_of, instances, instances_behind, meaning_of, module_at, type_at}
+use Rattle.wasm_set.proofs.Common.{◌≡◌, ℕ, zero, suc, ◌≤◌, Bool, List, [], ◌∷◌, ◌++◌, length, take, slice_get, Some, None, Option}
+use Rattle.wasm_set.proofs.Common.{option_map, refl, ap, ◌∙◌, arith, take-append-le, AllByRecursion, if_found, Host, FuncType, ValType}
+use Rattle.wasm_set.proofs.Common.{at_defined, type_in, FuncEntry, GlobalEntry, Import, ImportKind, ImportFunc, ImportGlobal, Module}
+use Rattle.wasm_set.proofs.Common.{FuncAddress, GlobalAddress, HostFunc, Instance, LinkedSet, ModuleFunc, NamedModule, Resolves, func_type}
+use Rattle.wasm_set.proofs.Common.{global_type, import_at, instance_of, instances, instances_behind, meaning_of, module_at, type_at}
 use Rattle.wasm_set.proofs.Stands.{of_kind}
 use Rattle.wasm_set.proofs.Instances.{behind_is}
 
@@ -78,10 +82,9 @@ resolves_extends : (modules others : List NamedModule) (p : ℕ) → p ≤ lengt
 resolves_extends modules others p less i (ImportFunc t) r =
     let at = import_extends modules others p less i ∙ r.2 in
     (r.0, r.1, at, type_extends modules others p t r.1 r.3, func_extends modules others r.0 r.1 r.4)
-resolves_extends modules others p less i (ImportTable limits) r = (r.0, import_extends modules others p less i ∙ r.1)
-resolves_extends modules others p less i (ImportMemory limits) r = (r.0, import_extends modules others p less i ∙ r.1)
 resolves_extends modules others p less i (ImportGlobal ty mutable) r =
     (r.0, import_extends modules others p less i ∙ r.1, global_extends modules others r.0 (ty, mutable) r.2)
+resolves_extends modules others p less i _ r = (r.0, import_extends modules others p less i ∙ r.1)
 
 pub all_extend : (modules others : List NamedModule) (p : ℕ) → p ≤ length modules → (imports : List Import)
     → AllByRecursion (Resolves (alone modules) p) imports → AllByRecursion (Resolves (alone (modules ++ others)) p) imports

@@ -1,5 +1,9 @@
 -- Looking for a module by its name, and for what it offers.
-use Rattle.wasm_set.proofs.Common.{◌≡◌, ℕ, zero, suc, ◌+◌, ◌<◌, ◌≤◌, Bool, true, false, ◌&&◌, List, [], ◌∷◌, ◌++◌, length, get_or, drop, is_none, if◌then◌else◌, nat_lt, slice_get, Some, None, Option, option_map, bytes_eq, sym, refl, ap, ◌∙◌, arith, length-append, at_drop_all, at_drop_more, slice_get-get_or, list_all, if_found, named, Value, Import, Module, gives, gives_if_any, is_given, may_join, module_named, module_takes, offer_takes, offered, offers, AreTables, OfferTable, Offer, SetModule}
+use Rattle.wasm_set.proofs.Common.{◌≡◌, ℕ, zero, suc, ◌+◌, ◌<◌, ◌≤◌, Bool, true, false, ◌&&◌, List, [], ◌∷◌, ◌++◌, length, get_or, drop}
+use Rattle.wasm_set.proofs.Common.{is_none, if◌then◌else◌, nat_lt, slice_get, Some, None, Option, option_map, bytes_eq, sym, refl, ap, ◌∙◌}
+use Rattle.wasm_set.proofs.Common.{arith, length-append, at_drop_more, slice_get-get_or, list_all, named, Value, Import, Module, gives}
+use Rattle.wasm_set.proofs.Common.{gives_if_any, is_given, may_join, module_named, module_takes, offer_takes, offered, offers, AreTables}
+use Rattle.wasm_set.proofs.Common.{OfferTable, Offer, SetModule}
 use Rattle.wasm_set.proofs.Joins.{LastCase, Earlier, Last, last_case}
 
 -- the module at a place from which on the first of the name is looked for
@@ -12,20 +16,6 @@ named_here modules i m name less is same so_far =
     ∙ ap (λ (x : SetModule). module_named (x ∷ drop (i + 1) modules) name) (sym is)
     ∙ ap (λ (b : Bool). if b then Some m else module_named (drop (i + 1) modules) name) same
     ∙ ap Some is ∙ sym (slice_get-get_or modules i m less)
-
-pub named_next : (modules : List SetModule) (i : ℕ) (m : SetModule) (name : List ℕ) → i < length modules → m ≡ get_or modules i m
-    → bytes_eq m.name name ≡ false → module_named (drop i modules) name ≡ module_named modules name
-    → module_named (drop (i + 1) modules) name ≡ module_named modules name
-named_next modules i m name less is other so_far =
-    sym (at_drop_more (λ (ms : List SetModule). module_named ms name) modules i m less
-    ∙ ap (λ (x : SetModule). module_named (x ∷ drop (i + 1) modules) name) (sym is)
-    ∙ ap (λ (b : Bool). if b then Some m else module_named (drop (i + 1) modules) name) other)
-    ∙ so_far
-
-pub named_nowhere : (modules : List SetModule) (i : ℕ) (name : List ℕ) → length modules ≤ i
-    → module_named (drop i modules) name ≡ module_named modules name → module_named modules name ≡ None
-named_nowhere modules i name past so_far =
-    sym so_far ∙ at_drop_all (λ (ms : List SetModule). module_named ms name) modules i past
 
 -- there is a module at a place
 there_is : (modules : List SetModule) (k : ℕ) → k < length modules → is_none (slice_get modules k) ≡ false
@@ -44,14 +34,6 @@ taken_name modules name m k less found =
     by true false given e = refl
     by false false given e = refl
     by few true given e = absurd (cc)
-
--- what a table finds is what its module offers
-pub found_offer : (tables : List OfferTable) (modules : List SetModule) → AreTables tables modules → (k : ℕ) (table : OfferTable)
-    → k < length tables → table ≡ get_or tables k table → (m : SetModule) → slice_get modules k ≡ Some m → (name : List ℕ)
-    → if_found (named name table) (λ offer. offer) ≡ offered m.«module» name
-found_offer tables modules h k table less is m at name =
-    ap (λ (o : Option (Option Offer)). if_found o (λ offer. offer))
-    (h.each k table m (slice_get-get_or tables k table less ∙ ap Some (sym is)) at name)
 
 pub given_by : (modules : List SetModule) (m : Module) (i : Import) (k : ℕ) (from : SetModule) (o : Option Offer)
     → k < length modules → from ≡ get_or modules k from → module_named modules i.«module» ≡ slice_get modules k

@@ -1,5 +1,9 @@
 -- The instances of a set go together with its modules, as far as the imports of these resolve.
-use Rattle.wasm_set.proofs.Common.{◌≡◌, ℕ, suc, ◌+◌, Bool, true, false, List, [], ◌∷◌, ◌++◌, map, length, take, if◌then◌else◌, slice_get, Some, None, Option, find, bytes_eq, sym, refl, ap, ◌∙◌, subst, append_assoc, append-nil, arith, length-append, take_at, AllByRecursion, if_found, named, Host, External, Instance, LinkedSet, NamedModule, Resolves, export_of, exported, instance_of, instances, instances_behind, meaning_of, module_at, spaces_of, module_named, offered, named_of, SetModule}
+use Rattle.wasm_set.proofs.Common.{◌≡◌, ℕ, suc, ◌+◌, Bool, true, false, List, [], ◌∷◌, ◌++◌, map, length, take, if◌then◌else◌, slice_get}
+use Rattle.wasm_set.proofs.Common.{Some, None, Option, find, bytes_eq, sym, refl, ap, ◌∙◌, subst, append_assoc, append-nil, arith}
+use Rattle.wasm_set.proofs.Common.{length-append, take_at, AllByRecursion, if_found, named, Host, External, Instance, LinkedSet}
+use Rattle.wasm_set.proofs.Common.{NamedModule, Resolves, export_of, exported, instance_of, instances, instances_behind, meaning_of}
+use Rattle.wasm_set.proofs.Common.{module_at, spaces_of, module_named, offered, named_of, SetModule}
 use Rattle.wasm_set.proofs.Pairs.{Together}
 use Rattle.wasm_set.proofs.Stands.{Stands, name_stands}
 

@@ -1,8 +1,11 @@
 -- A module joins exactly where the list with it is a linked set.
-use Rattle.wasm_set.proofs.Common.{◌≡◌, ℕ, zero, suc, ◌<◌, ◌≤◌, Bool, true, false, ◌&&◌, ◌≢◌, List, [], ◌∷◌, ◌++◌, map, length, take, is_none, if◌then◌else◌, nat_lt, slice_get, Some, option_map, bytes_eq, sym, refl, ap, ◌∙◌, subst, append-nil, arith, length-append, nat_tests, length-map, map-append, slice_get_within, AllByRecursion, list_all, both_hold, AreDistinct, Host, Module, Instance, IsLinked, LinkedSet, NamedModule, Resolves, instances, module_at, is_given, may_join, module_named, named_of, set_of, SetModule}
+use Rattle.wasm_set.proofs.Common.{◌≡◌, ℕ, zero, suc, ◌<◌, ◌≤◌, Bool, true, false, ◌&&◌, ◌≢◌, List, [], ◌∷◌, ◌++◌, map, length, take}
+use Rattle.wasm_set.proofs.Common.{is_none, if◌then◌else◌, nat_lt, slice_get, Some, option_map, bytes_eq, sym, refl, ap, ◌∙◌, subst}
+use Rattle.wasm_set.proofs.Common.{append-nil, arith, length-append, nat_tests, length-map, map-append, slice_get_within, AllByRecursion}
+use Rattle.wasm_set.proofs.Common.{list_all, both_hold, AreDistinct, Host, Module, Instance, IsLinked, LinkedSet, NamedModule, Resolves}
+use Rattle.wasm_set.proofs.Common.{instances, module_at, is_given, may_join, module_named, named_of, set_of, SetModule, and_from}
 use Rattle.std.proofs.lemmas.Slice.Eq.{bytes_eq-Decides}
 use Rattle.wasm_set.proofs.Pairs.{Together}
-use Rattle.wasm_set.proofs.EqualTypes.{both}
 use Rattle.wasm_set.proofs.Instances.{IsInstanceOf, IsSound, first_stand}
 use Rattle.wasm_set.proofs.Extending.{alone, module_extends, all_extend}
 use Rattle.wasm_set.proofs.Resolving.{IsBehind, given_resolve, resolved_are_given}
@@ -160,7 +163,7 @@ module _ (modules : List SetModule) (x : SetModule) where
               (subst (λ (m : Module). AllByRecursion (Resolves whole (length modules)) m.imports) is new)
 
   pub linked_is_joined : IsLinked (set_of (modules ++ x ∷ [])) → may_join modules x.name x.«module» ≡ true
-  linked_is_joined linked_whole = both _ _ few (both _ _ unnamed
+  linked_is_joined linked_whole = and_from _ _ few (and_from _ _ unnamed
       (resolved_are_given modules whole (length modules) x.«module» (behind sound) x.«module».imports
       (linked.imports_resolve (length modules) x.«module» last_is)))
     where

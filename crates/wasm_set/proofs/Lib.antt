@@ -1,12 +1,12 @@
+-- What the crate's own proofs cite.
 mod Common
-pub mod Pairs
-pub mod EqualTypes
-pub mod Stands
-pub mod Instances
-pub mod Resolving
-pub mod Extending
-pub mod Joins
-pub mod Calls
-pub mod Entering
-pub mod Unequal
-pub mod Found
+mod Pairs
+mod EqualTypes
+mod Stands
+mod Instances
+mod Resolving
+mod Extending
+mod Joins
+mod Calls
+mod Entering
+mod Found

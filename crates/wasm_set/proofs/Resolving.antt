@@ -1,7 +1,14 @@
 -- An import of the module behind others resolves exactly where one of these offers what it asks for.
-use Rattle.wasm_set.proofs.Common.{◌≡◌, ℕ, Bool, true, List, [], ◌∷◌, map, take, Some, None, Option, sym, refl, ap, ◌∙◌, subst, some_pair_parts, AllByRecursion, list_all, option_or, both_hold, Host, equal_type, FuncType, ValType, type_in, Import, ImportKind, ImportFunc, ImportGlobal, ImportMemory, ImportTable, Module, External, IsFunc, IsGlobal, IsMemory, IsTable, LinkedSet, Resolves, exported, host_offers, import_at, instances, module_at, gives, gives_if_any, is_given, module_named, are_one_type, equal_bool, is_of_kind, offered, named_of, Offer, Func, Global, Memory, Table, SetModule}
+use Rattle.wasm_set.proofs.Common.{◌≡◌, ℕ, Bool, true, List, [], ◌∷◌, map, take, Some, None, Option, sym, refl, ap, ◌∙◌, subst}
+use Rattle.wasm_set.proofs.Common.{some_pair_parts, AllByRecursion, list_all, option_or, both_hold, Host, equal_type, FuncType, ValType}
+use Rattle.wasm_set.proofs.Common.{type_in, Import, ImportKind, ImportFunc, ImportGlobal, ImportMemory, ImportTable, Module, External}
+use Rattle.wasm_set.proofs.Common.{IsFunc, IsGlobal, IsMemory, IsTable, LinkedSet, Resolves, exported, host_offers, import_at, instances}
+use Rattle.wasm_set.proofs.Common.{module_at, gives, gives_if_any, is_given, module_named, are_one_type, equal_bool, is_of_kind, offered}
+use Rattle.wasm_set.proofs.Common.{named_of, Offer, Func, Global, Memory, Table, SetModule, and_from}
+use Rattle.w2c_base.proofs.Types.{equal_type-eq, type_equals_itself}
+use Rattle.w2c_base.proofs.Options.{or_none}
 use Rattle.wasm_set.proofs.Pairs.{Together}
-use Rattle.wasm_set.proofs.EqualTypes.{both, one_type, same_type, one_bool, same_bool, same_func_type, are_one}
+use Rattle.wasm_set.proofs.EqualTypes.{one_bool, same_bool, same_func_type, are_one}
 use Rattle.wasm_set.proofs.Stands.{Stands, of_kind, type_at_is}
 use Rattle.wasm_set.proofs.Instances.{IsInstanceOf, StandsIn, found_stands}
 
@@ -18,7 +25,7 @@ offer_resolves s p from m is i (Global ty mutable) (Some (IsGlobal g)) stands at
     let h = both_hold (equal_type ty wanted) (equal_bool mutable changes) e in (
       g,
       at,
-      stands ∙ ap (λ (t : ValType). Some (t, mutable)) (one_type ty wanted h.0)
+      stands ∙ ap (λ (t : ValType). Some (t, mutable)) (equal_type-eq ty wanted h.0)
           ∙ ap (λ (b : Bool). Some (wanted, b)) (one_bool mutable changes h.1),
     )
 offer_resolves s p from m is i o x stands at k e = absurd (first_of (cc, assumption))
@@ -52,7 +59,7 @@ resolves_offer s p from m is i o x stands at (ImportGlobal wanted changes) r =
         → gives_if_any from o m (of_kind i (ImportGlobal wanted changes)) ≡ true
     by (Some (Global ty mutable)) h =
         let same = some_pair_parts ty wanted mutable changes (sym h ∙ r.2) in
-        both _ _ (ap (λ (t : ValType). equal_type t wanted) same.0 ∙ same_type wanted)
+        and_from _ _ (ap (λ (t : ValType). equal_type t wanted) same.0 ∙ type_equals_itself wanted)
         (ap (λ (b : Bool). equal_bool b changes) same.1 ∙ same_bool changes)
     by o h = absurd h
 
@@ -92,10 +99,6 @@ pub record IsBehind (modules : List SetModule) (s : LinkedSet) (p : ℕ) (m : Mo
   pub is : module_at s p ≡ Some m
   pub stand : Together (IsInstanceOf s) (take p (instances s)) (map named_of modules)
 
-or_none : {A : Type 0} (o : Option A) → option_or o None ≡ o
-or_none None = refl
-or_none (Some a) = refl
-
 import_is : (modules : List SetModule) (s : LinkedSet) (p : ℕ) (m : Module) → IsBehind modules s p m → (i : Import)
     → import_at s p i ≡ exported (take p (instances s)) i.«module» i.field
 import_is modules s p m h i =
@@ -115,7 +118,7 @@ given_resolve modules s p m h (i ∷ imports) e =
 pub resolved_are_given : (modules : List SetModule) (s : LinkedSet) (p : ℕ) (m : Module) → IsBehind modules s p m → (imports : List Import)
     → AllByRecursion (Resolves s p) imports → list_all (is_given modules m) imports ≡ true
 resolved_are_given modules s p m h [] all = refl
-resolved_are_given modules s p m h (i ∷ imports) all = both _ _
+resolved_are_given modules s p m h (i ∷ imports) all = and_from _ _
     (resolves_gives s p m h.is i (module_named modules i.«module») (exported (take p (instances s)) i.«module» i.field)
     (found_stands s (take p (instances s)) modules h.stand i.«module» i.field) (import_is modules s p m h i) all.0)
     (resolved_are_given modules s p m h imports all.1)

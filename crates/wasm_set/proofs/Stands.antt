@@ -1,9 +1,19 @@
 -- What each index of a module stands for in a set has the type that the module's own index space says.
-use Rattle.wasm_set.proofs.Common.{◌≡◌, ℕ, suc, ◌+◌, ◌-◌, Bool, true, false, List, [], ◌∷◌, map, length, replicate, if◌then◌else◌, nat_lt, slice_get, Some, None, Option, option_map, flat_map, bytes_eq, sym, refl, ap, ◌∙◌, subst, arith, nat_tests, AllByRecursion, range_with_len, ⊤, at_index, if_found, named, ValType, at_defined, func_of_import, func_space, global_of_import, global_space, imported_funcs, is_func_import, is_global_import, is_memory_import, is_table_import, memory_of_import, memory_space, table_of_import, table_space, type_in, Export, FuncEntry, GlobalEntry, Import, ImportKind, ImportFunc, ImportGlobal, ImportMemory, ImportTable, Module, External, FuncAddress, GlobalAddress, IsFunc, IsGlobal, IsMemory, IsTable, LinkedSet, ModuleFunc, Resolves, as_func, as_global, as_memory, as_table, export_of, func_type, global_type, import_at, imports_of, module_at, spaces_of, type_at, offer_of, offered, Offer, Func, Global, Memory, Table}
+use Rattle.wasm_set.proofs.Common.{◌≡◌, ℕ, suc, ◌+◌, ◌-◌, Bool, true, false, List, [], ◌∷◌, map, length, replicate, if◌then◌else◌, nat_lt}
+use Rattle.wasm_set.proofs.Common.{slice_get, Some, None, Option, option_map, flat_map, bytes_eq, sym, refl, ap, ◌∙◌, subst, arith}
+use Rattle.wasm_set.proofs.Common.{nat_tests, AllByRecursion, range_with_len, ⊤, at_index, if_found, named, ValType, at_defined}
+use Rattle.wasm_set.proofs.Common.{func_of_import, func_space, global_of_import, global_space, imported_funcs, is_func_import}
+use Rattle.wasm_set.proofs.Common.{is_global_import, is_memory_import, is_table_import, memory_of_import, memory_space, table_of_import}
+use Rattle.wasm_set.proofs.Common.{table_space, type_in, Export, FuncEntry, GlobalEntry, Import, ImportKind, ImportFunc, ImportGlobal}
+use Rattle.wasm_set.proofs.Common.{ImportMemory, ImportTable, Module, External, FuncAddress, GlobalAddress, IsFunc, IsGlobal, IsMemory}
+use Rattle.wasm_set.proofs.Common.{IsTable, LinkedSet, ModuleFunc, Resolves, as_func, as_global, as_memory, as_table, export_of, func_type}
+use Rattle.wasm_set.proofs.Common.{global_type, import_at, imports_of, module_at, spaces_of, type_at, offer_of, offered, Offer, Func}
+use Rattle.wasm_set.proofs.Common.{Global, Memory, Table}
 use Rattle.wasm_tree.specs.declared.entries.Limits.{Limits}
 use Rattle.wasm_tree.specs.declared.entries.LimitsEntry.{LimitsEntry}
 use Rattle.wasm_tree.specs.declared.entries.ExportKind.{ExportKind}
-use Rattle.wasm_tree.specs.declared.entries.ExportKind.TheVariants.{Func as ExportFunc, Table as ExportTable, Memory as ExportMemory, Global as ExportGlobal}
+use Rattle.wasm_tree.specs.declared.entries.ExportKind.TheVariants.{Func as ExportFunc, Table as ExportTable, Memory as ExportMemory}
+use Rattle.wasm_tree.specs.declared.entries.ExportKind.TheVariants.{Global as ExportGlobal}
 use Rattle.wasm_set.proofs.Pairs.{Together, Both, together_append, together_at}
 
 -- an import with another kind
@@ -46,9 +56,7 @@ import_funcs s p m is (i ∷ imports) all = by i.kind all.0 (import_funcs s p m 
         (flat_map func_of_import (of_kind i k ∷ imports))
     by (ImportFunc t) r others =
         ((r.0, ap (λ (o : Option External). if_found o as_func) r.2, r.4 ∙ sym r.3 ∙ type_at_is s p m is t), others)
-    by (ImportTable limits) r others = others
-    by (ImportMemory limits) r others = others
-    by (ImportGlobal ty mutable) r others = others
+    by _ r others = others
 
 import_tables : (s : LinkedSet) (p : ℕ) (imports : List Import) → AllByRecursion (Resolves s p) imports
     → Together LimitsStand (imports_of is_table_import as_table (import_at s p) imports) (flat_map table_of_import imports)
@@ -59,10 +67,8 @@ import_tables s p (i ∷ imports) all = by i.kind all.0 (import_tables s p impor
         → Together LimitsStand (imports_of is_table_import as_table (import_at s p) imports) (flat_map table_of_import imports)
         → Together LimitsStand (imports_of is_table_import as_table (import_at s p) (of_kind i k ∷ imports))
         (flat_map table_of_import (of_kind i k ∷ imports))
-    by (ImportFunc t) r others = others
     by (ImportTable limits) r others = ((r.0, ap (λ (o : Option External). if_found o as_table) r.1), others)
-    by (ImportMemory limits) r others = others
-    by (ImportGlobal ty mutable) r others = others
+    by _ r others = others
 
 import_memories : (s : LinkedSet) (p : ℕ) (imports : List Import) → AllByRecursion (Resolves s p) imports
     → Together LimitsStand (imports_of is_memory_import as_memory (import_at s p) imports) (flat_map memory_of_import imports)
@@ -73,10 +79,8 @@ import_memories s p (i ∷ imports) all = by i.kind all.0 (import_memories s p i
         → Together LimitsStand (imports_of is_memory_import as_memory (import_at s p) imports) (flat_map memory_of_import imports)
         → Together LimitsStand (imports_of is_memory_import as_memory (import_at s p) (of_kind i k ∷ imports))
         (flat_map memory_of_import (of_kind i k ∷ imports))
-    by (ImportFunc t) r others = others
-    by (ImportTable limits) r others = others
     by (ImportMemory limits) r others = ((r.0, ap (λ (o : Option External). if_found o as_memory) r.1), others)
-    by (ImportGlobal ty mutable) r others = others
+    by _ r others = others
 
 import_globals : (s : LinkedSet) (p : ℕ) (imports : List Import) → AllByRecursion (Resolves s p) imports
     → Together (GlobalStands s) (imports_of is_global_import as_global (import_at s p) imports) (flat_map global_of_import imports)
@@ -87,10 +91,8 @@ import_globals s p (i ∷ imports) all = by i.kind all.0 (import_globals s p imp
         → Together (GlobalStands s) (imports_of is_global_import as_global (import_at s p) imports) (flat_map global_of_import imports)
         → Together (GlobalStands s) (imports_of is_global_import as_global (import_at s p) (of_kind i k ∷ imports))
         (flat_map global_of_import (of_kind i k ∷ imports))
-    by (ImportFunc t) r others = others
-    by (ImportTable limits) r others = others
-    by (ImportMemory limits) r others = others
     by (ImportGlobal ty mutable) r others = ((r.0, ap (λ (o : Option External). if_found o as_global) r.1, r.2), others)
+    by _ r others = others
 
 -- ---- what a module defines
 

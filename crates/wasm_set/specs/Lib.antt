@@ -3,5 +3,4 @@ pub mod Sets
 -- tools
 pub mod Offers
 pub mod Joining
-pub mod Spaces
 pub mod Tables

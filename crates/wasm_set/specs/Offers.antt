@@ -7,9 +7,11 @@ use Rattle.w2c_base.specs.Lookup.{if_found, named}
 use Rattle.w2c_base.specs.Values.{equal_type, equal_func_types}
 use Rattle.wasm_tree.specs.declared.tree.Module.{Module}
 use Rattle.wasm_tree.specs.declared.entries.Export.{Export}
-use Rattle.wasm_tree.specs.declared.entries.ExportKind.TheVariants.{Func as ExportFunc, Table as ExportTable, Memory as ExportMemory, Global as ExportGlobal}
+use Rattle.wasm_tree.specs.declared.entries.ExportKind.TheVariants.{Func as ExportFunc, Table as ExportTable, Memory as ExportMemory}
+use Rattle.wasm_tree.specs.declared.entries.ExportKind.TheVariants.{Global as ExportGlobal}
 use Rattle.wasm_tree.specs.declared.entries.ImportKind.{ImportKind}
-use Rattle.wasm_tree.specs.declared.entries.ImportKind.TheVariants.{Func as ImportFunc, Table as ImportTable, Memory as ImportMemory, Global as ImportGlobal}
+use Rattle.wasm_tree.specs.declared.entries.ImportKind.TheVariants.{Func as ImportFunc, Table as ImportTable, Memory as ImportMemory}
+use Rattle.wasm_tree.specs.declared.entries.ImportKind.TheVariants.{Global as ImportGlobal}
 use Rattle.wasm_tree.specs.IndexSpaces.{func_space, table_space, memory_space, global_space, type_in}
 use Rattle.wasm_set.specs.declared.offer.Offer.{Offer}
 use Rattle.wasm_set.specs.declared.offer.Offer.TheVariants.{Func, Table, Memory, Global}

@@ -13,7 +13,7 @@ use std::alloc::Global;
 use std::marker::Model;
 use w2c_base::{Bytes, Memory, Value};
 use wasm_tree::Module;
-use wasm_valid::ValidModule;
+use wasm_typing::ValidModule;
 
 /// Modules under names that are a linked set without hosts (WebAssembly Core 1.0, 4.5.4), in the order in which they
 /// joined.

@@ -3,11 +3,12 @@ ghost use Rattle.std.specs.Prelude.{IfOk};
 ghost use Rattle.wasm_set.specs.Tables.{Tells};
 
 use crate::offer::OfferTable;
-use crate::spaces::Spaces;
+use crate::spaces::offer;
 use name_table::{NameTable, Salted};
 use std::alloc::Global;
 use w2c_base::Memory;
 use wasm_tree::Module;
+use wasm_valid::Spaces;
 
 // The key of the names that a module exports.
 fn salt_of_exports(m: &Module) -> Salted {
@@ -25,7 +26,7 @@ pub(crate) fn offers_of(alloc: Global, m: &Module) -> Result<OfferTable, Memory>
     let spaces = Spaces::new(alloc, m)?;
     let mut table = NameTable::new(alloc, salt_of_exports(m));
     for export in m.exports.as_slice() {
-        table.enter(alloc, export.name.as_slice(), spaces.offer(export))?;
+        table.enter(alloc, export.name.as_slice(), offer(&spaces, export))?;
     }
     Ok(table)
 }

@@ -2,13 +2,13 @@
 ghost use Rattle.std.specs.Prelude.{◌≡◌, true};
 ghost use Rattle.std.specs.List.{list_all};
 ghost use Rattle.std.specs.Option.{option_copied};
-ghost use Rattle.w2c_base.specs.Values.{equal_type, equal_types, equal_results, equal_func_types, is_number, type_of, types_of};
+ghost use Rattle.w2c_base.specs.Values.{equal_type, equal_types, equal_results, equal_func_types, is_number};
 ghost use Rattle.wasm_tree.specs.IndexSpaces.{type_in as type_by_index};
 ghost use Rattle.wasm_set.specs.Offers.{are_one_type, equal_bool, is_func, is_global, is_of_kind};
 ghost use Rattle.wasm_set.specs.Joining.{gives_if_any, offer_takes, takes};
 
 use crate::offer::Offer;
-use w2c_base::{FuncType, ValType, Value};
+use w2c_base::{FuncType, ValType, Value, are_of_types};
 use wasm_tree::{Import, ImportKind, Module};
 
 /// Whether what a module offers, if anything, is what an import of another asks for.
@@ -150,32 +150,5 @@ fn takes(ty: Option<&FuncType>, args: &[Value]) -> bool
     match ty {
         None => false,
         Some(ty) => are_of_types(ty.params.as_slice(), args),
-    }
-}
-
-// Whether values have these types, one for each.
-fn are_of_types(types: &[ValType], values: &[Value]) -> bool
-    ensures types { result ≡ equal_types types.now (types_of values.now) }
-    ensures numbers { result ≡ true → list_all is_number values.now ≡ true }
-{
-    if types.len() != values.len() {
-        return false;
-    }
-    for i in 0..types.len() {
-        if !has_type(types[i], values[i]) {
-            return false;
-        }
-    }
-    true
-}
-
-// Whether a value, which is a number of its type, is of this type.
-fn has_type(ty: ValType, value: Value) -> bool
-    ensures types { result ≡ equal_type ty (type_of value) }
-    ensures number { is_number value ≡ true }
-{
-    match value {
-        Value::I32(_) => ty == ValType::I32,
-        Value::I64(_) => ty == ValType::I64,
     }
 }

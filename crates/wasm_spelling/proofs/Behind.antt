@@ -1,12 +1,11 @@
 -- What bytes of a file say that spell fields, behind so many bytes of the file.
-use Rattle.wasm_spelling.proofs.Common.{◌≡◌, ℕ, ◌+◌, ◌^◌, ◌<◌, ◌≤◌, Bool, ◌⊎◌, List, [], ◌∷◌, length, ℤ, IsTrue, ap, ◌∙◌, subst, inl, inr, arith, length-append, AllByRecursion, all_split, SpellsSigned, SpellsUnsigned, AreBytes, Custom, Fields, Sized, Spelled, Then, byte, either, for_some, here, number, provided, signed, text, window, most_module_bytes}
+use Rattle.wasm_spelling.proofs.Common.{◌≡◌, ℕ, ◌+◌, ◌^◌, ◌<◌, ◌≤◌, Bool, ◌⊎◌, List, [], ◌∷◌, length, ℤ, IsTrue, ap, ◌∙◌, subst, inl, inr}
+use Rattle.wasm_spelling.proofs.Common.{arith, length-append, all_split, SpellsSigned, SpellsUnsigned, AreBytes, Custom, Fields, Sized}
+use Rattle.wasm_spelling.proofs.Common.{Spelled, Then, byte, either, for_some, here, number, provided, signed, text, window}
+use Rattle.wasm_spelling.proofs.Common.{most_module_bytes}
 use Rattle.leb_bytes.proofs.Runs.{IsNumberRun-some}
 
 -- ---- lists
-
-pub all_more : {A : Type 0} (P Q : A → Type 0) → ((x : A) → P x → Q x) → (xs : List A) → AllByRecursion P xs → AllByRecursion Q xs
-all_more P Q f [] h = tt
-all_more P Q f (x ∷ xs) h = (f x h.0, all_more P Q f xs h.1)
 
 -- ---- bytes behind others
 

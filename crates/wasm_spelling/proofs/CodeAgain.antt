@@ -1,7 +1,14 @@
 -- Instructions that are spelled are read, and what closes them stands behind them.
-use Rattle.wasm_spelling.proofs.Common.{◌≡◌, ℕ, zero, suc, ◌-◌, ◌<◌, Bool, true, false, eqb, length, IsTrue, nat_lt, Some, None, Ok, Option, Result, sym, refl, ap, ◌∙◌, subst, arith, eqb-true, ValType, has_row, form_in, form_of, Form, opcode_of, row_of, Block, Code, If, Kind, Loop, else_code, end_code, no_else, then_code, At, Fields, byte, here, provided, most_blocks, block_type_code, code_fields, end_byte, expression, immediates, instr_fields, Head, Reader, a_block, a_form, a_loop, an_if, byte_at, checked, done, formed, head_of, opened, the_else, the_end, ReadFault}
+use Rattle.wasm_spelling.proofs.Common.{◌≡◌, ℕ, zero, suc, ◌-◌, ◌<◌, Bool, true, false, eqb, length, IsTrue, nat_lt, Some, None, Ok, Option}
+use Rattle.wasm_spelling.proofs.Common.{Result, sym, refl, ap, ◌∙◌, subst, arith, eqb-true, ValType, has_row, form_in, form_of, Form}
+use Rattle.wasm_spelling.proofs.Common.{opcode_of, row_of, Block, Code, If, Kind, Loop, else_code, end_code, no_else, then_code, At, Fields}
+use Rattle.wasm_spelling.proofs.Common.{byte, here, provided, most_blocks, block_type_code, code_fields, end_byte, expression, immediates}
+use Rattle.wasm_spelling.proofs.Common.{instr_fields, Head, Reader, a_block, a_form, a_loop, an_if, byte_at, checked, done, formed, head_of}
+use Rattle.wasm_spelling.proofs.Common.{opened, the_else, the_end, ReadFault}
 use Rattle.wasm_spelling.specs.Steps.{reads}
-use Rattle.wasm_spelling.specs.Reading.{block_type_at, form_at, Ender, by_end, by_else, ender_place, Item, closed, one, as_one, item_of, item_at, put_before, after_item, items_at, all_items_at, if_closed, block_of, block_at, code_at, expression_at}
+use Rattle.wasm_spelling.specs.Reading.{block_type_at, form_at, Ender, by_end, by_else, ender_place, Item, closed, one, as_one, item_of}
+use Rattle.wasm_spelling.specs.Reading.{item_at, put_before, after_item, items_at, all_items_at, if_closed, block_of, block_at, code_at}
+use Rattle.wasm_spelling.specs.Reading.{expression_at}
 use Rattle.wasm_spelling.proofs.Tools.{none_some, reads_again, checked_again}
 use Rattle.wasm_spelling.proofs.Took.{SpelledAt, Again, first_again}
 use Rattle.wasm_spelling.proofs.Leaves.{byte_again, block_type_reads}

@@ -1,14 +1,19 @@
 -- The machine goes over instructions as reading does.
-use Rattle.wasm_spelling.proofs.Common.{◌≡◌, ℕ, zero, suc, ◌-◌, ◌<◌, Bool, true, false, List, [], ◌∷◌, ◌++◌, length, Ok, Err, Option, Result, sym, refl, subst, append_assoc, arith, ValType, Block, Code, If, Kind, Loop, else_code, At, most_blocks, expression, Head, Reader, a_block, a_form, a_loop, an_if, byte_at, checked, done, head_of, the_else, the_end, ◌>>=◌, Field, form_fields, instructions, none_more, state, ReadFault}
+use Rattle.wasm_spelling.proofs.Common.{◌≡◌, ℕ, zero, suc, ◌-◌, ◌<◌, Bool, true, false, List, [], ◌∷◌, ◌++◌, length, Ok, Err, Option}
+use Rattle.wasm_spelling.proofs.Common.{Result, sym, refl, subst, append_assoc, arith, ValType, Block, Code, If, Kind, Loop, else_code, At}
+use Rattle.wasm_spelling.proofs.Common.{most_blocks, expression, Head, Reader, a_block, a_form, a_loop, an_if, byte_at, checked, done}
+use Rattle.wasm_spelling.proofs.Common.{head_of, the_else, the_end, ◌>>=◌, Field, form_fields, instructions, none_more, state, ReadFault}
 use Rattle.wasm_spelling.specs.Steps.{reads}
 use Rattle.wasm_spelling.specs.Table.{block_type, head_fields, row}
-use Rattle.wasm_spelling.specs.Reading.{block_type_at, form_at, Ender, by_end, by_else, ender_place, Item, closed, one, as_one, item_of, item_at, put_before, after_item, items_at, if_closed, block_of, block_at, code_at, expression_at}
+use Rattle.wasm_spelling.specs.Reading.{block_type_at, form_at, Ender, by_end, by_else, ender_place, Item, closed, one, as_one, item_of}
+use Rattle.wasm_spelling.specs.Reading.{item_at, put_before, after_item, items_at, if_closed, block_of, block_at, code_at, expression_at}
 use Rattle.wasm_spelling.proofs.Tools.{checked_ok}
 use Rattle.wasm_spelling.proofs.Runs.{Runs, lands, Follows, FollowsTo, follows_row, follows_both, then_reads, runs_now}
 use Rattle.wasm_spelling.proofs.Readings.{Reads, then_done}
 use Rattle.wasm_spelling.proofs.Leaves.{block_type_reads}
 use Rattle.wasm_spelling.proofs.Forms.{form_follows}
-use Rattle.wasm_spelling.proofs.CodeTaken.{HeadIs, head_is, Inner, InnerTakes, item_takes, ItemTaken, block_takes, code_takes, expression_takes}
+use Rattle.wasm_spelling.proofs.CodeTaken.{HeadIs, head_is, Inner, InnerTakes, item_takes, ItemTaken, block_takes, code_takes}
+use Rattle.wasm_spelling.proofs.CodeTaken.{expression_takes}
 use Rattle.wasm_spelling.proofs.CodeAgain.{expression_again}
 
 -- what is still expected behind what closes instructions, and behind an item

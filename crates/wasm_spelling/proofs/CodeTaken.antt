@@ -1,8 +1,15 @@
 -- Instructions that are read are spelled by the bytes that were taken.
-use Rattle.wasm_spelling.proofs.Common.{◌≡◌, ℕ, zero, suc, ◌-◌, ◌<◌, Bool, true, false, ◌&&◌, eqb, length, IsTrue, nat_lt, Some, None, Ok, Option, Result, sym, refl, ap, subst, arith, lt-ltb, eqb-true, and_parts, ValType, form_in, Form, row_of, Block, Code, If, Kind, Loop, end_code, no_else, then_code, At, Fields, byte, here, provided, most_blocks, block_type_code, code_fields, end_byte, expression, instr_fields, Head, Reader, a_block, a_form, a_loop, an_if, byte_at, checked, done, formed, head_of, malformed, opened, the_else, the_end, ReadFault, Float}
+use Rattle.wasm_spelling.proofs.Common.{◌≡◌, ℕ, zero, suc, ◌-◌, ◌<◌, Bool, true, false, ◌&&◌, eqb, length, IsTrue, nat_lt, Some, None, Ok}
+use Rattle.wasm_spelling.proofs.Common.{Option, Result, sym, refl, ap, subst, arith, lt-ltb, eqb-true, and_parts, ValType, form_in, Form}
+use Rattle.wasm_spelling.proofs.Common.{row_of, Block, Code, If, Kind, Loop, end_code, no_else, then_code, At, Fields, byte, here, provided}
+use Rattle.wasm_spelling.proofs.Common.{most_blocks, block_type_code, code_fields, end_byte, expression, instr_fields, Head, Reader}
+use Rattle.wasm_spelling.proofs.Common.{a_block, a_form, a_loop, an_if, byte_at, checked, done, formed, head_of, malformed, opened}
+use Rattle.wasm_spelling.proofs.Common.{the_else, the_end, ReadFault, Float}
 use Rattle.wasm_spelling.specs.declared.fault.Cause.TheVariants as cause
 use Rattle.wasm_spelling.specs.Steps.{reads, is_float}
-use Rattle.wasm_spelling.specs.Reading.{block_type_at, form_at, Ender, by_end, by_else, ender_place, Item, closed, one, as_one, item_of, item_at, put_before, after_item, items_at, all_items_at, if_closed, block_of, block_at, code_at, expression_at}
+use Rattle.wasm_spelling.specs.Reading.{block_type_at, form_at, Ender, by_end, by_else, ender_place, Item, closed, one, as_one, item_of}
+use Rattle.wasm_spelling.specs.Reading.{item_at, put_before, after_item, items_at, all_items_at, if_closed, block_of, block_at, code_at}
+use Rattle.wasm_spelling.specs.Reading.{expression_at}
 use Rattle.wasm_spelling.proofs.Tools.{bad, ok_is, not_ok, reads_ok, checked_ok, either_way}
 use Rattle.wasm_spelling.proofs.Took.{SpelledAt, Took, took_none, took_as, took_then, Takes, first_taken}
 use Rattle.wasm_spelling.proofs.Leaves.{byte_front, byte_takes, block_type_reads}

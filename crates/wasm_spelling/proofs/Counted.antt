@@ -1,15 +1,21 @@
 -- Readings that count: function entries, runs of locals, bodies, and data segments, of which another section says the number.
-use Rattle.wasm_spelling.proofs.Common.{◌≡◌, ℕ, ◌+◌, true, false, cond, eqb, leb, List, [], ◌∷◌, length, nat_le, Some, None, Ok, Option, sym, refl, ap, ◌∙◌, subst, arith, BodyEntry, DataCount, Run, At, Counts, Fields, finished, here, number, provided, window, most_all_locals, most_blocks, most_functions, most_locals, code_fields, each, end_byte, locals_of, agrees_with, data_count_at, locals_counted, more_locals, run_count_at, instructions, of_functions, of_segments, Limit, Malformed}
+use Rattle.wasm_spelling.proofs.Common.{◌≡◌, ℕ, ◌+◌, true, false, cond, eqb, leb, List, [], ◌∷◌, length, nat_le, Some, None, Ok, Option}
+use Rattle.wasm_spelling.proofs.Common.{sym, refl, ap, ◌∙◌, subst, arith, BodyEntry, DataCount, Run, At, Counts, Fields, finished, here}
+use Rattle.wasm_spelling.proofs.Common.{number, provided, window, most_all_locals, most_blocks, most_functions, most_locals, code_fields}
+use Rattle.wasm_spelling.proofs.Common.{each, end_byte, locals_of, agrees_with, data_count_at, locals_counted, more_locals, run_count_at}
+use Rattle.wasm_spelling.proofs.Common.{instructions, of_functions, of_segments, Limit, Malformed}
 use Rattle.wasm_spelling.specs.declared.fault.Cause.TheVariants as cause
 use Rattle.wasm_spelling.specs.declared.fault.Which.TheVariants as which
 use Rattle.wasm_spelling.specs.ModuleFields as of
 use Rattle.wasm_spelling.specs.Table as table
 use Rattle.wasm_spelling.specs.Table.{of_runs, body_fields, segment_total, row}
-use Rattle.wasm_spelling.specs.Reading.{vector_at, type_at, func_entry_at, data_count_entry_at, segment_entry_at, run_at, by_end, ender_place, code_at, body_content_at, body_at, bodies_at}
+use Rattle.wasm_spelling.specs.Reading.{vector_at, type_at, func_entry_at, data_count_entry_at, segment_entry_at, run_at, by_end}
+use Rattle.wasm_spelling.specs.Reading.{ender_place, code_at, body_content_at, body_at, bodies_at}
 use Rattle.wasm_spelling.proofs.Tools.{yes, bad, ok_is, not_ok, either_way, reads_ok, reads_again}
 use Rattle.wasm_spelling.proofs.Took.{Leads, took_then, CountingSpelling}
 use Rattle.wasm_spelling.proofs.Runs.{follows_row, follows_from, follows_both}
-use Rattle.wasm_spelling.proofs.Readings.{CountingReads, by_row, counted, respelled, Tallied, tally_always, tally_where, tallied, then_done, next, entry, in_order}
+use Rattle.wasm_spelling.proofs.Readings.{CountingReads, by_row, counted, respelled, Tallied, tally_always, tally_where, tallied, then_done}
+use Rattle.wasm_spelling.proofs.Readings.{next, entry, in_order}
 use Rattle.wasm_spelling.proofs.Leaves.{number_spelling, limited_spelling, place_reads, type_reads}
 use Rattle.wasm_spelling.proofs.Vectors.{each_from, after_each, counting_times, vector_reads}
 use Rattle.wasm_spelling.proofs.Windows.{window_reads}

@@ -1,17 +1,22 @@
 -- The entries of sections.
-use Rattle.wasm_spelling.proofs.Common.{◌≡◌, ℕ, Bool, List, [], ◌∷◌, Ok, Result, sym, refl, ap, ◌∙◌, subst, ValType, Import, ImportKind, At, Fields, byte, here, number, export_code, mutability_code, Reader, done, reads, index, of_indexes, of_segments, parts_of, ReadFault}
+use Rattle.wasm_spelling.proofs.Common.{◌≡◌, ℕ, Bool, List, [], ◌∷◌, Ok, Result, sym, refl, ap, ◌∙◌, subst, ValType, Import, ImportKind, At}
+use Rattle.wasm_spelling.proofs.Common.{Fields, byte, here, number, export_code, mutability_code, Reader, done, reads, index, of_indexes}
+use Rattle.wasm_spelling.proofs.Common.{of_segments, parts_of, ReadFault}
 use Rattle.wasm_tree.specs.declared.entries.ImportKind.TheVariants as imported
 use Rattle.wasm_tree.specs.declared.entries.ExportKind.{ExportKind}
 use Rattle.wasm_tree.specs.declared.entries.ExportKind.TheVariants as kind
 use Rattle.wasm_spelling.specs.ModuleFields as of
 use Rattle.wasm_spelling.specs.Table as table
 use Rattle.wasm_spelling.specs.Table.{of_types, of_imports, of_tables, of_memories, of_globals, of_exports, of_elements, import_fields, row}
-use Rattle.wasm_spelling.specs.Reading.{kind_at, place_at, vector_at, type_entry_at, import_kind_at, import_at, func_entry_at, table_entry_at, memory_entry_at, global_entry_at, export_entry_at, start_at, func_ref_at, element_entry_at, segment_entry_at}
+use Rattle.wasm_spelling.specs.Reading.{kind_at, place_at, vector_at, type_entry_at, import_kind_at, import_at, func_entry_at}
+use Rattle.wasm_spelling.specs.Reading.{table_entry_at, memory_entry_at, global_entry_at, export_entry_at, start_at, func_ref_at}
+use Rattle.wasm_spelling.specs.Reading.{element_entry_at, segment_entry_at}
 use Rattle.wasm_spelling.proofs.Tools.{ok_is, reads_ok, reads_again}
 use Rattle.wasm_spelling.proofs.Took.{SpelledAt, Took, took_as, took_then, first_taken, first_again}
 use Rattle.wasm_spelling.proofs.Runs.{Follows, FollowsTo, follows_row, follows_from, follows_both}
 use Rattle.wasm_spelling.proofs.Readings.{Reads, ReadsAs, Rest, then_done, onto, next, made, entry, in_order, in_order_as}
-use Rattle.wasm_spelling.proofs.Leaves.{number_spelling, index_reads, place_reads, type_reads, mutability_reads, kind_reads, name_reads, counted_bytes_reads}
+use Rattle.wasm_spelling.proofs.Leaves.{number_spelling, index_reads, place_reads, type_reads, mutability_reads, kind_reads, name_reads}
+use Rattle.wasm_spelling.proofs.Leaves.{counted_bytes_reads}
 use Rattle.wasm_spelling.proofs.Vectors.{vector_reads}
 use Rattle.wasm_spelling.proofs.Types.{func_type_reads, table_type_reads, memory_type_reads}
 use Rattle.wasm_spelling.proofs.CodeFollows.{expression_reads}
@@ -89,9 +94,7 @@ imported_fields (imported.Global ty mutable) rest = of.value_type ty (byte (muta
 import_kind_is : (k : ImportKind) (place : ℕ) (rest : Fields)
     → of.import_kind k place rest ≡ byte (export_code (kind_of_import k)) (here place (imported_fields k rest))
 import_kind_is (imported.Func n) place rest = refl
-import_kind_is (imported.Table l) place rest = refl
-import_kind_is (imported.Memory l) place rest = refl
-import_kind_is (imported.Global ty mutable) place rest = refl
+import_kind_is _ place rest = refl
 
 abbrev global_of : ValType × Bool → ImportKind
 global_of v = imported.Global v.0 v.1

@@ -1,10 +1,18 @@
 -- The fields behind an opcode that is no block's, by the table of instructions.
-use Rattle.wasm_spelling.proofs.Common.{◌≡◌, ℕ, zero, suc, eqb, List, [], ◌∷◌, length, replicate, ℤ, Some, None, Ok, Option, sym, refl, ap, ◌∙◌, subst, eqb-true, length-replicate, AllByRecursion, ◌&◌, form_in, form_of, Form, Prefixed, Row, a_mem_arg, a_sub_opcode, a_type, a_zero, an_i32, an_i64, an_index, labels, nothing, opcode_of, prefixed, prefixed_of, row_of, rows, Block, Br, BrIf, BrTable, Call, CallIndirect, GlobalGet, GlobalSet, I32Const, I64Const, If, Kind, Load, LocalGet, LocalSet, LocalTee, Loop, MemoryCopy, MemoryFill, MemoryGrow, MemorySize, Store, At, Fields, byte, number, signed, each, immediates, instr_fields, vector, checked, number_at, sub_opcode_in, sub_opcode_of, form_fields, index, of_indexes, times}
+use Rattle.wasm_spelling.proofs.Common.{◌≡◌, ℕ, zero, suc, eqb, List, [], ◌∷◌, length, replicate, ℤ, Some, None, Ok, Option, sym, refl, ap}
+use Rattle.wasm_spelling.proofs.Common.{◌∙◌, subst, eqb-true, length-replicate, AllByRecursion, ◌&◌, form_in, form_of, Form, Prefixed, Row}
+use Rattle.wasm_spelling.proofs.Common.{a_mem_arg, a_sub_opcode, a_type, a_zero, an_i32, an_i64, an_index, labels, nothing, opcode_of}
+use Rattle.wasm_spelling.proofs.Common.{prefixed, prefixed_of, row_of, rows, Block, Br, BrIf, BrTable, Call, CallIndirect, GlobalGet}
+use Rattle.wasm_spelling.proofs.Common.{GlobalSet, I32Const, I64Const, If, Kind, Load, LocalGet, LocalSet, LocalTee, Loop, MemoryCopy}
+use Rattle.wasm_spelling.proofs.Common.{MemoryFill, MemoryGrow, MemorySize, Store, At, Fields, byte, number, signed, each, immediates}
+use Rattle.wasm_spelling.proofs.Common.{instr_fields, vector, checked, number_at, sub_opcode_in, sub_opcode_of, form_fields, index}
+use Rattle.wasm_spelling.proofs.Common.{of_indexes, times}
 use Rattle.wasm_tree.specs.declared.code.MemArg.{MemArg}
 use Rattle.wasm_spelling.specs.declared.fault.Cause.TheVariants as cause
 use Rattle.wasm_spelling.specs.Table as table
 use Rattle.wasm_spelling.specs.Reading.{exactly_at, times_at, vector_at, mem_arg_at, form_at}
-use Rattle.wasm_spelling.proofs.Tools.{ok_is, some, some_is, none_some, ok_or_is, found, found_passes, reads_ok, checked_ok, checked_again, reads_again}
+use Rattle.wasm_spelling.proofs.Tools.{ok_is, some, some_is, none_some, ok_or_is, found, found_passes, reads_ok, checked_ok, checked_again}
+use Rattle.wasm_spelling.proofs.Tools.{reads_again}
 use Rattle.wasm_spelling.proofs.Took.{SpelledAt, Took, took_as, took_then}
 use Rattle.wasm_spelling.proofs.Runs.{Follows, follows_row, follows_from}
 use Rattle.wasm_spelling.proofs.Readings.{Reads, ReadsAs, ReadsMany, then_done, onto, next, made, entry, in_order, in_order_as}

@@ -1,5 +1,11 @@
 -- Single fields: what is read spells them, what is spelled is read, and the machine goes along.
-use Rattle.wasm_spelling.proofs.Common.{◌≡◌, ℕ, ◌+◌, ◌≤◌, Bool, true, false, eqb, ltb, leb, List, [], ◌∷◌, ◌++◌, length, take, drop, ℤ, nat_le, Some, None, Ok, Err, Result, find, sym, refl, ap, ◌∙◌, subst, inl, inr, arith, length-append, take-append-drop, length-take-le, ltb-false, eq-eqb, eqb-true, drop-append_seam, take-append_seam, is_utf8, SpellsSigned, SpellsUnsigned, At, Counts, Fields, Spelled, Then, byte, here, number, provided, signed, text, most_name_bytes, any_name, block_type_code, export_code, mutability_code, name, type_code, utf8, value_type, byte_at, byte_of, checked, malformed, rest_at, index, none_more, Cause, ReadFault, Limit, Malformed, Which}
+use Rattle.wasm_spelling.proofs.Common.{◌≡◌, ℕ, ◌+◌, ◌≤◌, Bool, true, false, eqb, ltb, leb, List, [], ◌∷◌, ◌++◌, length, take, drop, ℤ}
+use Rattle.wasm_spelling.proofs.Common.{nat_le, Some, None, Ok, Err, Result, find, sym, refl, ap, ◌∙◌, subst, inl, inr, arith}
+use Rattle.wasm_spelling.proofs.Common.{length-append, take-append-drop, length-take-le, ltb-false, eq-eqb, eqb-true, drop-append_seam}
+use Rattle.wasm_spelling.proofs.Common.{take-append_seam, is_utf8, SpellsSigned, SpellsUnsigned, At, Counts, Fields, Spelled, Then, byte}
+use Rattle.wasm_spelling.proofs.Common.{here, number, provided, signed, text, most_name_bytes, any_name, block_type_code, export_code}
+use Rattle.wasm_spelling.proofs.Common.{mutability_code, name, type_code, utf8, value_type, byte_at, byte_of, checked, malformed, rest_at}
+use Rattle.wasm_spelling.proofs.Common.{index, none_more, Cause, ReadFault, Limit, Malformed, Which}
 use Rattle.w2c_base.specs.declared.value.ValType.TheVariants.{I32, I64}
 use Rattle.leb_bytes.specs.declared.fault.LebFault.{LebFault}
 use Rattle.leb_bytes.specs.Computed.{s32_of, s64_of, u32_of}
@@ -7,8 +13,10 @@ use Rattle.leb_bytes.proofs.Numbers.{u32_of-spelled, u32_of-append, s32_of-spell
 use Rattle.wasm_tree.specs.declared.entries.ExportKind.TheVariants as kind
 use Rattle.wasm_spelling.specs.declared.fault.Cause.TheVariants as cause
 use Rattle.wasm_spelling.specs.declared.fault.Which.TheVariants as which
-use Rattle.wasm_spelling.specs.Steps.{moved, number_of, number_at, signed32_at, signed64_at, bytes_at, exactly, within, utf8_of, by_code, no_type, type_of, block_type_of, flag_of, kind_of, zero_of}
-use Rattle.wasm_spelling.specs.Reading.{place_at, exactly_at, type_at, block_type_at, mutability_at, flag_at, kind_at, zero_at, utf8_at, any_name_at, name_at, counted_bytes_at}
+use Rattle.wasm_spelling.specs.Steps.{moved, number_of, number_at, signed32_at, signed64_at, bytes_at, exactly, within, utf8_of, by_code}
+use Rattle.wasm_spelling.specs.Steps.{no_type, type_of, block_type_of, flag_of, kind_of, zero_of}
+use Rattle.wasm_spelling.specs.Reading.{place_at, exactly_at, type_at, block_type_at, mutability_at, flag_at, kind_at, zero_at, utf8_at}
+use Rattle.wasm_spelling.specs.Reading.{any_name_at, name_at, counted_bytes_at}
 use Rattle.wasm_spelling.specs.Table as table
 use Rattle.wasm_spelling.specs.Table.{row}
 use Rattle.wasm_spelling.proofs.Tools.{yes, bad, ok_is, not_ok, chosen, ok_or_is, found_passes, either_way, checked_ok, checked_again}

@@ -1,24 +1,26 @@
-mod Common
-pub mod Tools
-pub mod Took
-pub mod Runs
-pub mod Readings
-pub mod Leaves
+-- What crates above cite.
 pub mod Vectors
-pub mod Windows
-pub mod Types
-pub mod Forms
 pub mod CodeTaken
-pub mod CodeAgain
-pub mod CodeFollows
-pub mod Entries
-pub mod Counted
 pub mod Parts
 pub mod Sections
-pub mod SectionsAgain
 pub mod Whole
-pub mod Behind
-pub mod WithinCode
-pub mod WithinModule
 pub mod WithinPlaces
 pub mod ByteLists
+-- What the crate's own proofs cite.
+mod Common
+mod Tools
+mod Took
+mod Runs
+mod Readings
+mod Leaves
+mod Windows
+mod Types
+mod Forms
+mod CodeAgain
+mod CodeFollows
+mod Entries
+mod Counted
+mod SectionsAgain
+mod Behind
+mod WithinCode
+mod WithinModule

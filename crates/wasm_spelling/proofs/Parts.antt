@@ -1,13 +1,19 @@
 -- What the sections contain: each part of a module by itself.
-use Rattle.wasm_spelling.proofs.Common.{◌≡◌, ℕ, ◌<◌, ◌≤◌, Bool, true, false, eqb, List, [], length, Some, None, Ok, Option, sym, refl, ap, ◌∙◌, subst, append-nil, arith, eq-eqb, eqb-true, DataCount, Module, At, Counts, Fields, finished, number, provided, text, Part, code, content, data_count, each, elements, exports, functions, globals, imports, is_empty, memories, rank_of, segments, start, tables, types, Reader, agrees_with, done, reads, Field, content_of, of_functions, of_segments}
+use Rattle.wasm_spelling.proofs.Common.{◌≡◌, ℕ, ◌<◌, ◌≤◌, Bool, true, false, eqb, List, [], length, Some, None, Ok, Option, sym, refl, ap}
+use Rattle.wasm_spelling.proofs.Common.{◌∙◌, subst, append-nil, arith, eq-eqb, eqb-true, DataCount, Module, At, Counts, Fields, finished}
+use Rattle.wasm_spelling.proofs.Common.{number, provided, text, Part, code, content, data_count, each, elements, exports, functions}
+use Rattle.wasm_spelling.proofs.Common.{globals, imports, is_empty, memories, rank_of, segments, start, tables, types, Reader, agrees_with}
+use Rattle.wasm_spelling.proofs.Common.{done, reads, Field, content_of, of_functions, of_segments}
 use Rattle.wasm_tree.specs.declared.entries.Start.{Start}
 use Rattle.wasm_spelling.specs.ModuleFields as of
-use Rattle.wasm_spelling.specs.Reading.{vector_at, func_entry_at, start_at, data_count_entry_at, segment_entry_at, bodies_at, content_at, no_module}
+use Rattle.wasm_spelling.specs.Reading.{vector_at, func_entry_at, start_at, data_count_entry_at, segment_entry_at, bodies_at, content_at}
+use Rattle.wasm_spelling.specs.Reading.{no_module}
 use Rattle.wasm_spelling.proofs.Tools.{ok_is, reads_ok, reads_again}
 use Rattle.wasm_spelling.proofs.Took.{SpelledAt, Taken, taken_then}
 use Rattle.wasm_spelling.proofs.Runs.{Follows}
 use Rattle.wasm_spelling.proofs.Readings.{CountingReads, Reads, then_done, onto}
-use Rattle.wasm_spelling.proofs.Entries.{types_reads, imports_reads, tables_reads, memories_reads, globals_reads, exports_reads, start_reads, elements_reads}
+use Rattle.wasm_spelling.proofs.Entries.{types_reads, imports_reads, tables_reads, memories_reads, globals_reads, exports_reads}
+use Rattle.wasm_spelling.proofs.Entries.{start_reads, elements_reads}
 use Rattle.wasm_spelling.proofs.Counted.{functions_reads, bodies_reads, bodies_keep, count_in, Agrees, data_count_reads, segments_reads}
 
 -- ---- what stays

@@ -1,5 +1,7 @@
 -- The three laws of a reading, and one way for each way of putting readings together.
-use Rattle.wasm_spelling.proofs.Common.{◌≡◌, ℕ, Bool, true, cond, List, [], ◌∷◌, ◌++◌, length, Ok, Err, Result, sym, refl, ap, ◌∙◌, subst, At, Counts, Fields, Spelled, provided, Reader, done, reads, ◌>>=◌, Field, none_more, on, row, state, ReadFault}
+use Rattle.wasm_spelling.proofs.Common.{◌≡◌, ℕ, Bool, true, cond, List, [], ◌∷◌, ◌++◌, length, Ok, Err, Result, sym, refl, ap, ◌∙◌, subst}
+use Rattle.wasm_spelling.proofs.Common.{At, Counts, Fields, Spelled, provided, Reader, done, reads, ◌>>=◌, Field, none_more, on, row, state}
+use Rattle.wasm_spelling.proofs.Common.{ReadFault}
 use Rattle.wasm_spelling.proofs.Tools.{yes, bad, bind_ok, ok_is, not_ok, either_way, reads_ok, reads_again}
 use Rattle.wasm_spelling.proofs.Took.{SpelledAt, Leads, leads_then, Took, took_none, CountingSpelling, Spelling}
 use Rattle.wasm_spelling.proofs.Runs.{Runs, lands, Follows, follows_row, follows_from, then_reads, runs_now}

@@ -1,5 +1,6 @@
 -- Steps of the machine, one after the other.
-use Rattle.wasm_spelling.proofs.Common.{◌≡◌, ℕ, zero, suc, List, [], ◌∷◌, ◌++◌, Ok, Err, Result, sym, refl, ap, ◌∙◌, subst, append_assoc, At, Reader, ◌>>=◌, Field, State, none_more, on, row, state, step, ReadFault}
+use Rattle.wasm_spelling.proofs.Common.{◌≡◌, ℕ, zero, suc, List, [], ◌∷◌, ◌++◌, Ok, Err, Result, sym, refl, ap, ◌∙◌, subst, append_assoc}
+use Rattle.wasm_spelling.proofs.Common.{At, Reader, ◌>>=◌, Field, State, none_more, on, row, state, step, ReadFault}
 use Rattle.wasm_spelling.specs.Steps.{reads}
 use Rattle.wasm_spelling.specs.Table.{after}
 use Rattle.wasm_spelling.proofs.Tools.{bind_ok, bind_bind, ok_is}
@@ -17,25 +18,22 @@ pub runs_now : (s : State) → Runs s (Ok s)
 unfolding after
 runs_now s = (0, refl)
 
-step_is : (s : State) (x r : Result State ReadFault) → step s ≡ x → From x r → Runs s r
-unfolding after
-step_is s (Ok t) r e (n, h) = (suc n, ap (λ y. y >>= after n) e ∙ h)
-step_is s (Err f) r e h = (1, ap (λ y. y >>= after 0) e ∙ sym h)
-
 pub one_step : (s : State) (x r : Result State ReadFault) → step s ≡ x → From x r → Runs s r
-one_step s x r e h = step_is s x r e h
+unfolding after
+one_step s (Ok t) r e (n, h) = (suc n, ap (λ y. y >>= after n) e ∙ h)
+one_step s (Err f) r e h = (1, ap (λ y. y >>= after 0) e ∙ sym h)
 
 -- where one step leads
 pub in_one : (s : State) (r : Result State ReadFault) → step s ≡ r → Runs s r
-in_one s (Ok t) e = step_is s (Ok t) (Ok t) e (runs_now t)
-in_one s (Err f) e = step_is s (Err f) (Err f) e refl
+in_one s (Ok t) e = one_step s (Ok t) (Ok t) e (runs_now t)
+in_one s (Err f) e = one_step s (Err f) (Err f) e refl
 
 runs_on : (n : ℕ) (s t : State) (r : Result State ReadFault) → after n s ≡ Ok t → Runs t r → Runs s r
 unfolding after
 runs_on zero s t r e h = subst (λ x. Runs x r) (sym (ok_is s t e)) h
 runs_on (suc n) s t r e h =
     let m = bind_ok (step s) (after n) t e in
-    step_is s (Ok m.0) r m.1 (runs_on n m.0 t r m.2 h)
+    one_step s (Ok m.0) r m.1 (runs_on n m.0 t r m.2 h)
 
 pub runs_then : (s t : State) (r : Result State ReadFault) → Runs s (Ok t) → Runs t r → Runs s r
 runs_then s t r (n, e) h = runs_on n s t r e h

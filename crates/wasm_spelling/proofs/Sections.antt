@@ -1,26 +1,32 @@
 -- Sections: custom ones anywhere, the others in rising order of their ranks.
-use Rattle.wasm_spelling.proofs.Common.{◌≡◌, ℕ, zero, suc, ◌+◌, ◌-◌, ◌<◌, ◌≤◌, Bool, true, false, cond, not, ◌&&◌, ◌||◌, eqb, ltb, List, [], ◌∷◌, ◌++◌, length, Some, None, Ok, Option, Result, sym, refl, ap, ◌∙◌, subst, inl, inr, append_assoc, append-nil, arith, ltb-true, eqb-true, and_parts, cases_lt, DataCount, Module, At, Counts, Custom, Fields, Spelled, byte, finished, text, window, Part, content, custom, data_count, each, functions, id_of, is_empty, rank_of, section, sections, segments, start, types, Reader, SectionId, a_custom, a_part, agrees_with, bodies_done, data_done, malformed, no_section, part_of, reads, rest_at, section_begins, section_id_at, section_id_of, ◌>>=◌, Field, content_of, none_more, size, state, used_up, ReadFault}
+use Rattle.wasm_spelling.proofs.Common.{◌≡◌, ℕ, zero, suc, ◌+◌, ◌-◌, ◌<◌, ◌≤◌, Bool, true, false, cond, not, ◌&&◌, ◌||◌, eqb, ltb, List, []}
+use Rattle.wasm_spelling.proofs.Common.{◌∷◌, ◌++◌, length, Some, None, Ok, Option, Result, sym, refl, ap, ◌∙◌, subst, inl, inr}
+use Rattle.wasm_spelling.proofs.Common.{append_assoc, append-nil, arith, ltb-true, eqb-true, and_parts, cases_lt, DataCount, Module, At}
+use Rattle.wasm_spelling.proofs.Common.{Counts, Custom, Fields, Spelled, byte, finished, text, window, Part, content, custom, data_count}
+use Rattle.wasm_spelling.proofs.Common.{each, functions, id_of, is_empty, rank_of, section, sections, segments, start, types, Reader}
+use Rattle.wasm_spelling.proofs.Common.{SectionId, a_custom, a_part, agrees_with, bodies_done, data_done, malformed, no_section, part_of}
+use Rattle.wasm_spelling.proofs.Common.{reads, rest_at, section_begins, section_id_at, section_id_of, ◌>>=◌, Field, content_of, none_more}
+use Rattle.wasm_spelling.proofs.Common.{size, state, used_up, ReadFault}
 use Rattle.wasm_spelling.specs.declared.fault.Cause.TheVariants as cause
 use Rattle.wasm_spelling.specs.ModuleFields as of
 use Rattle.wasm_spelling.specs.Table as table
 use Rattle.wasm_spelling.specs.Table.{section_fields, row}
-use Rattle.wasm_spelling.specs.Reading.{any_name_at, content_at, custom_content_at, part_at, custom_at, after_id, sections_at, all_sections_at}
+use Rattle.wasm_spelling.specs.Reading.{any_name_at, content_at, custom_content_at, part_at, custom_at, after_id, sections_at}
+use Rattle.wasm_spelling.specs.Reading.{all_sections_at}
 use Rattle.wasm_spelling.proofs.Tools.{yes, ok_is, not_ok, reads_ok, either_way, some_is, found_passes}
 use Rattle.wasm_spelling.proofs.Took.{SpelledAt, Taken, taken_then, Took, took_then}
 use Rattle.wasm_spelling.proofs.Runs.{Runs, lands, Follows, follows_row, follows_both, follows_none, then_reads, runs_now}
 use Rattle.wasm_spelling.proofs.Leaves.{any_name_reads, rest_follows}
 use Rattle.wasm_spelling.proofs.Windows.{inner, window_inside, window_taken, window_follows}
 use Rattle.wasm_spelling.proofs.Counted.{Agrees}
-use Rattle.wasm_spelling.proofs.Parts.{Same, content_with, content_is, same_content, same_empty, rank_above, tallies, Counted, AddsUp, Progress, Ready, ready, part_takes, part_moves, part_follows}
+use Rattle.wasm_spelling.proofs.Parts.{Same, content_with, content_is, same_content, same_empty, rank_above, tallies, Counted, AddsUp}
+use Rattle.wasm_spelling.proofs.Parts.{Progress, Ready, ready, part_takes, part_moves, part_follows}
 
 -- ---- ids
 
 pub part_has_id : (p : Part) → part_of (id_of p) ≡ Some p
 part_has_id types = refl
 part_has_id p = refl
-
-ids_differ : (p q : Part) → id_of p ≡ id_of q → p ≡ q
-ids_differ p q e = some_is p q (sym (part_has_id p) ∙ ap part_of e ∙ part_has_id q)
 
 -- the id of a rank
 abbrev id_at : ℕ → ℕ
@@ -31,7 +37,7 @@ part_has_rank types = refl
 part_has_rank p = refl
 
 pub ranks_differ : (p q : Part) → rank_of p ≡ rank_of q → p ≡ q
-ranks_differ p q e = ids_differ p q (sym (part_has_rank p) ∙ ap id_at e ∙ part_has_rank q)
+ranks_differ p q e = some_is p q (sym (part_has_id p) ∙ ap part_of (sym (part_has_rank p) ∙ ap id_at e ∙ part_has_rank q) ∙ part_has_id q)
 
 -- the part of an id
 id_is : (id : ℕ) (p : Part) → part_of id ≡ Some p → id ≡ id_of p

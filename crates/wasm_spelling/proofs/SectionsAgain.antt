@@ -1,12 +1,20 @@
 -- Sections that are spelled are read again.
-use Rattle.wasm_spelling.proofs.Common.{◌≡◌, ℕ, zero, suc, ◌+◌, ◌<◌, Bool, true, false, not, ◌&&◌, ◌||◌, eqb, ltb, ◌⊎◌, List, [], ◌∷◌, ◌++◌, length, is_none, Some, None, Ok, Option, Result, sym, refl, ap, ◌∙◌, subst, inl, inr, append-nil, arith, lt-ltb, eq-eqb, eqb-true, and_from, cases_lt, or_right, AllByRecursion, DataCount, Module, At, Counts, Custom, Fields, Spelled, byte, finished, text, window, Part, code, content, custom, data_count, each, elements, exports, functions, globals, id_of, imports, is_empty, memories, parts, rank_of, section, sections, segments, start, tables, types, SectionId, a_custom, a_part, agrees_with, bodies_done, byte_at, byte_of, data_done, no_section, part_of, rest_at, section_begins, section_id_at, section_id_of, ReadFault}
+use Rattle.wasm_spelling.proofs.Common.{◌≡◌, ℕ, zero, suc, ◌+◌, ◌<◌, Bool, true, false, not, ◌&&◌, ◌||◌, eqb, ltb, ◌⊎◌, List, [], ◌∷◌, ◌++◌}
+use Rattle.wasm_spelling.proofs.Common.{length, is_none, Some, None, Ok, Option, Result, sym, refl, ap, ◌∙◌, subst, inl, inr, append-nil}
+use Rattle.wasm_spelling.proofs.Common.{arith, lt-ltb, eq-eqb, eqb-true, and_from, cases_lt, or_right, AllByRecursion, DataCount, Module}
+use Rattle.wasm_spelling.proofs.Common.{At, Counts, Custom, Fields, Spelled, byte, finished, text, window, Part, code, content, custom}
+use Rattle.wasm_spelling.proofs.Common.{data_count, each, elements, exports, functions, globals, id_of, imports, is_empty, memories, parts}
+use Rattle.wasm_spelling.proofs.Common.{rank_of, section, sections, segments, start, tables, types, SectionId, a_custom, a_part}
+use Rattle.wasm_spelling.proofs.Common.{agrees_with, bodies_done, byte_at, byte_of, data_done, no_section, part_of, rest_at, section_begins}
+use Rattle.wasm_spelling.proofs.Common.{section_id_at, section_id_of, ReadFault, nil_from_length}
+use Rattle.w2c_base.proofs.Options.{no_option}
 use Rattle.wasm_spelling.specs.declared.fault.Cause.TheVariants as cause
 use Rattle.wasm_spelling.specs.ModuleFields as of
 use Rattle.wasm_spelling.specs.Reading.{any_name_at, content_at, custom_content_at, part_at, custom_at, after_id, sections_at, no_module}
 use Rattle.wasm_spelling.proofs.Tools.{ok_is, not_ok, reads_again}
 use Rattle.wasm_spelling.proofs.Took.{SpelledAt}
 use Rattle.wasm_spelling.proofs.Leaves.{byte_again, any_name_reads}
-use Rattle.wasm_spelling.proofs.Windows.{nil_from_length, inner, behind, window_sealed, window_read}
+use Rattle.wasm_spelling.proofs.Windows.{inner, behind, window_sealed, window_read}
 use Rattle.wasm_spelling.proofs.Counted.{count_in, Agrees}
 use Rattle.wasm_spelling.proofs.Parts.{put, put_keeps, Same, same_empty, tallies, Counted, AddsUp, Progress, Ready, ready, part_again}
 use Rattle.wasm_spelling.proofs.Sections.{Rising, part_has_id, custom_taken, section_shorter, section_read}
@@ -34,10 +42,6 @@ put_clear segments t m s = λ i. record m { segments = (sym s i).segments }
 nil_from : {A : Type 0} (xs : List A) → eqb (length xs) 0 ≡ true → xs ≡ []
 nil_from xs e = nil_from_length xs (eqb-true (length xs) 0 e)
 
-none_from : {A : Type 0} (o : Option A) → is_none o ≡ true → o ≡ None
-none_from None e = refl
-none_from (Some s) e = absurd cc
-
 clear_empty : (p : Part) (m : Module) → is_empty p m ≡ true → clear p m ≡ m
 clear_empty types m e = λ i. record m { types = sym (nil_from m.types e) i }
 clear_empty imports m e = λ i. record m { imports = sym (nil_from m.imports e) i }
@@ -46,9 +50,9 @@ clear_empty tables m e = λ i. record m { tables = sym (nil_from m.tables e) i }
 clear_empty memories m e = λ i. record m { memories = sym (nil_from m.memories e) i }
 clear_empty globals m e = λ i. record m { globals = sym (nil_from m.globals e) i }
 clear_empty exports m e = λ i. record m { exports = sym (nil_from m.exports e) i }
-clear_empty start m e = λ i. record m { start = sym (none_from m.start e) i }
+clear_empty start m e = λ i. record m { start = sym (no_option m.start e) i }
 clear_empty elements m e = λ i. record m { elements = sym (nil_from m.elements e) i }
-clear_empty data_count m e = λ i. record m { data_count = sym (none_from m.data_count e) i }
+clear_empty data_count m e = λ i. record m { data_count = sym (no_option m.data_count e) i }
 clear_empty code m e = λ i. record m { bodies = sym (nil_from m.bodies e) i }
 clear_empty segments m e = λ i. record m { segments = sym (nil_from m.segments e) i }
 

@@ -1,5 +1,6 @@
 -- What is read of bytes spells it, whatever follows; and what is spelled is read again.
-use Rattle.wasm_spelling.proofs.Common.{◌≡◌, ℕ, ◌+◌, ◌≤◌, List, ◌++◌, length, Ok, refl, ap, ◌∙◌, subst, arith, length-append, At, Counts, Fields, Spelled, Then, Reader, reads}
+use Rattle.wasm_spelling.proofs.Common.{◌≡◌, ℕ, ◌+◌, ◌≤◌, List, ◌++◌, length, Ok, refl, ap, ◌∙◌, subst, arith, length-append, At, Counts}
+use Rattle.wasm_spelling.proofs.Common.{Fields, Spelled, Then, Reader, reads}
 use Rattle.wasm_spelling.proofs.Tools.{reads_ok}
 
 abbrev pub SpelledAt : Fields → At → Type 0

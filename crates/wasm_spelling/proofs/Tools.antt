@@ -1,5 +1,6 @@
 -- Steps of reading that did not fail.
-use Rattle.wasm_spelling.proofs.Common.{◌≡◌, ℕ, Bool, true, false, cond, ◌⊎◌, List, [], ◌∷◌, Some, None, Ok, Err, Option, Result, ok_or, find, refl, ap, ◌∙◌, subst, inl, inr, AllByRecursion, At, Reader, ◌>>=◌, ReadFault}
+use Rattle.wasm_spelling.proofs.Common.{◌≡◌, ℕ, Bool, true, false, cond, ◌⊎◌, List, [], ◌∷◌, Some, None, Ok, Err, Option, Result, ok_or}
+use Rattle.wasm_spelling.proofs.Common.{find, refl, ap, ◌∙◌, subst, inl, inr, AllByRecursion, At, Reader, ◌>>=◌, ReadFault}
 use Rattle.wasm_spelling.specs.Steps.{reads, checked}
 
 pub bind_ok : {A B : Type 0} (r : Result A ReadFault) (f : A → Result B ReadFault) (y : B) → (r >>= f) ≡ Ok y

@@ -1,12 +1,16 @@
 -- Types and limits.
-use Rattle.wasm_spelling.proofs.Common.{◌≡◌, ℕ, Bool, true, false, List, [], ◌∷◌, length, Some, None, Ok, Option, Result, sym, refl, ap, subst, arith, ValType, Limits, At, Fields, Spelled, byte, here, number, most_memory_pages, most_parameters, most_results, most_table_elements, each, limits_from, mutability_code, results, Reader, reads, Field, index, none_more, ReadFault, Which}
+use Rattle.wasm_spelling.proofs.Common.{◌≡◌, ℕ, Bool, true, false, List, [], ◌∷◌, length, Some, None, Ok, Option, Result, sym, refl, ap}
+use Rattle.wasm_spelling.proofs.Common.{subst, arith, ValType, Limits, At, Fields, Spelled, byte, here, number, most_memory_pages}
+use Rattle.wasm_spelling.proofs.Common.{most_parameters, most_results, most_table_elements, each, limits_from, mutability_code, results}
+use Rattle.wasm_spelling.proofs.Common.{Reader, reads, Field, index, none_more, ReadFault, Which}
 use Rattle.w2c_base.specs.declared.signature.FuncType.{FuncType}
 use Rattle.wasm_spelling.specs.declared.fault.Cause.TheVariants as cause
 use Rattle.wasm_spelling.specs.declared.fault.Which.TheVariants as which
 use Rattle.wasm_spelling.specs.ModuleFields as of
 use Rattle.wasm_spelling.specs.Table as table
 use Rattle.wasm_spelling.specs.Table.{of_parameters, of_results, row, sizes_of, table_minimum, memory_minimum}
-use Rattle.wasm_spelling.specs.Reading.{type_at, flag_at, limited_at, vector_at, func_type_at, first_of_results, maximum_at, limits_at, memory_type_at, table_type_at}
+use Rattle.wasm_spelling.specs.Reading.{type_at, flag_at, limited_at, vector_at, func_type_at, first_of_results, maximum_at, limits_at}
+use Rattle.wasm_spelling.specs.Reading.{memory_type_at, table_type_at}
 use Rattle.wasm_spelling.proofs.Tools.{ok_is, reads_ok, reads_again}
 use Rattle.wasm_spelling.proofs.Took.{SpelledAt, Took, took_none, took_as, took_then, Takes, Again, first_taken, first_again}
 use Rattle.wasm_spelling.proofs.Runs.{Follows, FollowsTo, follows_row, follows_from, follows_both, follows_none}

@@ -1,5 +1,6 @@
 -- Vectors: a count, and so many entries.
-use Rattle.wasm_spelling.proofs.Common.{◌≡◌, ℕ, zero, suc, List, [], ◌∷◌, ◌++◌, length, Ok, Result, sym, refl, ap, ◌∙◌, subst, arith, At, Counts, Fields, each, Reader, ◌>>=◌, Field, parts_of, times, ReadFault}
+use Rattle.wasm_spelling.proofs.Common.{◌≡◌, ℕ, zero, suc, List, [], ◌∷◌, ◌++◌, length, Ok, Result, sym, refl, ap, ◌∙◌, subst, arith, At}
+use Rattle.wasm_spelling.proofs.Common.{Counts, Fields, each, Reader, ◌>>=◌, Field, parts_of, times, ReadFault}
 use Rattle.wasm_spelling.specs.Steps.{reads}
 use Rattle.wasm_spelling.specs.Table as table
 use Rattle.wasm_spelling.specs.Table.{Entry, count_at, row}

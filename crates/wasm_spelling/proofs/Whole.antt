@@ -1,5 +1,8 @@
 -- A file: it has one tree or one first fault, and reading gives it.
-use Rattle.wasm_spelling.proofs.Common.{◌≡◌, ℕ, zero, suc, ◌≤◌, true, eqb, ◌⊎◌, List, [], ◌∷◌, ◌++◌, length, Ok, Err, Result, sym, refl, ap, ◌∙◌, subst, inl, inr, arith, eq-eqb, eqb-true, Module, At, Counts, Fields, Spelled, byte, finished, provided, most_module_bytes, Part, Spells, is_empty, module_fields, parts, sections, reads, ◌>>=◌, Field, State, state, step, Cause, ReadFault}
+use Rattle.wasm_spelling.proofs.Common.{◌≡◌, ℕ, zero, suc, ◌≤◌, true, eqb, ◌⊎◌, List, [], ◌∷◌, ◌++◌, length, Ok, Err, Result, sym, refl, ap}
+use Rattle.wasm_spelling.proofs.Common.{◌∙◌, subst, inl, inr, arith, eq-eqb, eqb-true, Module, At, Counts, Fields, Spelled, byte, finished}
+use Rattle.wasm_spelling.proofs.Common.{provided, most_module_bytes, Part, Spells, is_empty, module_fields, parts, sections, reads, ◌>>=◌}
+use Rattle.wasm_spelling.proofs.Common.{Field, State, state, step, Cause, ReadFault}
 use Rattle.wasm_spelling.specs.declared.fault.Cause.TheVariants as cause
 use Rattle.wasm_spelling.specs.ModuleFields as of
 use Rattle.wasm_spelling.specs.Table as table

@@ -1,5 +1,9 @@
 -- Windows: a size, and fields that use up so many bytes.
-use Rattle.wasm_spelling.proofs.Common.{◌≡◌, ℕ, ◌+◌, ◌≤◌, Bool, true, false, cond, eqb, ltb, List, [], ◌∷◌, ◌++◌, length, take, drop, Ok, Err, Result, sym, refl, ap, ◌∙◌, subst, inl, inr, append_assoc, arith, length-append, length-drop, take-append-drop, length-take-le, ltb-false, eqb-true, drop-append_seam, take-append_seam, SpellsUnsigned, At, Counts, Fields, Sized, Spelled, Then, finished, window, Reader, malformed, number_at, ◌>>=◌, Field, none_more, size, state, used_up, Cause, ReadFault}
+use Rattle.wasm_spelling.proofs.Common.{◌≡◌, ℕ, ◌+◌, ◌≤◌, Bool, true, false, cond, eqb, ltb, List, [], ◌∷◌, ◌++◌, length, take, drop, Ok}
+use Rattle.wasm_spelling.proofs.Common.{Err, Result, sym, refl, ap, ◌∙◌, subst, inl, inr, append_assoc, arith, length-append, length-drop}
+use Rattle.wasm_spelling.proofs.Common.{take-append-drop, length-take-le, ltb-false, eqb-true, drop-append_seam, take-append_seam}
+use Rattle.wasm_spelling.proofs.Common.{SpellsUnsigned, At, Counts, Fields, Sized, Spelled, Then, finished, window, Reader, malformed}
+use Rattle.wasm_spelling.proofs.Common.{number_at, ◌>>=◌, Field, none_more, size, state, used_up, Cause, ReadFault, nil_from_length}
 use Rattle.wasm_spelling.specs.declared.fault.Cause.TheVariants as cause
 use Rattle.wasm_spelling.specs.Table.{row, opens}
 use Rattle.wasm_spelling.specs.Reading.{ended, inside_at, window_at}
@@ -15,10 +19,6 @@ inner n k = record k { left = take n k.left }
 
 abbrev pub behind : ℕ → At → At → At
 behind n k e = record e { place = k.place + n; left = drop n k.left }
-
-pub nil_from_length : {A : Type 0} (xs : List A) → length xs ≡ 0 → xs ≡ []
-nil_from_length [] e = refl
-nil_from_length (x ∷ xs) e = absurd (omega (arith, e))
 
 -- what was read of a window
 pub record Inside {A : Type 0} (read : Reader A) (a : At) (v : A) (b : At) : Type 0 where

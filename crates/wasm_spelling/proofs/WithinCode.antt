@@ -1,5 +1,11 @@
 -- Code that is spelled keeps within the limits: its bytes, its depth and the numbers in it.
-use Rattle.wasm_spelling.proofs.Common.{◌≡◌, ℕ, suc, ◌+◌, ◌-◌, ◌^◌, ◌<◌, ◌≤◌, max, false, not, ◌||◌, List, [], ◌∷◌, length, nat_lt, refl, ap, arith, ltb-true, lt-ltb, or_from, AllByRecursion, opcode_of, Block, Br, BrIf, BrTable, Call, CallIndirect, Code, GlobalGet, GlobalSet, I32Const, I64Const, If, Kind, Load, LocalGet, LocalSet, LocalTee, Loop, MemoryCopy, MemoryFill, MemoryGrow, MemorySize, Store, else_code, end_code, no_else, then_code, Fields, byte, here, number, provided, block_type_code, code_fields, each, end_byte, immediates, instr_fields, block_depth, block_depth_of, has_wide, is_wide, least_bytes, least_bytes_of, some_in, some_inside}
+use Rattle.wasm_spelling.proofs.Common.{◌≡◌, ℕ, suc, ◌+◌, ◌-◌, ◌^◌, ◌<◌, ◌≤◌, max, false, not, ◌||◌, List, [], ◌∷◌, length, nat_lt, refl}
+use Rattle.wasm_spelling.proofs.Common.{ap, arith, ltb-true, lt-ltb, or_from, AllByRecursion, opcode_of, Block, Br, BrIf, BrTable, Call}
+use Rattle.wasm_spelling.proofs.Common.{CallIndirect, Code, GlobalGet, GlobalSet, I32Const, I64Const, If, Kind, Load, LocalGet, LocalSet}
+use Rattle.wasm_spelling.proofs.Common.{LocalTee, Loop, MemoryCopy, MemoryFill, MemoryGrow, MemorySize, Store, else_code, end_code, no_else}
+use Rattle.wasm_spelling.proofs.Common.{then_code, Fields, byte, here, number, provided, block_type_code, code_fields, each, end_byte}
+use Rattle.wasm_spelling.proofs.Common.{immediates, instr_fields, block_depth, block_depth_of, has_wide, is_wide, least_bytes}
+use Rattle.wasm_spelling.proofs.Common.{least_bytes_of, some_in, some_inside}
 use Rattle.wasm_spelling.proofs.Behind.{Behind, behind_fewer, past_byte, past_number, past_signed, past_here, past_provided}
 
 -- ---- vectors

@@ -1,10 +1,22 @@
 -- A module that is spelled keeps within the limits, part by part.
-use Rattle.wasm_spelling.proofs.Common.{◌≡◌, ℕ, suc, ◌+◌, ◌≤◌, true, eqb, ◌⊎◌, List, [], ◌∷◌, length, replicate, nat_le, Some, None, Option, sym, refl, ap, ◌∙◌, inl, inr, arith, length-append, eqb-true, leb-true, length-replicate, AllByRecursion, is_utf8, declared_locals, Code, BodyEntry, ElementEntry, Export, Import, ImportKind, Limits, LimitsEntry, Run, TypeEntry, Module, AreBytes, Fields, byte, finished, here, number, provided, text, window, most_all_locals, most_blocks, most_functions, most_locals, most_memory_pages, most_module_bytes, most_name_bytes, most_parameters, most_results, most_table_elements, Part, Spells, any_name, bodies, code_fields, content, custom, customs, each, element_entry, end_byte, export_code, export_entry, expression, func_entry, func_ref, func_type, global_entry, id_of, import_entry, import_kind, is_empty, limits, limits_from, locals_of, memory_entry, module_fields, mutability_code, name, parts, results, runs, section, sections, segment_entry, short_vector, table_entry, type_code, type_entry, utf8, value_type, vector, BodyIsWithin, IsMaximum, IsName, least_bytes}
+use Rattle.wasm_spelling.proofs.Common.{◌≡◌, ℕ, suc, ◌+◌, ◌≤◌, true, eqb, ◌⊎◌, List, [], ◌∷◌, length, replicate, nat_le, Some, None, Option}
+use Rattle.wasm_spelling.proofs.Common.{sym, refl, ap, ◌∙◌, inl, inr, arith, length-append, eqb-true, leb-true, length-replicate}
+use Rattle.wasm_spelling.proofs.Common.{AllByRecursion, is_utf8, declared_locals, Code, BodyEntry, ElementEntry, Export, Import, ImportKind}
+use Rattle.wasm_spelling.proofs.Common.{Limits, LimitsEntry, Run, TypeEntry, Module, AreBytes, Fields, byte, finished, here, number}
+use Rattle.wasm_spelling.proofs.Common.{provided, text, window, most_all_locals, most_blocks, most_functions, most_locals}
+use Rattle.wasm_spelling.proofs.Common.{most_memory_pages, most_module_bytes, most_name_bytes, most_parameters, most_results}
+use Rattle.wasm_spelling.proofs.Common.{most_table_elements, Part, Spells, any_name, bodies, code_fields, content, custom, customs, each}
+use Rattle.wasm_spelling.proofs.Common.{element_entry, end_byte, export_code, export_entry, expression, func_entry, func_ref, func_type}
+use Rattle.wasm_spelling.proofs.Common.{global_entry, id_of, import_entry, import_kind, is_empty, limits, limits_from, locals_of}
+use Rattle.wasm_spelling.proofs.Common.{memory_entry, module_fields, mutability_code, name, parts, results, runs, section, sections}
+use Rattle.wasm_spelling.proofs.Common.{segment_entry, short_vector, table_entry, type_code, type_entry, utf8, value_type, vector}
+use Rattle.wasm_spelling.proofs.Common.{BodyIsWithin, IsMaximum, IsName, least_bytes}
 use Rattle.std.specs.Prelude.{⊤}
 use Rattle.wasm_tree.specs.declared.entries.ImportKind.TheVariants as imported
 use Rattle.wasm_tree.specs.declared.entries.SegmentEntry.{SegmentEntry}
 use Rattle.wasm_spelling.specs.ModuleFields as of
-use Rattle.wasm_spelling.proofs.Behind.{Behind, behind_fewer, past_byte, past_number, past_text, past_here, past_provided, past_window, past_either, past_some, within_file}
+use Rattle.wasm_spelling.proofs.Behind.{Behind, behind_fewer, past_byte, past_number, past_text, past_here, past_provided, past_window}
+use Rattle.wasm_spelling.proofs.Behind.{past_either, past_some, within_file}
 use Rattle.wasm_spelling.proofs.WithinCode.{Tells, each_within, code_within}
 
 -- ---- vectors and names

@@ -1,9 +1,17 @@
 -- The limits say nothing of places, so a module keeps within them wherever a module that differs in places alone does.
-use Rattle.wasm_spelling.proofs.Common.{◌≡◌, ℕ, suc, ◌+◌, ◌≤◌, max, false, ◌||◌, List, [], ◌∷◌, map, length, flat_map, sym, refl, ap, ◌∙◌, subst, arith, length-map, AllByRecursion, all_append, all_flat, all_map, memory_of_import, memory_space, table_of_import, table_space, Block, Code, If, Kind, Loop, else_code, end_code, no_else, then_code, ElementEntry, Export, Import, ImportKind, Limits, LimitsEntry, TypeEntry, Module, most_functions, most_memory_pages, most_module_bytes, most_parameters, most_table_elements, BodyIsWithin, IsMaximum, IsName, WithinLimits, block_depth, block_depth_of, has_wide, least_bytes, least_bytes_of, some_in, some_inside}
+use Rattle.wasm_spelling.proofs.Common.{◌≡◌, ℕ, suc, ◌+◌, ◌≤◌, max, false, ◌||◌, List, [], ◌∷◌, map, length, flat_map, sym, refl, ap, ◌∙◌}
+use Rattle.wasm_spelling.proofs.Common.{subst, arith, length-map, AllByRecursion, all_append, all_flat, all_map, memory_of_import}
+use Rattle.wasm_spelling.proofs.Common.{memory_space, table_of_import, table_space, Block, Code, If, Kind, Loop, else_code, end_code}
+use Rattle.wasm_spelling.proofs.Common.{no_else, then_code, ElementEntry, Export, Import, ImportKind, Limits, LimitsEntry, TypeEntry}
+use Rattle.wasm_spelling.proofs.Common.{Module, most_functions, most_memory_pages, most_module_bytes, most_parameters, most_table_elements}
+use Rattle.wasm_spelling.proofs.Common.{BodyIsWithin, IsMaximum, IsName, WithinLimits, block_depth, block_depth_of, has_wide, least_bytes}
+use Rattle.wasm_spelling.proofs.Common.{least_bytes_of, some_in, some_inside, of_each}
 use Rattle.wasm_tree.specs.declared.entries.ImportKind.TheVariants as imported
-use Rattle.wasm_spelling.specs.Places.{bare_code, bare_kind, bare_type, bare_import_kind, bare_import, bare_func, bare_limits_entry, bare_global, bare_export, bare_func_ref, bare_element, bare_segment, bare_body, bare_module, IsFormed}
-use Rattle.wasm_spelling.proofs.Behind.{all_more}
-use Rattle.wasm_spelling.proofs.WithinModule.{AreWithin, KindIsWithin, ImportIsWithin, SegmentIsWithin, LimitsAreWithin, PartsAreWithin, spelled_within}
+use Rattle.wasm_spelling.specs.Places.{bare_code, bare_kind, bare_type, bare_import_kind, bare_import, bare_func, bare_limits_entry}
+use Rattle.wasm_spelling.specs.Places.{bare_global, bare_export, bare_func_ref, bare_element, bare_segment, bare_body, bare_module}
+use Rattle.wasm_spelling.specs.Places.{IsFormed}
+use Rattle.wasm_spelling.proofs.WithinModule.{AreWithin, KindIsWithin, ImportIsWithin, SegmentIsWithin, LimitsAreWithin, PartsAreWithin}
+use Rattle.wasm_spelling.proofs.WithinModule.{spelled_within}
 
 -- ---- code
 
@@ -81,16 +89,14 @@ segments_aside = record {
 }
 
 kind_off : (k : ImportKind) → KindIsWithin k → KindIsWithin (bare_import_kind k)
-kind_off (imported.Func type_index) h = tt
 kind_off (imported.Table l) h = h
 kind_off (imported.Memory l) h = h
-kind_off (imported.Global ty mutable) h = tt
+kind_off _ h = tt
 
 kind_on : (k : ImportKind) → KindIsWithin (bare_import_kind k) → KindIsWithin k
-kind_on (imported.Func type_index) h = tt
 kind_on (imported.Table l) h = h
 kind_on (imported.Memory l) h = h
-kind_on (imported.Global ty mutable) h = tt
+kind_on _ h = tt
 
 imports_aside : Aside bare_import ImportIsWithin
 imports_aside = record {
@@ -145,17 +151,13 @@ of_kind i k = record i { kind = k }
 
 table_imported : (i : Import) (k : ImportKind) → KindIsWithin k
     → AllByRecursion (LimitsAreWithin most_table_elements) (table_of_import (of_kind i k))
-table_imported i (imported.Func type_index) h = tt
 table_imported i (imported.Table l) h = (h, tt)
-table_imported i (imported.Memory l) h = tt
-table_imported i (imported.Global ty mutable) h = tt
+table_imported i _ h = tt
 
 memory_imported : (i : Import) (k : ImportKind) → KindIsWithin k
     → AllByRecursion (LimitsAreWithin most_memory_pages) (memory_of_import (of_kind i k))
-memory_imported i (imported.Func type_index) h = tt
-memory_imported i (imported.Table l) h = tt
 memory_imported i (imported.Memory l) h = (h, tt)
-memory_imported i (imported.Global ty mutable) h = tt
+memory_imported i _ h = tt
 
 tables_within : (m : Module) → AllByRecursion ImportIsWithin m.imports
     → AllByRecursion (λ (e : LimitsEntry). LimitsAreWithin most_table_elements e.limits) m.tables
@@ -163,7 +165,7 @@ tables_within : (m : Module) → AllByRecursion ImportIsWithin m.imports
 tables_within m imports tables =
     all_append (LimitsAreWithin most_table_elements) (flat_map table_of_import m.imports) (map (λ t. t.limits) m.tables)
     (all_flat (LimitsAreWithin most_table_elements) table_of_import m.imports
-    (all_more ImportIsWithin (λ i. AllByRecursion (LimitsAreWithin most_table_elements) (table_of_import i))
+    (of_each ImportIsWithin (λ i. AllByRecursion (LimitsAreWithin most_table_elements) (table_of_import i))
     (λ i h. table_imported i i.kind h.kind) m.imports imports))
     (all_map (LimitsAreWithin most_table_elements) (λ (t : LimitsEntry). t.limits) m.tables tables)
 
@@ -173,7 +175,7 @@ memories_within : (m : Module) → AllByRecursion ImportIsWithin m.imports
 memories_within m imports memories =
     all_append (LimitsAreWithin most_memory_pages) (flat_map memory_of_import m.imports) (map (λ t. t.limits) m.memories)
     (all_flat (LimitsAreWithin most_memory_pages) memory_of_import m.imports
-    (all_more ImportIsWithin (λ i. AllByRecursion (LimitsAreWithin most_memory_pages) (memory_of_import i))
+    (of_each ImportIsWithin (λ i. AllByRecursion (LimitsAreWithin most_memory_pages) (memory_of_import i))
     (λ i h. memory_imported i i.kind h.kind) m.imports imports))
     (all_map (LimitsAreWithin most_memory_pages) (λ (t : LimitsEntry). t.limits) m.memories memories)
 
@@ -214,16 +216,16 @@ parts_within m h =
       segments = h.segments.0;
       bodies_are_there = h.as_many;
       params = h.types.1;
-      tables = all_more (LimitsAreWithin most_table_elements) (λ l. l.min ≤ most_table_elements) (λ l k. k.0) (table_space m) tables;
-      memories = all_more (LimitsAreWithin most_memory_pages) (λ l. l.min ≤ most_memory_pages) (λ l k. k.0) (memory_space m) memories;
+      tables = of_each (LimitsAreWithin most_table_elements) (λ l. l.min ≤ most_table_elements) (λ l k. k.0) (table_space m) tables;
+      memories = of_each (LimitsAreWithin most_memory_pages) (λ l. l.min ≤ most_memory_pages) (λ l k. k.0) (memory_space m) memories;
       maxima = all_append (λ (l : Limits). IsMaximum l.max) (table_space m) (memory_space m)
-          (all_more (LimitsAreWithin most_table_elements) (λ l. IsMaximum l.max) (λ l k. k.1) (table_space m) tables)
-          (all_more (LimitsAreWithin most_memory_pages) (λ l. IsMaximum l.max) (λ l k. k.1) (memory_space m) memories);
-      import_names = all_more ImportIsWithin (λ i. IsName i.«module» × IsName i.field) (λ i k. k.names) m.imports h.imports.1;
+          (of_each (LimitsAreWithin most_table_elements) (λ l. IsMaximum l.max) (λ l k. k.1) (table_space m) tables)
+          (of_each (LimitsAreWithin most_memory_pages) (λ l. IsMaximum l.max) (λ l k. k.1) (memory_space m) memories);
+      import_names = of_each ImportIsWithin (λ i. IsName i.«module» × IsName i.field) (λ i k. k.names) m.imports h.imports.1;
       export_names = h.exports.1;
       elements = h.elements;
-      are_bytes = all_more SegmentIsWithin _ (λ s k. k.are_bytes) m.segments h.segments.1;
-      bytes = all_more SegmentIsWithin _ (λ s k. k.long) m.segments h.segments.1;
+      are_bytes = of_each SegmentIsWithin _ (λ s k. k.are_bytes) m.segments h.segments.1;
+      bytes = of_each SegmentIsWithin _ (λ s k. k.long) m.segments h.segments.1;
       bodies = h.code;
     }
 

@@ -1,12 +1,9 @@
 pub mod At
-pub mod Bytes
 pub mod FaultTexts
 pub mod Fields
-pub mod Limits
 pub mod ModuleFields
 pub mod Places
 pub mod Reading
 pub mod Samples
 pub mod Steps
 pub mod Table
-pub mod Within

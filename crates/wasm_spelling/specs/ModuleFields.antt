@@ -1,6 +1,7 @@
 -- The fields of a module in binary order (WebAssembly Core 1.0, 5.3 to 5.5; Core 2.0, 5.5.15, for the number of data segments), and
 -- which bytes spell it. The limits stand as conditions at the fields of which they speak.
-use Rattle.std.specs.Prelude.{ℕ, ◌+◌, ◌-◌, List, [], ◌∷◌, length, Bool, true, false, Option, Some, None, option_to_list, is_none, nat_le, nat_lt, ◌==◌, ◌≤◌}
+use Rattle.std.specs.Prelude.{ℕ, ◌+◌, ◌-◌, List, [], ◌∷◌, length, Bool, true, false, Option, Some, None, option_to_list, is_none, nat_le}
+use Rattle.std.specs.Prelude.{nat_lt, ◌==◌, ◌≤◌}
 use Rattle.std.specs.Str.{is_utf8}
 use Rattle.w2c_base.specs.declared.value.ValType.{ValType}
 use Rattle.w2c_base.specs.declared.value.ValType.TheVariants.{I32, I64}
@@ -24,10 +25,14 @@ use Rattle.wasm_tree.specs.declared.entries.SegmentEntry.{SegmentEntry}
 use Rattle.wasm_tree.specs.declared.entries.Run.{Run}
 use Rattle.wasm_tree.specs.declared.entries.BodyEntry.{BodyEntry}
 use Rattle.wasm_tree.specs.declared.tree.Module.{Module}
-use Rattle.wasm_tree.specs.Instructions.{Code, end_code, then_code, Kind, no_else, else_code, Block, Loop, If, Br, BrIf, BrTable, Call, CallIndirect, LocalGet, LocalSet, LocalTee, GlobalGet, GlobalSet, Load, Store, MemorySize, MemoryGrow, MemoryCopy, MemoryFill, I32Const, I64Const}
+use Rattle.wasm_tree.specs.Instructions.{Code, end_code, then_code, Kind, no_else, else_code, Block, Loop, If, Br, BrIf, BrTable, Call}
+use Rattle.wasm_tree.specs.Instructions.{CallIndirect, LocalGet, LocalSet, LocalTee, GlobalGet, GlobalSet, Load, Store, MemorySize}
+use Rattle.wasm_tree.specs.Instructions.{MemoryGrow, MemoryCopy, MemoryFill, I32Const, I64Const}
 use Rattle.wasm_tree.specs.InstructionTable.{opcode_of}
-use Rattle.wasm_spelling.specs.Limits.{most_parameters, most_results, most_name_bytes, most_functions, most_locals, most_all_locals, most_blocks, most_memory_pages, most_table_elements, most_module_bytes}
-use Rattle.wasm_spelling.specs.Fields.{Custom, Fields, finished, byte, number, signed, text, here, provided, window, either, for_some, Spelled}
+use Rattle.wasm_tree.specs.Limits.{most_parameters, most_results, most_name_bytes, most_functions, most_locals, most_all_locals}
+use Rattle.wasm_tree.specs.Limits.{most_blocks, most_memory_pages, most_table_elements, most_module_bytes}
+use Rattle.wasm_spelling.specs.Fields.{Custom, Fields, finished, byte, number, signed, text, here, provided, window, either, for_some}
+use Rattle.wasm_spelling.specs.Fields.{Spelled}
 
 -- one after another
 abbrev pub each : {A : Type 0} → (A → Fields → Fields) → List A → Fields → Fields

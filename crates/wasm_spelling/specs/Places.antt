@@ -17,7 +17,7 @@ use Rattle.wasm_tree.specs.declared.entries.SegmentEntry.{SegmentEntry}
 use Rattle.wasm_tree.specs.declared.entries.BodyEntry.{BodyEntry}
 use Rattle.wasm_tree.specs.declared.tree.Module.{Module}
 use Rattle.wasm_tree.specs.Instructions.{Code, end_code, then_code, Kind, Otherwise, no_else, else_code, Block, Loop, If}
-use Rattle.wasm_spelling.specs.Bytes.{AreBytes}
+use Rattle.wasm_tree.specs.Bytes.{AreBytes}
 use Rattle.wasm_spelling.specs.ModuleFields.{Spells}
 
 -- Each of these gives the same with every place 0.

@@ -1,6 +1,7 @@
 -- Reading from left to right: the value that stands at a place, or the first fault. No public contract names
 -- these functions; the reader's are proved by them.
-use Rattle.std.specs.Prelude.{ℕ, zero, suc, ◌+◌, List, [], ◌∷◌, length, take, drop, Bool, true, false, Option, Some, None, Result, Ok, Err, nat_lt, ◌==◌, if◌then◌else◌}
+use Rattle.std.specs.Prelude.{ℕ, zero, suc, ◌+◌, List, [], ◌∷◌, length, take, drop, Bool, true, false, Option, Some, None, Result, Ok, Err}
+use Rattle.std.specs.Prelude.{nat_lt, ◌==◌, if◌then◌else◌}
 use Rattle.w2c_base.specs.declared.value.ValType.{ValType}
 use Rattle.w2c_base.specs.declared.signature.FuncType.{FuncType}
 use Rattle.wasm_tree.specs.declared.code.MemArg.{MemArg}
@@ -25,6 +26,7 @@ use Rattle.wasm_tree.specs.declared.entries.BodyEntry.{BodyEntry}
 use Rattle.wasm_tree.specs.declared.tree.Module.{Module}
 use Rattle.wasm_tree.specs.Instructions.{Code, end_code, then_code, Kind, no_else, else_code, Block, Loop, If}
 use Rattle.wasm_tree.specs.InstructionTable.{Form, nothing, an_index, a_mem_arg, labels, a_type, a_zero, an_i32, an_i64, a_sub_opcode}
+use Rattle.wasm_tree.specs.Limits.{most_name_bytes, most_blocks, most_memory_pages, most_table_elements}
 use Rattle.wasm_spelling.specs.declared.fault.ReadFault.{ReadFault}
 use Rattle.wasm_spelling.specs.declared.fault.ReadFault.TheVariants.{Limit}
 use Rattle.wasm_spelling.specs.declared.fault.Cause.{Cause}
@@ -32,10 +34,14 @@ use Rattle.wasm_spelling.specs.declared.fault.Cause.TheVariants as cause
 use Rattle.wasm_spelling.specs.declared.fault.Which.{Which}
 use Rattle.wasm_spelling.specs.declared.fault.Which.TheVariants as which
 use Rattle.wasm_spelling.specs.At.{At}
-use Rattle.wasm_spelling.specs.Limits.{most_name_bytes, most_blocks, most_memory_pages, most_table_elements}
-use Rattle.wasm_spelling.specs.ModuleFields.{Part, types, imports, functions, tables, memories, globals, exports, start, elements, data_count, code, segments}
-use Rattle.wasm_spelling.specs.Steps.{◌>>=◌, malformed, Reader, done, reads, checked, byte_at, number_at, signed32_at, signed64_at, bytes_at, rest_at, exactly, within, utf8_of, type_of, block_type_of, flag_of, kind_of, zero_of, Head, the_end, the_else, a_block, a_loop, a_form, head_of, run_count_at, body_count_at, data_count_at, sub_opcode_of, SectionId, no_section, a_custom, a_part, section_id_at}
-use Rattle.wasm_spelling.specs.Table.{Entry, of_types, of_parameters, of_results, of_imports, of_functions, of_tables, of_memories, of_globals, of_exports, of_elements, of_segments, of_indexes, of_runs, count_at, at_first}
+use Rattle.wasm_spelling.specs.ModuleFields.{Part, types, imports, functions, tables, memories, globals, exports, start, elements}
+use Rattle.wasm_spelling.specs.ModuleFields.{data_count, code, segments}
+use Rattle.wasm_spelling.specs.Steps.{◌>>=◌, malformed, Reader, done, reads, checked, byte_at, number_at, signed32_at, signed64_at}
+use Rattle.wasm_spelling.specs.Steps.{bytes_at, rest_at, exactly, within, utf8_of, type_of, block_type_of, flag_of, kind_of, zero_of, Head}
+use Rattle.wasm_spelling.specs.Steps.{the_end, the_else, a_block, a_loop, a_form, head_of, run_count_at, body_count_at, data_count_at}
+use Rattle.wasm_spelling.specs.Steps.{sub_opcode_of, SectionId, no_section, a_custom, a_part, section_id_at}
+use Rattle.wasm_spelling.specs.Table.{Entry, of_types, of_parameters, of_results, of_imports, of_functions, of_tables, of_memories}
+use Rattle.wasm_spelling.specs.Table.{of_globals, of_exports, of_elements, of_segments, of_indexes, of_runs, count_at, at_first}
 
 abbrev pub place_at : Reader ℕ
 place_at a = Ok (a.place, a)

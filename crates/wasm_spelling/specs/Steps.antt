@@ -1,6 +1,7 @@
 -- Reading one field at a place of a window, with its first fault. A number's own fault comes before a fault of
 -- its value (WebAssembly Core 1.0, 5.2 to 5.4; Core 2.0, 5.4.6 and 5.5.15).
-use Rattle.std.specs.Prelude.{ℕ, zero, suc, ℤ, ◌+◌, List, [], ◌∷◌, length, take, drop, find, Bool, true, false, ◌||◌, ◌&&◌, not, Option, Some, None, ok_or, Result, Ok, Err, nat_lt, nat_le, ◌==◌, if◌then◌else◌}
+use Rattle.std.specs.Prelude.{ℕ, zero, suc, ℤ, ◌+◌, List, [], ◌∷◌, length, take, drop, find, Bool, true, false, ◌||◌, ◌&&◌, not, Option}
+use Rattle.std.specs.Prelude.{Some, None, ok_or, Result, Ok, Err, nat_lt, nat_le, ◌==◌, if◌then◌else◌}
 use Rattle.std.specs.Str.{is_utf8}
 use Rattle.leb_bytes.specs.declared.fault.LebFault.{LebFault}
 use Rattle.leb_bytes.specs.declared.fault.LebFault.TheVariants as leb
@@ -11,6 +12,7 @@ use Rattle.wasm_tree.specs.declared.entries.ExportKind.{ExportKind}
 use Rattle.wasm_tree.specs.declared.entries.ExportKind.TheVariants as kind
 use Rattle.wasm_tree.specs.InstructionTable.{Form, row_of, Prefixed, prefixed_of}
 use Rattle.wasm_tree.specs.Forms.{form_in}
+use Rattle.wasm_tree.specs.Limits.{most_locals, most_all_locals}
 use Rattle.wasm_spelling.specs.declared.fault.ReadFault.{ReadFault}
 use Rattle.wasm_spelling.specs.declared.fault.ReadFault.TheVariants.{Malformed, Float, Limit}
 use Rattle.wasm_spelling.specs.declared.fault.Cause.{Cause}
@@ -18,7 +20,6 @@ use Rattle.wasm_spelling.specs.declared.fault.Cause.TheVariants as cause
 use Rattle.wasm_spelling.specs.declared.fault.Which.{Which}
 use Rattle.wasm_spelling.specs.declared.fault.Which.TheVariants as which
 use Rattle.wasm_spelling.specs.At.{At, Counts}
-use Rattle.wasm_spelling.specs.Limits.{most_locals, most_all_locals}
 use Rattle.wasm_spelling.specs.ModuleFields.{Part, parts, id_of, rank_of, type_code, block_type_code, export_code}
 
 infixl 10 ◌>>=◌

@@ -1,18 +1,24 @@
 -- The first fault of a file, by one flat table: a field that is expected is spelled by some bytes, and further
 -- fields then stand in its place (WebAssembly Core 1.0, 5.3 to 5.5; Core 2.0, 5.4.6 and 5.5.15).
-use Rattle.std.specs.Prelude.{◌≡◌, ℕ, zero, suc, ◌-◌, List, [], ◌∷◌, ◌++◌, length, take, drop, Bool, true, false, Result, Ok, Err, None, nat_lt, ◌==◌, if◌then◌else◌}
+use Rattle.std.specs.Prelude.{◌≡◌, ℕ, zero, suc, ◌-◌, List, [], ◌∷◌, ◌++◌, length, take, drop, Bool, true, false, Result, Ok, Err, None}
+use Rattle.std.specs.Prelude.{nat_lt, ◌==◌, if◌then◌else◌}
 use Rattle.wasm_tree.specs.declared.entries.ExportKind.{ExportKind}
 use Rattle.wasm_tree.specs.declared.entries.ExportKind.TheVariants as kind
 use Rattle.wasm_tree.specs.InstructionTable.{Form, nothing, an_index, a_mem_arg, labels, a_type, a_zero, an_i32, an_i64, a_sub_opcode}
+use Rattle.wasm_tree.specs.Limits.{most_parameters, most_results, most_name_bytes, most_functions, most_blocks, most_memory_pages}
+use Rattle.wasm_tree.specs.Limits.{most_table_elements}
 use Rattle.wasm_spelling.specs.declared.fault.ReadFault.{ReadFault}
 use Rattle.wasm_spelling.specs.declared.fault.Cause.{Cause}
 use Rattle.wasm_spelling.specs.declared.fault.Cause.TheVariants as cause
 use Rattle.wasm_spelling.specs.declared.fault.Which.TheVariants as which
 use Rattle.wasm_spelling.specs.At.{At, Counts}
-use Rattle.wasm_spelling.specs.Limits.{most_parameters, most_results, most_name_bytes, most_functions, most_blocks, most_memory_pages, most_table_elements}
-use Rattle.wasm_spelling.specs.ModuleFields.{Part, types, imports, functions, tables, memories, globals, exports, start, elements, data_count, code, segments}
+use Rattle.wasm_spelling.specs.ModuleFields.{Part, types, imports, functions, tables, memories, globals, exports, start, elements}
+use Rattle.wasm_spelling.specs.ModuleFields.{data_count, code, segments}
 use Rattle.wasm_spelling.specs.Steps as steps
-use Rattle.wasm_spelling.specs.Steps.{◌>>=◌, malformed, checked, byte_at, number_at, signed32_at, signed64_at, bytes_at, rest_at, within, utf8_of, type_of, block_type_of, flag_of, kind_of, zero_of, Head, the_end, the_else, a_block, a_loop, an_if, a_form, head_of, functions_counted, no_locals, run_count_at, body_count_at, segment_count_at, data_count_at, sub_opcode_of, SectionId, no_section, a_custom, a_part, section_id_at}
+use Rattle.wasm_spelling.specs.Steps.{◌>>=◌, malformed, checked, byte_at, number_at, signed32_at, signed64_at, bytes_at, rest_at, within}
+use Rattle.wasm_spelling.specs.Steps.{utf8_of, type_of, block_type_of, flag_of, kind_of, zero_of, Head, the_end, the_else, a_block, a_loop}
+use Rattle.wasm_spelling.specs.Steps.{an_if, a_form, head_of, functions_counted, no_locals, run_count_at, body_count_at, segment_count_at}
+use Rattle.wasm_spelling.specs.Steps.{data_count_at, sub_opcode_of, SectionId, no_section, a_custom, a_part, section_id_at}
 
 -- what the entries of a vector are
 pub data Entry : Type 0 where

@@ -1,12 +1,12 @@
 // Laws of the format. Each is the contract of a function that does nothing.
 ghost use Rattle.std.specs.Prelude.{◌≡◌, ℕ, ◌≤◌, ◌⊎◌, List, length};
 ghost use Rattle.wasm_tree.specs.declared.tree.Module.{Module as Tree};
+ghost use Rattle.wasm_tree.specs.Bytes.{AreBytes};
+ghost use Rattle.wasm_tree.specs.Within.{WithinLimits};
 ghost use Rattle.wasm_spelling.specs.declared.fault.ReadFault.{ReadFault as Fault};
 ghost use Rattle.wasm_spelling.specs.ModuleFields.{Spells};
-ghost use Rattle.wasm_spelling.specs.Bytes.{AreBytes};
 ghost use Rattle.wasm_spelling.specs.Places.{IsFormed};
 ghost use Rattle.wasm_spelling.specs.Table.{Upto};
-ghost use Rattle.wasm_spelling.specs.Within.{WithinLimits};
 
 /// Bytes of at most 8,388,608 spell exactly one module or have exactly one first fault.
 pub fn each_file_has_one_reading()

@@ -3,7 +3,7 @@ use std::alloc::Global;
 use std::test::Fail;
 use w2c_io::{Files, SureFiles, WriteAnswer};
 use w2c_sim::{accept, write_header, write_unit};
-use wasm_valid::ValidModule;
+use wasm_typing::ValidModule;
 
 const UNIT: &str = "#include \"w2c_rt.h\"\nvoid w2cZ_mZ_i(void) {\n;\nreturn;\n}\n";
 

@@ -1,5 +1,6 @@
 -- What stands beside the functions that a module defines, by index.
-use Rattle.wasm_tree.proofs.Common.{◌≡◌, ℕ, ◌+◌, ◌-◌, ◌<◌, true, false, List, nat_lt, slice_get, None, refl, ap, arith, nat_tests, at_defined, imported_funcs}
+use Rattle.wasm_tree.proofs.Common.{◌≡◌, ℕ, ◌+◌, ◌-◌, ◌<◌, true, false, List, nat_lt, slice_get, None, refl, ap, arith, nat_tests}
+use Rattle.wasm_tree.proofs.Common.{at_defined, imported_funcs}
 use Rattle.wasm_tree.specs.declared.tree.Module.{Module}
 
 pub defined_behind_imports : {A : Type 0} (m : Module) (items : List A) (index j : ℕ) → index ≡ imported_funcs m + j

@@ -1,5 +1,6 @@
 -- Index spaces behind the imports.
-use Rattle.wasm_tree.proofs.Common.{◌≡◌, ℕ, ◌+◌, ◌≤◌, min, List, [], ◌++◌, map, length, drop, slice_get, Option, option_map, flat_map, sym, ap, ◌∙◌, arith, slice_get-map}
+use Rattle.wasm_tree.proofs.Common.{◌≡◌, ℕ, ◌+◌, ◌≤◌, min, List, [], ◌++◌, map, length, drop, slice_get, Option, option_map, flat_map, sym}
+use Rattle.wasm_tree.proofs.Common.{ap, ◌∙◌, arith, slice_get-map}
 use Rattle.std.proofs.lemmas.List.{at_drop_all}
 use Rattle.wasm_tree.specs.declared.entries.Import.{Import}
 

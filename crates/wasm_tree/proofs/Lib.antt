@@ -1,6 +1,9 @@
-mod Common
-pub mod Lists
+-- What crates above cite.
+pub mod CodeSizes
 pub mod ExactTable
-pub mod Imports
 pub mod BehindImports
-pub mod AllOps
+-- What the crate's own proofs cite.
+mod Common
+mod Lists
+mod Imports
+mod AllOps

@@ -1,5 +1,6 @@
 -- Lists of instructions and the code that they are.
-use Rattle.wasm_tree.proofs.Common.{◌≡◌, ℕ, zero, suc, ◌<◌, List, [], ◌∷◌, ◌++◌, length, get_or, Some, refl, ap, arith, code_length, instr_at, ◌+>◌, then_code, code_tree, instr_tree, kind_tree}
+use Rattle.wasm_tree.proofs.Common.{◌≡◌, ℕ, zero, suc, ◌<◌, List, [], ◌∷◌, ◌++◌, length, get_or, Some, refl, ap, arith, code_length}
+use Rattle.wasm_tree.proofs.Common.{instr_at, ◌+>◌, then_code, code_tree, instr_tree, kind_tree}
 use Rattle.wasm_tree.specs.declared.code.Instr.{Instr}
 
 pub code_tree-push : (instrs : List Instr) (instr : Instr) → code_tree (instrs ++ instr ∷ []) ≡ code_tree instrs +> instr_tree instr

@@ -5,9 +5,11 @@ use Rattle.w2c_base.specs.declared.value.ValType.{ValType}
 use Rattle.w2c_base.specs.declared.value.ValType.TheVariants.{I32, I64}
 use Rattle.wasm_tree.specs.declared.operators.Access.{Access}
 use Rattle.wasm_tree.specs.declared.operators.LoadOp.{LoadOp}
-use Rattle.wasm_tree.specs.declared.operators.LoadOp.TheVariants.{I32Load, I64Load, I32Load8S, I32Load8U, I32Load16S, I32Load16U, I64Load8S, I64Load8U, I64Load16S, I64Load16U, I64Load32S, I64Load32U}
+use Rattle.wasm_tree.specs.declared.operators.LoadOp.TheVariants.{I32Load, I64Load, I32Load8S, I32Load8U, I32Load16S, I32Load16U, I64Load8S}
+use Rattle.wasm_tree.specs.declared.operators.LoadOp.TheVariants.{I64Load8U, I64Load16S, I64Load16U, I64Load32S, I64Load32U}
 use Rattle.wasm_tree.specs.declared.operators.StoreOp.{StoreOp}
-use Rattle.wasm_tree.specs.declared.operators.StoreOp.TheVariants.{I32Store, I64Store, I32Store8, I32Store16, I64Store8, I64Store16, I64Store32}
+use Rattle.wasm_tree.specs.declared.operators.StoreOp.TheVariants.{I32Store, I64Store, I32Store8, I32Store16, I64Store8, I64Store16}
+use Rattle.wasm_tree.specs.declared.operators.StoreOp.TheVariants.{I64Store32}
 use Rattle.wasm_tree.specs.declared.operators.ExtendOp.{ExtendOp}
 use Rattle.wasm_tree.specs.declared.operators.ExtendOp.TheVariants.{I32Extend8S, I32Extend16S, I64Extend8S, I64Extend16S, I64Extend32S}
 

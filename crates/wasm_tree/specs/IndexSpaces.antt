@@ -1,6 +1,7 @@
 -- The index spaces of a module (WebAssembly Core 1.0, 2.5.1): functions, tables, memories and globals by their
 -- index, imports first, with their types.
-use Rattle.std.specs.Prelude.{ℕ, ◌-◌, nat_lt, if◌then◌else◌, Bool, true, false, List, [], ◌∷◌, ◌++◌, length, map, filter, replicate, flat_map, slice_get, Option, None, option_map}
+use Rattle.std.specs.Prelude.{ℕ, ◌-◌, nat_lt, if◌then◌else◌, Bool, true, false, List, [], ◌∷◌, ◌++◌, length, map, filter, replicate}
+use Rattle.std.specs.Prelude.{flat_map, slice_get, Option, None, option_map}
 use Rattle.w2c_base.specs.declared.value.ValType.{ValType}
 use Rattle.w2c_base.specs.declared.signature.FuncType.{FuncType}
 use Rattle.w2c_base.specs.Lookup.{if_found}

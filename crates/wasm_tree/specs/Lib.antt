@@ -9,3 +9,7 @@ pub mod Size
 pub mod Stored
 pub mod Views
 pub mod Parts
+-- of the bytes of a file and of the limits, as far as trees tell them
+pub mod Bytes
+pub mod Limits
+pub mod Within

@@ -5,6 +5,7 @@ mod code;
 mod defined;
 mod entries;
 mod instruction_table;
+mod limits;
 mod opcodes;
 mod operators;
 mod tree;
@@ -18,6 +19,7 @@ pub use entries::{
     TypeEntries, TypeEntry,
 };
 pub use instruction_table::the_instruction_table_is_exact;
+pub use limits::limits_are_those_of_the_code;
 pub use opcodes::{
     BLOCK, BR_TABLE, CALL_INDIRECT, I32_CONST, I64_CONST, IF, LOOP, MEMORY_COPY, MEMORY_FILL,
     MEMORY_GROW, MEMORY_SIZE, Op, PREFIX,

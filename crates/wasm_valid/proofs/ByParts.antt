@@ -1,5 +1,6 @@
 -- An instruction is that of its parts.
-use Rattle.wasm_valid.proofs.Common.{◌≡◌, ℕ, refl, subst, Kind, Unreachable, access_tree, index_tree, numeric_tree, parts_of, simple_tree, IndexOp, needs_of, Nothing}
+use Rattle.wasm_valid.proofs.Common.{◌≡◌, ℕ, refl, subst, Kind, Unreachable, access_tree, index_tree, numeric_tree, parts_of, simple_tree}
+use Rattle.wasm_valid.proofs.Common.{IndexOp, needs_of, Nothing}
 use Rattle.wasm_tree.specs.declared.operators.IndexOp.TheVariants.{Br}
 use Rattle.wasm_tree.specs.declared.operators.Numeric.{Numeric}
 use Rattle.wasm_tree.specs.declared.operators.Numeric.TheVariants as numeric

@@ -1,17 +1,6 @@
--- Each instruction of a list is smaller than the list.
-use Rattle.wasm_valid.proofs.Common.{◌≡◌, ℕ, zero, suc, ◌+◌, ◌*◌, ◌<◌, ◌≤◌, List, [], ◌∷◌, length, get_or, ap, arith, code_size, kind_size, code_tree, kind_tree, Instr}
-
-pub instr_smaller : (items : List Instr) (i : ℕ) (x : Instr) → i < length items → x ≡ get_or items i x
-    → kind_size (kind_tree x.kind) + 1 ≤ code_size (code_tree items)
-instr_smaller [] i x less is = absurd (omega (arith, less))
-instr_smaller (y ∷ items) zero x less is =
-    let e : kind_size (kind_tree x.kind) ≡ kind_size (kind_tree y.kind) = ap (λ (z : Instr). kind_size (kind_tree z.kind)) is in
-    omega (arith, e)
-instr_smaller (y ∷ items) (suc i) x less is =
-    let h : kind_size (kind_tree x.kind) + 1 ≤ code_size (code_tree items) = instr_smaller items i x (omega (arith, less)) is in
-    omega (arith, h)
-
 -- Code inside code is smaller in the measures of the checker: eight times its size, and the more above it the farther out it is read.
+use Rattle.wasm_valid.proofs.Common.{◌≡◌, ℕ, ◌+◌, ◌*◌, ◌<◌, ◌≤◌, arith}
+
 pub code_below_block : (code t : ℕ) → 8 * code + 1 ≡ t → 8 * code < t
 code_below_block code t e = omega (arith, e)
 

@@ -1,5 +1,10 @@
 -- A run that took k tokens takes their completion, and one that was refused before refuses it.
-use Rattle.wasm_valid.proofs.Common.{◌≡◌, ℕ, zero, suc, ◌+◌, ◌-◌, ◌<◌, ◌≤◌, [], ◌∷◌, Some, None, Ok, Err, Option, sym, refl, ap, ◌∙◌, subst, ⊎_elim, arith, cases_lt, ValType, I32, Block, Code, If, Kind, Loop, Otherwise, else_code, end_code, no_else, then_code, plain_token, Operands, Ran, Refusal, and_then, anything, at_end, check, closes, first_end, give, later, no_result, nothing, or_refuse, pop_type, refusal, run, run_else, run_kind, step, closing, completed, completed_else, completed_kind, else_token_count, kind_token_count, token_count, Context, Labels}
+use Rattle.wasm_valid.proofs.Common.{◌≡◌, ℕ, zero, suc, ◌+◌, ◌-◌, ◌<◌, ◌≤◌, [], ◌∷◌, Some, None, Ok, Err, Option, sym, refl, ap, ◌∙◌, subst}
+use Rattle.wasm_valid.proofs.Common.{⊎_elim, arith, cases_lt, ValType, I32, Block, Code, If, Kind, Loop, Otherwise, else_code, end_code}
+use Rattle.wasm_valid.proofs.Common.{no_else, then_code, plain_token, Operands, Ran, Refusal, and_then, anything, at_end, check, closes}
+use Rattle.wasm_valid.proofs.Common.{first_end, give, later, no_result, nothing, or_refuse, pop_type, refusal, run, run_else, run_kind}
+use Rattle.wasm_valid.proofs.Common.{step, closing, completed, completed_else, completed_kind, else_token_count, kind_token_count}
+use Rattle.wasm_valid.proofs.Common.{token_count, Context, Labels}
 use Rattle.wasm_valid.proofs.Exact.{here}
 
 abbrev pub Goes : Ran → Type 0

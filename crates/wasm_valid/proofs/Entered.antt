@@ -1,5 +1,6 @@
 -- Faults that are entered one by one: piece by piece, and in the end the first of all.
-use Rattle.wasm_valid.proofs.Common.{◌≡◌, ℕ, suc, ◌+◌, ◌<◌, List, [], ◌∷◌, ◌++◌, length, get_or, drop, Some, None, Option, flat_map, sym, refl, ap, ◌∙◌, add-one, arith, drop-cons, nat_tests, entered, kept, first_fault, sooner, Fault}
+use Rattle.wasm_valid.proofs.Common.{◌≡◌, ℕ, suc, ◌+◌, ◌<◌, List, [], ◌∷◌, ◌++◌, length, get_or, drop, Some, None, Option, flat_map, sym}
+use Rattle.wasm_valid.proofs.Common.{refl, ap, ◌∙◌, add-one, arith, drop-cons, nat_tests, entered, kept, first_fault, sooner, Fault}
 
 pub entered-append : (found : Option Fault) (xs ys : List Fault) → entered found (xs ++ ys) ≡ entered (entered found xs) ys
 entered-append found [] ys = refl

@@ -1,5 +1,9 @@
 -- What is entered of bodies, one by one, is what the bodies of the module have.
-use Rattle.wasm_valid.proofs.Common.{◌≡◌, ℕ, ◌⊎◌, List, [], ◌∷◌, ◌++◌, map, slice_get, Some, None, Ok, Err, Option, option_map, zip, sym, refl, ap, ◌∙◌, subst, inl, inr, append_assoc, append-nil, FuncType, declared_locals, func_space, global_space, memory_space, table_space, BodyEntry, Module, Operands, check, refusal, body_context, context_of, entered, EntersBodies, EntersBody, body_context_seen, typed_context_seen, module_faults, AreSpacesOf, type_seen, Bodies, FaultsOfBodies, Verdict, bodies_of, outcome_of, Fault}
+use Rattle.wasm_valid.proofs.Common.{◌≡◌, ℕ, ◌⊎◌, List, [], ◌∷◌, ◌++◌, map, slice_get, Some, None, Ok, Err, Option, option_map, zip, sym}
+use Rattle.wasm_valid.proofs.Common.{refl, ap, ◌∙◌, subst, inl, inr, append_assoc, append-nil, FuncType, declared_locals, func_space}
+use Rattle.wasm_valid.proofs.Common.{global_space, memory_space, table_space, BodyEntry, Module, Operands, check, refusal, body_context}
+use Rattle.wasm_valid.proofs.Common.{context_of, entered, EntersBodies, EntersBody, body_context_seen, typed_context_seen, module_faults}
+use Rattle.wasm_valid.proofs.Common.{AreSpacesOf, type_seen, Bodies, FaultsOfBodies, Verdict, bodies_of, outcome_of, Fault}
 use Rattle.wasm_tree.specs.declared.entries.FuncEntry.{FuncEntry}
 use Rattle.wasm_valid.specs.declared.context.Spaces.{Spaces}
 use Rattle.wasm_valid.proofs.Entered.{entered-append, entered-first}
@@ -51,9 +55,6 @@ module _ (s : Spaces) (ty : FuncType) (body : BodyEntry) where
 abbrev pub Entering : Module → Bodies → Bodies → Option Fault → Option Fault → Type 0
 Entering m all left old now = (faults : List Fault) × (now ≡ entered old faults)
     × ((others : List Fault) → FaultsOfBodies m left others → FaultsOfBodies m all (faults ++ others))
-
-pub none_entered : (m : Module) (all : Bodies) (old : Option Fault) → Entering m all all old old
-none_entered m all old = ([], refl, λ others h. h)
 
 one_entered : (m : Module) (all left : Bodies) (func : FuncEntry) (body : BodyEntry) (old now new : Option Fault)
     → Entering m all ((func, body) ∷ left) old now → EntersBody (body_context m func body) body now new → Entering m all left old new

@@ -1,5 +1,15 @@
 -- The checker's operands show exactly the stacks that the typing reaches.
-use Rattle.wasm_valid.proofs.Common.{◌≡◌, ℕ, ◌+◌, ◌^◌, ◌≤◌, Bool, true, false, ◌&&◌, List, [], ◌∷◌, ◌++◌, reverse, nat_le, slice_get, Some, None, Ok, Err, Option, sym, refl, ap, ◌∙◌, subst, rules, tests, AllByRecursion, FuncType, ValType, I32, I64, load_width, store_width, Typing, by_rule, of_types, Block, Br, BrIf, BrTable, Call, CallIndirect, Code, Drop, GlobalGet, GlobalSet, If, Kind, Load, LocalGet, LocalSet, LocalTee, Loop, MemoryCopy, MemoryFill, MemoryGrow, MemorySize, Otherwise, Return, Select, Store, Unreachable, else_code, end_code, no_else, then_code, cause_of, Operands, Ran, Refusal, all_labels, and_then, anything, at_end, check, chosen, closes, common, empties, first_end, give, has_memory, has_table, is_label, jump, later, no_result, nothing, on, on_some, or_refuse, pop_any, pop_type, pop_types, push_types, refusal, run, run_else, run_kind, step, turn, turn_tabled, when, kind_token_count, token_count, Context, Labels, BodyHasType, ElseHasType, HasMemory, HasTable, HasType, KindHasType, Leaves, Stack, Turns, TurnsAsTabled, table_type, values, Operand}
+use Rattle.wasm_valid.proofs.Common.{◌≡◌, ℕ, ◌+◌, ◌^◌, ◌≤◌, Bool, true, false, ◌&&◌, List, [], ◌∷◌, ◌++◌, reverse, nat_le, slice_get, Some}
+use Rattle.wasm_valid.proofs.Common.{None, Ok, Err, Option, sym, refl, ap, ◌∙◌, subst, rules, tests, AllByRecursion, FuncType, ValType, I32}
+use Rattle.wasm_valid.proofs.Common.{I64, load_width, store_width, Typing, by_rule, of_types, Block, Br, BrIf, BrTable, Call, CallIndirect}
+use Rattle.wasm_valid.proofs.Common.{Code, Drop, GlobalGet, GlobalSet, If, Kind, Load, LocalGet, LocalSet, LocalTee, Loop, MemoryCopy}
+use Rattle.wasm_valid.proofs.Common.{MemoryFill, MemoryGrow, MemorySize, Otherwise, Return, Select, Store, Unreachable, else_code, end_code}
+use Rattle.wasm_valid.proofs.Common.{no_else, then_code, cause_of, Operands, Ran, Refusal, all_labels, and_then, anything, at_end, check}
+use Rattle.wasm_valid.proofs.Common.{chosen, closes, common, empties, first_end, give, has_memory, has_table, is_label, jump, later}
+use Rattle.wasm_valid.proofs.Common.{no_result, nothing, on, on_some, or_refuse, pop_any, pop_type, pop_types, push_types, refusal, run}
+use Rattle.wasm_valid.proofs.Common.{run_else, run_kind, step, turn, turn_tabled, when, kind_token_count, token_count, Context, Labels}
+use Rattle.wasm_valid.proofs.Common.{BodyHasType, ElseHasType, HasMemory, HasTable, HasType, KindHasType, Leaves, Stack, Turns}
+use Rattle.wasm_valid.proofs.Common.{TurnsAsTabled, table_type, values, Operand, same_Some}
 use Rattle.w2c_base.proofs.Conjunctions.{both_hold}
 use Rattle.w2c_base.proofs.Types.{equal_results-eq, results_equal_themselves}
 use Rattle.wasm_valid.specs.declared.operand.Operand.TheVariants.{Known, Unknown}
@@ -102,15 +112,12 @@ tabled_exact : (ty : Typing) (s : Operands) → Exact s (turn_tabled ty s) (Turn
 tabled_exact (of_types operands results) s = turn_exact operands results s
 tabled_exact by_rule s = λ old new sh w. w
 
-some_injective : {A : Type 0} (x y : A) → Some x ≡ Some y → x ≡ y
-some_injective x y e = cc
-
 -- an index that is looked up
 looked_up : {A : Type 0} (o : Option A) (f : A → Option Operands) (T : A → Rule) (s : Operands) → ((x : A) → Exact s (f x) (T x))
     → Exact s (on_some o f) (λ old new. (x : A) × (o ≡ Some x) × T x old new)
 looked_up None f T s h = λ old new sh w. let e = w.1 in cc
 looked_up (Some x) f T s h =
-    exact_by s (f x) (T x) _ (λ old new t. (x, refl, t)) (λ old new w. subst (λ y. T y old new) (sym (some_injective x w.0 w.1)) w.2) (h x)
+    exact_by s (f x) (T x) _ (λ old new t. (x, refl, t)) (λ old new w. subst (λ y. T y old new) (sym (same_Some x w.0 w.1)) w.2) (h x)
 
 -- a test
 tested : (b : Bool) (P : Type 0) → (P → b ≡ true) → (b ≡ true → P) → (s : Operands) (r : Option Operands) (T : Rule) → Exact s r T

@@ -1,7 +1,7 @@
 -- A file has one verdict: it has one reading, and a module has one verdict.
+use Rattle.wasm_tree.specs.Limits.{most_module_bytes}
 use Rattle.wasm_valid.proofs.Common.{◌≡◌, ℕ, ◌≤◌, ◌⊎◌, List, length, ap, ◌∙◌, subst, inl, inr, Module, Outcome, Verdict}
 use Rattle.wasm_spelling.specs.declared.fault.ReadFault.{ReadFault}
-use Rattle.wasm_spelling.specs.Limits.{most_module_bytes}
 use Rattle.wasm_spelling.specs.ModuleFields.{Spells}
 use Rattle.wasm_spelling.specs.Table.{Upto}
 use Rattle.wasm_spelling.proofs.Whole.{some_reading, one_tree, one_first, not_both}

@@ -1,5 +1,11 @@
 -- Where the checker refuses is the first faulty token, with its place and its cause.
-use Rattle.wasm_valid.proofs.Common.{◌≡◌, ℕ, zero, suc, ◌+◌, ◌<◌, ◌≤◌, ◌⊎◌, List, [], ◌∷◌, ◌++◌, length, slice_get, Some, None, Ok, Err, Option, sym, refl, ap, ◌∙◌, subst, inl, inr, ⊎_elim, arith, length-append, cases_lt, get_front, ValType, I32, Block, Code, If, Kind, Loop, Otherwise, else_code, end_code, no_else, then_code, BodyEntry, FirstBodyFault, body_tokens, cause_of, else_tokens, kind_tokens, plain_token, tokens, Operands, Ran, Refusal, and_then, at_end, check, closes, first_end, give, later, no_result, nothing, or_refuse, pop_type, refusal, run, run_else, run_kind, step, completed, else_token_count, kind_token_count, token_count, Context, Labels, BodyHasType, Fault}
+use Rattle.wasm_valid.proofs.Common.{◌≡◌, ℕ, zero, suc, ◌+◌, ◌<◌, ◌≤◌, ◌⊎◌, List, [], ◌∷◌, ◌++◌, length, slice_get, Some, None, Ok, Err}
+use Rattle.wasm_valid.proofs.Common.{Option, sym, refl, ap, ◌∙◌, subst, inl, inr, ⊎_elim, arith, length-append, cases_lt, get_front}
+use Rattle.wasm_valid.proofs.Common.{ValType, I32, Block, Code, If, Kind, Loop, Otherwise, else_code, end_code, no_else, then_code}
+use Rattle.wasm_valid.proofs.Common.{BodyEntry, FirstBodyFault, body_tokens, cause_of, else_tokens, kind_tokens, plain_token, tokens}
+use Rattle.wasm_valid.proofs.Common.{Operands, Ran, Refusal, and_then, at_end, check, closes, first_end, give, later, no_result, nothing}
+use Rattle.wasm_valid.proofs.Common.{or_refuse, pop_type, refusal, run, run_else, run_kind, step, completed, else_token_count}
+use Rattle.wasm_valid.proofs.Common.{kind_token_count, token_count, Context, Labels, BodyHasType, Fault}
 use Rattle.wasm_valid.proofs.Exact.{went, Decided, check_exact, here}
 use Rattle.wasm_valid.proofs.Completions.{Goes, Stops, Below, Follows, check_follows, check_below, body_whole, completed_whole}
 

@@ -1,5 +1,6 @@
 -- What the items of a list give is gathered item by item: what is there, and what the rest gives, is the whole.
-use Rattle.wasm_valid.proofs.Common.{◌≡◌, ℕ, ◌+◌, ◌<◌, List, [], ◌∷◌, ◌++◌, map, length, get_or, drop, replicate, flat_map, sym, ap, ◌∙◌, append_assoc, drop_more, replicate-append-replicate}
+use Rattle.wasm_valid.proofs.Common.{◌≡◌, ℕ, ◌+◌, ◌<◌, List, [], ◌∷◌, ◌++◌, map, length, get_or, drop, replicate, flat_map, sym, ap, ◌∙◌}
+use Rattle.wasm_valid.proofs.Common.{append_assoc, drop_more, replicate-append-replicate}
 
 pub one_more_gathered : {A B : Type 0} (f : A → List B) (items : List A) (i : ℕ) (x default : A) (old new whole : List B)
     → i < length items → x ≡ get_or items i default → new ≡ old ++ f x → old ++ flat_map f (drop i items) ≡ whole

@@ -1,22 +1,22 @@
-mod Common
-pub mod ClosedBodies
-pub mod Exact
-pub mod Completions
-pub mod FirstFaults
+-- What crates above cite.
 pub mod Verdicts
 pub mod Files
-pub mod Piles
-pub mod Needs
-pub mod Steps
-pub mod CodeSizes
-pub mod RunLists
-pub mod RunBlocks
-pub mod Entered
-pub mod ModuleRows
-pub mod Names
-pub mod Shapes
-pub mod EnteredBodies
-pub mod TableTypes
-pub mod ByParts
-pub mod Gathered
-pub mod Refusals
+-- What the crate's own proofs cite.
+mod Common
+mod Exact
+mod Completions
+mod FirstFaults
+mod Piles
+mod Needs
+mod Steps
+mod CodeSizes
+mod RunLists
+mod RunBlocks
+mod Entered
+mod ModuleRows
+mod Names
+mod Shapes
+mod EnteredBodies
+mod ByParts
+mod Gathered
+mod Refusals

@@ -1,7 +1,10 @@
 -- The rows of faults outside the bodies, entered one behind another, are all of them.
-use Rattle.wasm_valid.proofs.Common.{◌≡◌, List, [], ◌++◌, is_none, Option, flat_map, sym, ap, ◌∙◌, flat_map-append, memory_space, table_space, type_in, Module, entered, duplicate_exports, fault_if, is_no_first, min_above_max, too_many_pages, unknown_export, unknown_import_type, Fault}
-use Rattle.wasm_valid.specs.declared.fault.ValidCause.TheVariants as cause
-use Rattle.wasm_valid.specs.ModuleFaults.{module_faults, too_many, expressions, constant_expected, unknown_global, type_mismatch, start_faults, unknown_elements}
+use Rattle.wasm_typing.specs.declared.fault.ValidCause.TheVariants as cause
+use Rattle.wasm_typing.specs.ModuleFaults.{module_faults, too_many, expressions, constant_expected, unknown_global, type_mismatch}
+use Rattle.wasm_typing.specs.ModuleFaults.{start_faults, unknown_elements}
+use Rattle.wasm_valid.proofs.Common.{◌≡◌, List, [], ◌++◌, is_none, Option, flat_map, sym, ap, ◌∙◌, flat_map-append, memory_space}
+use Rattle.wasm_valid.proofs.Common.{table_space, type_in, Module, entered, duplicate_exports, fault_if, is_no_first, min_above_max}
+use Rattle.wasm_valid.proofs.Common.{too_many_pages, unknown_export, unknown_import_type, Fault}
 use Rattle.wasm_valid.proofs.Entered.{entered-append}
 
 -- from what was kept before to what is kept behind these faults

@@ -1,20 +1,20 @@
 -- Names in an ordered set, and the exports that have a name of an earlier one.
-use Rattle.wasm_valid.proofs.Common.{◌≡◌, ℕ, suc, ◌+◌, ◌<◌, Bool, true, false, not, ◌||◌, List, [], ◌∷◌, ◌++◌, length, get_or, take, drop, Option, bytes_eq, nat_cmp, sym, refl, ap, ◌∙◌, add-one, drop-cons, take-suc, Bor, Decides-like, same_from_decides, list_any_more, list_any, entered, duplicate_exports, fault_if, Fault}
+use Rattle.wasm_valid.proofs.Common.{◌≡◌, ℕ, suc, ◌+◌, ◌<◌, Bool, true, false, not, ◌||◌, List, [], ◌∷◌, ◌++◌, length, get_or, take, drop}
+use Rattle.wasm_valid.proofs.Common.{Option, bytes_eq, nat_cmp, sym, refl, ap, ◌∙◌, add-one, drop-cons, take-suc, Bor, list_any_more}
+use Rattle.wasm_valid.proofs.Common.{list_any, entered, duplicate_exports, fault_if, Fault}
 use Rattle.std.specs.declared.cmp.Ordering.{Ordering}
 use Rattle.std.specs.declared.cmp.Ordering.TheVariants.{Less, Equal, Greater}
 use Rattle.std.specs.Ordering.{match_ordering}
 use Rattle.std.specs.Cmp.Lexicographic.{slice_cmp}
 use Rattle.std.specs.BTreeMap.{is_at}
 use Rattle.std.specs.BTreeSet.{insert_key}
-use Rattle.std.proofs.lemmas.Slice.Eq.{bytes_eq-Decides}
 use Rattle.std.proofs.lemmas.Map.Lookups.{exact_bytes}
 use Rattle.std.proofs.lemmas.Map.Text.{is_eq-slice_cmp}
+use Rattle.std.proofs.Math.Bool.{or_comm}
+use Rattle.w2c_base.proofs.Tests.{bytes_eq-sym}
 use Rattle.wasm_tree.specs.declared.entries.Export.{Export}
-use Rattle.wasm_valid.specs.declared.fault.ValidCause.TheVariants as cause
 use Rattle.wasm_valid.proofs.Entered.{entered-append}
-
-bytes_eq-sym : (xs ys : List ℕ) → bytes_eq xs ys ≡ bytes_eq ys xs
-bytes_eq-sym xs ys = same_from_decides _ _ (bytes_eq-Decides xs ys) (Decides-like _ sym sym (bytes_eq-Decides ys xs))
+use Rattle.wasm_typing.specs.declared.fault.ValidCause.TheVariants as cause
 
 abbrev pub name_cmp : Bor (List ℕ) → Bor (List ℕ) → Ordering
 name_cmp x y = slice_cmp nat_cmp x.now y.now
@@ -66,14 +66,8 @@ one_more_name name old new k exports i e less read named inserted so_far =
     ap (is_among name) inserted ∙ is_among-insert name old k
     ∙ ap (λ b. bytes_eq k.now name || b) so_far
     ∙ ap (λ n. bytes_eq n name || list_any (is_named name) (take i exports)) (named ∙ ap (λ x. x.name) read)
-    ∙ or-comm (is_named name (get_or exports i e)) (list_any (is_named name) (take i exports))
+    ∙ or_comm (is_named name (get_or exports i e)) (list_any (is_named name) (take i exports))
     ∙ sym (list_any_more (is_named name) exports i e less)
-  where
-    or-comm : (a b : Bool) → (a || b) ≡ (b || a)
-    or-comm true true = refl
-    or-comm true false = refl
-    or-comm false true = refl
-    or-comm false false = refl
 
 -- what the set says of a name
 pub known_name : (is_new : Bool) (keys : List (Bor (List ℕ))) (k : Bor (List ℕ)) (name : List ℕ) (known : Bool)

@@ -1,7 +1,10 @@
 -- The needs of an instruction, met and unmet; and instructions that go by their row.
-use Rattle.wasm_valid.proofs.Common.{◌≡◌, ℕ, ◌^◌, ◌<◌, ◌≤◌, Bool, true, false, not, List, [], ◌∷◌, is_some, is_none, nat_le, slice_get, Some, None, Option, Result, sym, refl, ap, ◌∙◌, arith, pow_mono, lt-leb, kind_tree, RustKind, cause_of, first_cause, misaligned, Operands, has_memory, step, when, Context, Labels, row_cause, row_step, unmet, where_met, Plain, Access, Stop}
+use Rattle.wasm_typing.specs.declared.fault.ValidCause.TheVariants as cause
+use Rattle.wasm_valid.proofs.Common.{◌≡◌, ℕ, ◌^◌, ◌<◌, ◌≤◌, Bool, true, false, not, List, [], ◌∷◌, is_some, is_none, nat_le, slice_get}
+use Rattle.wasm_valid.proofs.Common.{Some, None, Option, Result, sym, refl, ap, ◌∙◌, arith, pow_mono, lt-leb, kind_tree, RustKind, cause_of}
+use Rattle.wasm_valid.proofs.Common.{first_cause, misaligned, Operands, has_memory, step, when, Context, Labels, row_cause, row_step, unmet}
+use Rattle.wasm_valid.proofs.Common.{where_met, Plain, Access, Stop}
 use Rattle.wasm_tree.specs.declared.code.Kind.TheVariants as kind
-use Rattle.wasm_valid.specs.declared.fault.ValidCause.TheVariants as cause
 
 -- no width of 32 bits is as large
 pub too_large : (exponent width : ℕ) → 32 ≤ exponent → width < 2 ^ 32 → nat_le (2 ^ exponent) width ≡ false

@@ -1,5 +1,6 @@
 -- Operands in memory, one more and one less.
-use Rattle.wasm_valid.proofs.Common.{◌≡◌, ℕ, zero, suc, ◌+◌, ◌<◌, ◌≤◌, Bool, true, false, List, [], ◌∷◌, ◌++◌, length, drop, Some, None, refl, ap, ◌∙◌, arith, at_drop_all, Operands, empties, nothing, on, bottom, pile, popped, Operand}
+use Rattle.wasm_valid.proofs.Common.{◌≡◌, ℕ, zero, suc, ◌+◌, ◌<◌, ◌≤◌, List, [], ◌∷◌, ◌++◌, length, drop, Some, None, refl, ap, ◌∙◌, arith}
+use Rattle.wasm_valid.proofs.Common.{Operands, empties, on, pile, popped, Operand}
 
 pile_push : (xs : List Operand) (x : Operand) (s : Operands) → pile (xs ++ x ∷ []) s ≡ on x (pile xs s)
 pile_push [] x s = refl
@@ -26,14 +27,6 @@ shown_pop n xs ys x s less e =
     length_push : (zs : List Operand) → length (zs ++ x ∷ []) ≡ length zs + 1
     length_push [] = refl
     length_push (z ∷ zs) = let e : length (zs ++ x ∷ []) ≡ length zs + 1 = length_push zs in omega (arith, e)
-
--- nothing is left above the first n, or something
-pub emptied_pile : (n : ℕ) (xs : List Operand) (dead : Bool) → length xs ≤ n → empties (pile (drop n xs) (bottom dead)) ≡ Some nothing
-emptied_pile n xs dead past = at_drop_all (λ ys. empties (pile ys (bottom dead))) xs n past ∙ bottom_empties dead
-  where
-    bottom_empties : (d : Bool) → empties (bottom d) ≡ Some nothing
-    bottom_empties true = refl
-    bottom_empties false = refl
 
 pub filled_pile : (n : ℕ) (xs : List Operand) (s : Operands) → n < length xs → empties (pile (drop n xs) s) ≡ None
 filled_pile n [] s less = absurd (omega (arith, less))

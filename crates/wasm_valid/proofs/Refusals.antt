@@ -1,6 +1,6 @@
 -- What a refusal of a module says.
+use Rattle.wasm_typing.specs.declared.fault.ValidRefusal.TheVariants as refused
 use Rattle.wasm_valid.proofs.Common.{◌≡◌, ℕ, Err, refl, ap, subst, Module, Invalid, IsValid, Verdict, Fault, ValidCause, ValidRefusal}
-use Rattle.wasm_valid.specs.declared.fault.ValidRefusal.TheVariants as refused
 use Rattle.wasm_valid.specs.SaysVerdict.{SaysVerdict}
 use Rattle.wasm_valid.proofs.Verdicts.{no_fault, same_fault}
 

@@ -1,8 +1,12 @@
 -- What the checker of a body answers of one instruction, of a block and of both branches of an `if`.
-use Rattle.wasm_valid.proofs.Common.{◌≡◌, ℕ, ◌+◌, ◌∷◌, OnOk, Some, None, Ok, Err, Option, Result, sym, refl, ap, ◌∙◌, ValType, I32, Code, If, Otherwise, no_else, kind_tree, otherwise_tree, ElsePart, RustKind, cause_of, plain_token, Operands, Ran, Refusal, and_then, first_end, give, later, no_result, nothing, or_refuse, pop_type, refusal, run_else, run_kind, step, token_count, Context, Labels, Plain, RanTo, all_placed, run_block, run_nested, Steps, Fault, ValidCause, ValidRefusal, Stop}
+use Rattle.wasm_typing.specs.declared.fault.ValidCause.TheVariants.{TypeMismatch}
+use Rattle.wasm_typing.specs.declared.fault.ValidRefusal.TheVariants.{Invalid, Memory}
+use Rattle.wasm_valid.proofs.Common.{◌≡◌, ℕ, ◌+◌, ◌∷◌, OnOk, Some, None, Ok, Err, Option, Result, sym, refl, ap, ◌∙◌, ValType, I32, Code}
+use Rattle.wasm_valid.proofs.Common.{If, Otherwise, no_else, kind_tree, otherwise_tree, ElsePart, RustKind, cause_of, plain_token, Operands}
+use Rattle.wasm_valid.proofs.Common.{Ran, Refusal, and_then, first_end, give, later, no_result, nothing, or_refuse, pop_type, refusal}
+use Rattle.wasm_valid.proofs.Common.{run_else, run_kind, step, token_count, Context, Labels, Plain, RanTo, all_placed, run_block}
+use Rattle.wasm_valid.proofs.Common.{run_nested, Steps, Fault, ValidCause, ValidRefusal, Stop}
 use Rattle.wasm_tree.specs.declared.code.Kind.TheVariants as kind
-use Rattle.wasm_valid.specs.declared.fault.ValidCause.TheVariants.{TypeMismatch}
-use Rattle.wasm_valid.specs.declared.fault.ValidRefusal.TheVariants.{Invalid, Memory}
 use Rattle.wasm_valid.specs.declared.stop.Stop.TheVariants as stop
 
 pub placed_ran : (result : Result Unit Stop) (went : Option Operands) (cause : ValidCause) (place : ℕ) (new : Operands)
@@ -89,16 +93,6 @@ module _ (c : Context) (labels : Labels) (place : ℕ) (t : Option ValType) (cod
         ∙ ap (λ (r : Option ValType). and_then (later (token_count code + 1) (or_refuse (refusal 0 (plain_token e)) (no_result r)))
         (λ _. Ok (give t s'))) te,
   )
-
-  -- without `else` and without a result
-  pub no_else_ran : (o : Option ElsePart) (new : Operands) → o ≡ None → t ≡ None → first no_else ≡ Ok nothing → new ≡ s'
-      → run_kind c labels place (If t code (otherwise_tree o) e) s ≡ Ok new
-  no_else_ran (Some other) new is te h same = absurd (let f : ⊥ = cc in f)
-  no_else_ran None new is te h same =
-      behind no_else h
-      ∙ ap (λ (r : Option ValType). and_then (later (token_count code + 1) (or_refuse (refusal 0 (plain_token e)) (no_result r)))
-      (λ _. Ok (give r s'))) te
-      ∙ ap Ok (sym same)
 
   -- with `else`
   pub else_ran : (other : ElsePart) (x new : Operands) (result : Result Unit ValidRefusal)

@@ -1,6 +1,8 @@
 -- Running a list, one instruction after another.
-use Rattle.wasm_valid.proofs.Common.{◌≡◌, ℕ, ◌+◌, ◌<◌, ◌≤◌, List, ◌∷◌, length, get_or, drop, Ok, Err, sym, refl, ap, ◌∙◌, add_assoc, arith, drop_all, drop_more, code_tree, kind_tree, Instr, Operands, Ran, and_then, later, refusal, run, run_kind, kind_token_count, Context, Labels, RanTo, Fault, ValidRefusal}
-use Rattle.wasm_valid.specs.declared.fault.ValidRefusal.TheVariants.{Invalid, Memory}
+use Rattle.wasm_typing.specs.declared.fault.ValidRefusal.TheVariants.{Invalid, Memory}
+use Rattle.wasm_valid.proofs.Common.{◌≡◌, ℕ, ◌+◌, ◌<◌, ◌≤◌, List, ◌∷◌, length, get_or, drop, Ok, Err, sym, refl, ap, ◌∙◌, add_assoc, arith}
+use Rattle.wasm_valid.proofs.Common.{drop_all, drop_more, code_tree, kind_tree, Instr, Operands, Ran, and_then, later, refusal, run}
+use Rattle.wasm_valid.proofs.Common.{run_kind, kind_token_count, Context, Labels, RanTo, Fault, ValidRefusal}
 
 pub later_none : (r : Ran) → r ≡ later 0 r
 later_none (Ok s) = refl

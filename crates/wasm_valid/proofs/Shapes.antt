@@ -1,5 +1,6 @@
 -- The faults of expressions: none of code that is more than one instruction; section by section.
-use Rattle.wasm_valid.proofs.Common.{◌≡◌, ℕ, ◌≤◌, Bool, List, [], ◌∷◌, length, sym, refl, ap, ◌∙◌, arith, ValType, Code, GlobalGet, I32Const, I64Const, Kind, then_code, code_tree, kind_tree, Instr, neither, shape_of}
+use Rattle.wasm_valid.proofs.Common.{◌≡◌, ℕ, ◌≤◌, Bool, List, [], ◌∷◌, length, sym, refl, ap, ◌∙◌, arith, ValType, Code, GlobalGet}
+use Rattle.wasm_valid.proofs.Common.{I32Const, I64Const, Kind, then_code, code_tree, kind_tree, Instr, neither, shape_of}
 
 -- two instructions or more are no expression of one
 two_instructions : (globals : List (ValType × Bool)) (p q : ℕ) (k l : Kind) (code : Code)

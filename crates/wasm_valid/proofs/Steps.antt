@@ -1,7 +1,10 @@
 -- Instructions that look something up and then take and put operands: where it is there, only the operands can be faulty.
-use Rattle.wasm_valid.proofs.Common.{◌≡◌, ℕ, Bool, true, false, ◌||◌, List, [], ◌∷◌, ◌++◌, is_none, slice_get, Some, None, Ok, Err, Option, Result, sym, ap, ◌∙◌, list_any-append, list_any, FuncType, ValType, I32, BrTable, Call, CallIndirect, cause_of, first_cause, Operands, all_labels, anything, has_table, jump, on_some, pop_type, pop_types, step, turn, when, Context, Labels, Plain, any_missing, Steps, values, ValidCause, Stop}
+use Rattle.wasm_typing.specs.declared.fault.ValidCause.TheVariants as cause
+use Rattle.wasm_valid.proofs.Common.{◌≡◌, ℕ, Bool, true, false, ◌||◌, List, [], ◌∷◌, ◌++◌, is_none, slice_get, Some, None, Ok, Err, Option}
+use Rattle.wasm_valid.proofs.Common.{Result, sym, ap, ◌∙◌, list_any-append, list_any, FuncType, ValType, I32, BrTable, Call, CallIndirect}
+use Rattle.wasm_valid.proofs.Common.{cause_of, first_cause, Operands, all_labels, anything, has_table, jump, on_some, pop_type, pop_types}
+use Rattle.wasm_valid.proofs.Common.{step, turn, when, Context, Labels, Plain, any_missing, Steps, values, ValidCause, Stop}
 use Rattle.w2c_base.specs.Lookup.{if_found}
-use Rattle.wasm_valid.specs.declared.fault.ValidCause.TheVariants as cause
 use Rattle.wasm_valid.specs.declared.stop.Stop.TheVariants as stop
 use Rattle.wasm_valid.proofs.Needs.{not_none}
 

@@ -1,5 +1,8 @@
 -- Each module has one list of faults, and with it one verdict; it is accepted exactly where it is valid.
-use Rattle.wasm_valid.proofs.Common.{◌≡◌, ◌⊎◌, List, [], ◌∷◌, ◌++◌, Some, None, Option, sym, refl, ap, ◌∙◌, inl, inr, BodyEntry, Module, FirstBodyFault, Context, body_context, module_faults, BodyHasType, Accepted, AreTyped, Bodies, FaultOfBody, FaultsOfBodies, Invalid, IsTyped, IsValid, Outcome, Verdict, bodies_of, first_fault, outcome_of, Fault}
+use Rattle.wasm_valid.proofs.Common.{◌≡◌, ◌⊎◌, List, [], ◌∷◌, ◌++◌, Some, None, Option, sym, refl, ap, ◌∙◌, inl, inr, BodyEntry, Module}
+use Rattle.wasm_valid.proofs.Common.{FirstBodyFault, Context, body_context, module_faults, BodyHasType, Accepted, AreTyped, Bodies}
+use Rattle.wasm_valid.proofs.Common.{FaultOfBody, FaultsOfBodies, Invalid, IsTyped, IsValid, Outcome, Verdict, bodies_of, first_fault}
+use Rattle.wasm_valid.proofs.Common.{outcome_of, Fault}
 use Rattle.wasm_valid.proofs.FirstFaults.{one_or_other, exclusive, one_fault}
 
 faults_of_body : (o : Option Context) (body : BodyEntry) → (faults : List Fault) × FaultOfBody o body faults
@@ -64,11 +67,8 @@ typed_bodies : (m : Module) (bodies : Bodies) → AreTyped m bodies → FaultsOf
 typed_bodies m [] h = refl
 typed_bodies m (b ∷ bodies) h = ([], [], typed_body (body_context m b.0 b.1) b.1 h.0, typed_bodies m bodies h.1, refl)
 
-accepted_behind : (outside : List Fault) (m : Module) (bodies : Bodies) → outside ≡ [] → AreTyped m bodies → Says outside m bodies Accepted
-accepted_behind outside m bodies none h = ([], ([], typed_bodies m bodies h, sym (ap (λ x. x ++ []) none)), refl)
-
 pub accepted : (m : Module) → IsValid m → Verdict m Accepted
-accepted m v = accepted_behind (module_faults m) m (bodies_of m) v.no_faults v.bodies
+accepted m v = ([], ([], typed_bodies m (bodies_of m) v.bodies, sym (ap (λ x. x ++ []) v.no_faults)), refl)
 
 no_fault_body : (o : Option Context) (body : BodyEntry) (faults : List Fault) → faults ≡ [] → FaultOfBody o body faults → IsTyped o body
 no_fault_body None body faults e h = tt

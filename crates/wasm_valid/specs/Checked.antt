@@ -1,7 +1,7 @@
 -- What the checker answers of code, as what the checker on trees says.
 use Rattle.std.specs.Prelude.{◌≡◌, ℕ, Result, Ok, Err}
-use Rattle.wasm_valid.specs.declared.fault.ValidRefusal.{ValidRefusal}
-use Rattle.wasm_valid.specs.declared.fault.ValidRefusal.TheVariants.{Invalid, Memory}
+use Rattle.wasm_typing.specs.declared.fault.ValidRefusal.{ValidRefusal}
+use Rattle.wasm_typing.specs.declared.fault.ValidRefusal.TheVariants.{Invalid, Memory}
 use Rattle.wasm_valid.specs.Checker.{Operands, Ran, refusal}
 
 -- it went on to some operands, or was refused at some token by this fault

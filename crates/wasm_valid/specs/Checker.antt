@@ -1,18 +1,21 @@
 -- The checker on trees. It is a tool of the proof: what is promised stands in Typing, BodyFault and Verdict.
-use Rattle.std.specs.Prelude.{ℕ, ◌+◌, ◌^◌, List, [], ◌∷◌, ◌++◌, reverse, Option, Some, None, Result, Ok, Err, Bool, true, false, ◌&&◌, slice_get, nat_le, is_some, if◌then◌else◌}
+use Rattle.std.specs.Prelude.{ℕ, ◌+◌, ◌^◌, List, [], ◌∷◌, ◌++◌, reverse, Option, Some, None, Result, Ok, Err, Bool, true, false, ◌&&◌}
+use Rattle.std.specs.Prelude.{slice_get, nat_le, is_some, if◌then◌else◌}
 use Rattle.w2c_base.specs.declared.value.ValType.{ValType}
 use Rattle.w2c_base.specs.declared.value.ValType.TheVariants.{I32}
 use Rattle.w2c_base.specs.Values.{equal_type, equal_results}
-use Rattle.wasm_tree.specs.Instructions.{Code, end_code, then_code, Kind, Otherwise, no_else, else_code, Unreachable, Return, Drop, Select, MemorySize, MemoryGrow, MemoryCopy, MemoryFill, Block, Loop, If, Br, BrIf, BrTable, Call, CallIndirect, LocalGet, LocalSet, LocalTee, GlobalGet, GlobalSet, Load, Store}
+use Rattle.wasm_tree.specs.Instructions.{Code, end_code, then_code, Kind, Otherwise, no_else, else_code, Unreachable, Return, Drop, Select}
+use Rattle.wasm_tree.specs.Instructions.{MemorySize, MemoryGrow, MemoryCopy, MemoryFill, Block, Loop, If, Br, BrIf, BrTable, Call}
+use Rattle.wasm_tree.specs.Instructions.{CallIndirect, LocalGet, LocalSet, LocalTee, GlobalGet, GlobalSet, Load, Store}
 use Rattle.wasm_tree.specs.InstructionTable.{Typing, of_types, by_rule}
 use Rattle.wasm_tree.specs.Accesses.{load_width, store_width}
+use Rattle.wasm_typing.specs.declared.fault.Fault.{Fault}
+use Rattle.wasm_typing.specs.Context.{Context, Labels}
+use Rattle.wasm_typing.specs.Typing.{values, table_type}
+use Rattle.wasm_typing.specs.Completion.{token_count, kind_token_count}
+use Rattle.wasm_typing.specs.BodyFault.{cause_of, plain_token}
 use Rattle.wasm_valid.specs.declared.operand.Operand.{Operand}
 use Rattle.wasm_valid.specs.declared.operand.Operand.TheVariants.{Known, Unknown}
-use Rattle.wasm_valid.specs.declared.fault.Fault.{Fault}
-use Rattle.wasm_valid.specs.Context.{Context, Labels}
-use Rattle.wasm_valid.specs.Typing.{values, table_type}
-use Rattle.wasm_valid.specs.Completion.{token_count, kind_token_count}
-use Rattle.wasm_valid.specs.BodyFault.{cause_of, plain_token}
 
 -- the operands of one block, the top first; below them stands nothing, or in dead code whatever is asked for
 pub data Operands : Type 0 where

@@ -1,6 +1,6 @@
 -- Faults that are entered one by one: the one with the least place is kept, and of several there the earliest.
 use Rattle.std.specs.Prelude.{if◌then◌else◌, nat_lt, List, [], ◌∷◌, Option, Some, None}
-use Rattle.wasm_valid.specs.declared.fault.Fault.{Fault}
+use Rattle.wasm_typing.specs.declared.fault.Fault.{Fault}
 
 abbrev pub kept : Option Fault → Fault → Fault
 kept None fault = fault

@@ -5,10 +5,10 @@ use Rattle.wasm_tree.specs.declared.tree.Module.{Module}
 use Rattle.wasm_tree.specs.declared.entries.FuncEntry.{FuncEntry}
 use Rattle.wasm_tree.specs.declared.entries.BodyEntry.{BodyEntry}
 use Rattle.wasm_tree.specs.IndexSpaces.{declared_locals}
-use Rattle.wasm_valid.specs.declared.fault.Fault.{Fault}
+use Rattle.wasm_typing.specs.declared.fault.Fault.{Fault}
+use Rattle.wasm_typing.specs.Context.{Context}
+use Rattle.wasm_typing.specs.Verdict.{Bodies, FaultOfBody, FaultsOfBodies}
 use Rattle.wasm_valid.specs.declared.context.Spaces.{Spaces}
-use Rattle.wasm_valid.specs.Context.{Context}
-use Rattle.wasm_valid.specs.Verdict.{Bodies, FaultOfBody, FaultsOfBodies}
 use Rattle.wasm_valid.specs.Entered.{entered}
 use Rattle.wasm_valid.specs.Seen.{type_seen, context_seen}
 

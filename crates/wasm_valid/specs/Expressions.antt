@@ -7,8 +7,10 @@ use Rattle.wasm_tree.specs.declared.entries.GlobalEntry.{GlobalEntry}
 use Rattle.wasm_tree.specs.declared.entries.ElementEntry.{ElementEntry}
 use Rattle.wasm_tree.specs.declared.entries.SegmentEntry.{SegmentEntry}
 use Rattle.wasm_tree.specs.IndexSpaces.{imported_global_space, global_space}
-use Rattle.wasm_valid.specs.declared.fault.Fault.{Fault}
-use Rattle.wasm_valid.specs.declared.fault.ValidCause.TheVariants as cause
+use Rattle.wasm_typing.specs.declared.fault.Fault.{Fault}
+use Rattle.wasm_typing.specs.declared.fault.ValidCause.TheVariants as cause
+use Rattle.wasm_typing.specs.ModuleFaults.{fault_if, Expression, Shape, constant, got, got_unknown, neither, shape_of, is_no_constant}
+use Rattle.wasm_typing.specs.ModuleFaults.{is_got_unknown, has_other_type}
 use Rattle.wasm_valid.specs.declared.context.Spaces.{Spaces}
 use Rattle.wasm_valid.specs.declared.expressions.Reach.{Reach}
 use Rattle.wasm_valid.specs.declared.expressions.Reach.TheVariants.{Imported, All}
@@ -16,7 +18,6 @@ use Rattle.wasm_valid.specs.declared.expressions.Shape.{Shape as RustShape}
 use Rattle.wasm_valid.specs.declared.expressions.Shape.TheVariants.{Constant, Got, GotUnknown, Neither}
 use Rattle.wasm_valid.specs.declared.expressions.ExpressionRow.{ExpressionRow}
 use Rattle.wasm_valid.specs.declared.expressions.ExpressionRow.TheVariants.{ConstantExpected, UnknownGlobal, TypeMismatch}
-use Rattle.wasm_valid.specs.ModuleFaults.{fault_if, Expression, Shape, constant, got, got_unknown, neither, shape_of, is_no_constant, is_got_unknown, has_other_type}
 
 abbrev pub shape_seen : RustShape → Shape
 shape_seen (Constant ty) = constant ty

@@ -4,7 +4,7 @@ use Rattle.wasm_tree.specs.declared.tree.Module.{Module}
 use Rattle.wasm_spelling.specs.declared.fault.ReadFault.{ReadFault}
 use Rattle.wasm_spelling.specs.ModuleFields.{Spells}
 use Rattle.wasm_spelling.specs.Table.{Upto}
-use Rattle.wasm_valid.specs.Verdict.{Outcome, Verdict}
+use Rattle.wasm_typing.specs.Verdict.{Outcome, Verdict}
 
 pub data FileVerdict : Type 0 where
   Unread : ReadFault → FileVerdict

@@ -4,14 +4,14 @@ use Rattle.std.specs.Prelude.{◌^◌, List, [], ◌∷◌, Option, Some, None, 
 use Rattle.wasm_tree.specs.Instructions.{Kind, MemorySize, MemoryGrow, MemoryCopy, MemoryFill, Load, Store}
 use Rattle.wasm_tree.specs.Accesses.{load_width, store_width}
 use Rattle.wasm_tree.specs.InstructionTable.{Typing, of_types, by_rule}
+use Rattle.wasm_typing.specs.declared.fault.ValidCause.{ValidCause}
+use Rattle.wasm_typing.specs.Context.{Context}
+use Rattle.wasm_typing.specs.Typing.{values, table_type}
+use Rattle.wasm_typing.specs.BodyFault.{CauseRow, first_cause, no_memory, misaligned}
 use Rattle.wasm_valid.specs.declared.numeric.Needs.{Needs}
 use Rattle.wasm_valid.specs.declared.numeric.Needs.TheVariants.{Nothing, Memory, Access}
 use Rattle.wasm_valid.specs.declared.numeric.InstrType.{InstrType}
-use Rattle.wasm_valid.specs.declared.fault.ValidCause.{ValidCause}
-use Rattle.wasm_valid.specs.Context.{Context}
-use Rattle.wasm_valid.specs.Typing.{values, table_type}
 use Rattle.wasm_valid.specs.Checker.{Operands, when, has_memory, turn_tabled}
-use Rattle.wasm_valid.specs.BodyFault.{CauseRow, first_cause, no_memory, misaligned}
 
 abbrev pub needs_of : Kind → Needs
 needs_of (Load op arg) = Access arg.align (load_width op)

@@ -2,13 +2,13 @@
 use Rattle.std.specs.Prelude.{◌≡◌, List, reverse, Option, Some, None, Result, Ok, Err}
 use Rattle.w2c_base.specs.declared.value.ValType.{ValType}
 use Rattle.wasm_tree.specs.Instructions.{Kind}
-use Rattle.wasm_valid.specs.declared.fault.ValidCause.{ValidCause}
+use Rattle.wasm_typing.specs.declared.fault.ValidCause.{ValidCause}
+use Rattle.wasm_typing.specs.Context.{Context}
+use Rattle.wasm_typing.specs.BodyFault.{cause_of}
 use Rattle.wasm_valid.specs.declared.stop.Stop.{Stop}
 use Rattle.wasm_valid.specs.declared.stop.Stop.TheVariants.{Cause, Memory}
 use Rattle.wasm_valid.specs.declared.operands.OperandStack.{OperandStack}
-use Rattle.wasm_valid.specs.Context.{Context}
 use Rattle.wasm_valid.specs.Checker.{Operands, step}
-use Rattle.wasm_valid.specs.BodyFault.{cause_of}
 use Rattle.wasm_valid.specs.Shown.{shown}
 
 -- it went on to these operands, or was refused for this cause

@@ -2,12 +2,12 @@
 use Rattle.std.specs.Prelude.{◌≡◌, ℕ, Bool, true, false, List, Option, None, Result, Ok, Err, slice_get, is_none}
 use Rattle.std.specs.List.{list_any}
 use Rattle.w2c_base.specs.declared.value.ValType.{ValType}
-use Rattle.wasm_valid.specs.declared.fault.ValidCause.TheVariants as cause
+use Rattle.wasm_typing.specs.declared.fault.ValidCause.TheVariants as cause
+use Rattle.wasm_typing.specs.Context.{Context, Labels}
+use Rattle.wasm_typing.specs.BodyFault.{first_cause}
 use Rattle.wasm_valid.specs.declared.stop.Stop.{Stop}
 use Rattle.wasm_valid.specs.declared.stop.Stop.TheVariants.{Cause, Memory}
 use Rattle.wasm_valid.specs.declared.numeric.Needs.{Needs}
-use Rattle.wasm_valid.specs.Context.{Context, Labels}
-use Rattle.wasm_valid.specs.BodyFault.{first_cause}
 use Rattle.wasm_valid.specs.Checker.{Operands, has_memory, all_labels}
 use Rattle.wasm_valid.specs.Needs.{where_met, unmet}
 

@@ -2,18 +2,18 @@
 use Rattle.std.specs.Prelude.{◌≡◌, ℕ, ◌-◌, ◌++◌, [], ◌∷◌, reverse, take, vec_len, Option, Result, Ok, Err}
 use Rattle.w2c_base.specs.declared.value.ValType.{ValType}
 use Rattle.wasm_tree.specs.Instructions.{Code}
-use Rattle.wasm_valid.specs.declared.fault.ValidRefusal.{ValidRefusal}
-use Rattle.wasm_valid.specs.declared.fault.ValidRefusal.TheVariants as refused
+use Rattle.wasm_typing.specs.declared.fault.ValidRefusal.{ValidRefusal}
+use Rattle.wasm_typing.specs.declared.fault.ValidRefusal.TheVariants as refused
+use Rattle.wasm_typing.specs.Context.{Context, Labels}
+use Rattle.wasm_typing.specs.BodyFault.{plain_token}
+use Rattle.wasm_typing.specs.Completion.{token_count}
 use Rattle.wasm_valid.specs.declared.stop.Stop.{Stop}
 use Rattle.wasm_valid.specs.declared.stop.Stop.TheVariants as stop
 use Rattle.wasm_valid.specs.declared.operands.Height.{Height}
 use Rattle.wasm_valid.specs.declared.plain.Surroundings.{Surroundings}
 use Rattle.wasm_valid.specs.declared.body.OpenBlocks.{OpenBlocks}
-use Rattle.wasm_valid.specs.Context.{Context, Labels}
-use Rattle.wasm_valid.specs.BodyFault.{plain_token}
 use Rattle.wasm_valid.specs.Seen.{context_seen}
 use Rattle.wasm_valid.specs.Checker.{Operands, nothing, Ran, refusal, or_refuse, and_then, later, closes, at_end, give, run}
-use Rattle.wasm_valid.specs.Completion.{token_count}
 use Rattle.wasm_valid.specs.Shown.{shown, Keeps}
 
 -- the context of a body

@@ -4,9 +4,10 @@ use Rattle.w2c_base.specs.declared.value.ValType.{ValType}
 use Rattle.w2c_base.specs.declared.signature.FuncType.{FuncType}
 use Rattle.wasm_tree.specs.declared.tree.Module.{Module}
 use Rattle.wasm_tree.specs.declared.entries.Import.{Import}
-use Rattle.wasm_tree.specs.IndexSpaces.{func_of_import, table_of_import, memory_of_import, global_of_import, func_space, table_space, memory_space, imported_global_space, global_space}
+use Rattle.wasm_tree.specs.IndexSpaces.{func_of_import, table_of_import, memory_of_import, global_of_import, func_space, table_space}
+use Rattle.wasm_tree.specs.IndexSpaces.{memory_space, imported_global_space, global_space}
+use Rattle.wasm_typing.specs.Context.{Context}
 use Rattle.wasm_valid.specs.declared.context.Spaces.{Spaces}
-use Rattle.wasm_valid.specs.Context.{Context}
 
 -- the type with an index
 abbrev pub type_seen : Spaces → ℕ → Option FuncType

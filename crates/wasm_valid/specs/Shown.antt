@@ -1,6 +1,6 @@
 -- The operand stack in memory, seen as the operands of the innermost open block and what lies below them.
 use Rattle.std.specs.Prelude.{◌≡◌, List, [], ◌∷◌, take, drop, Option, Some, None, Result, Ok, Err, Bool, true, false}
-use Rattle.wasm_valid.specs.declared.fault.ValidCause.TheVariants as cause
+use Rattle.wasm_typing.specs.declared.fault.ValidCause.TheVariants as cause
 use Rattle.wasm_valid.specs.declared.stop.Stop.{Stop}
 use Rattle.wasm_valid.specs.declared.stop.Stop.TheVariants.{Cause, Memory}
 use Rattle.wasm_valid.specs.declared.operand.Operand.{Operand}

@@ -1,6 +1,6 @@
 -- What two operands have in common, as an answer: there is such an operand, or none.
 use Rattle.std.specs.Prelude.{◌≡◌, Option, Some, None, Result, Ok, Err}
-use Rattle.wasm_valid.specs.declared.fault.ValidCause.TheVariants as cause
+use Rattle.wasm_typing.specs.declared.fault.ValidCause.TheVariants as cause
 use Rattle.wasm_valid.specs.declared.stop.Stop.{Stop}
 use Rattle.wasm_valid.specs.declared.stop.Stop.TheVariants.{Cause, Memory}
 use Rattle.wasm_valid.specs.declared.operand.Operand.{Operand}

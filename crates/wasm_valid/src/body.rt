@@ -12,10 +12,10 @@ use crate::context::{Spaces, locals_of};
 use crate::operands::{Height, OperandStack};
 use crate::plain::Surroundings;
 use crate::stop::Stop;
-use crate::{ValidCause, ValidRefusal};
 use std::alloc::Global;
 use w2c_base::{FuncType, Memory, ValType};
 use wasm_tree::{BodyEntry, Code, ElsePart, Instr, Kind};
+use wasm_typing::{ValidCause, ValidRefusal};
 
 /// Checks the body of a function of this type. It is refused by its first faulty token.
 pub(crate) fn check_body(

@@ -13,19 +13,20 @@ use wasm_tree::{
 /// The index spaces of a module (WebAssembly Core 1.0, 2.5.1), imports first. They are made once, so that an index is
 /// looked up without a search.
 #[derive(Drop)]
-pub(crate) struct Spaces<'a> {
-    types: &'a [TypeEntry],
+pub struct Spaces<'a> {
+    pub types: &'a [TypeEntry],
     /// The index of each function's type.
-    funcs: Vec<u32>,
-    pub(crate) tables: Vec<Limits>,
-    pub(crate) memories: Vec<Limits>,
-    globals: Vec<(ValType, bool)>,
-    imported_globals: usize,
+    pub funcs: Vec<u32>,
+    pub tables: Vec<Limits>,
+    pub memories: Vec<Limits>,
+    /// Each global's type, and whether it is mutable.
+    pub globals: Vec<(ValType, bool)>,
+    pub imported_globals: usize,
 }
 
 impl<'a> Spaces<'a> {
     /// The index spaces of a module.
-    pub(crate) fn new(alloc: Global, m: &'a Module) -> Result<Spaces<'a>, Memory>
+    pub fn new(alloc: Global, m: &'a Module) -> Result<Spaces<'a>, Memory>
         ensures { IfOk result (λ s. AreSpacesOf s m.now) }
     {
         let mut spaces = Spaces {
@@ -79,14 +80,14 @@ impl<'a> Spaces<'a> {
     }
 
     /// The index of a function's type.
-    pub(crate) fn type_index(&self, func: u32) -> Option<u32>
+    pub fn type_index(&self, func: u32) -> Option<u32>
         ensures { result ≡ slice_get self.now.funcs.items func }
     {
         self.funcs.get(func as usize).copied()
     }
 
     /// A global's type, and whether it is mutable.
-    pub(crate) fn global(&self, index: u32) -> Option<(ValType, bool)>
+    pub fn global(&self, index: u32) -> Option<(ValType, bool)>
         ensures { result ≡ slice_get self.now.globals.items index }
     {
         self.globals.get(index as usize).copied()

@@ -1,9 +1,9 @@
 // The first of faults that are entered one by one.
 ghost use Rattle.std.specs.Prelude.{◌≡◌, [], ◌∷◌, None};
+ghost use Rattle.wasm_typing.specs.ModuleFaults.{fault_if};
 ghost use Rattle.wasm_valid.specs.Entered.{entered};
-ghost use Rattle.wasm_valid.specs.ModuleFaults.{fault_if};
 
-use crate::{Fault, ValidCause};
+use wasm_typing::{Fault, ValidCause};
 
 /// The fault with the least place; of several there the one that was entered first.
 #[derive(Clone, Copy)]

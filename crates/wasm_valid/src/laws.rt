@@ -1,12 +1,12 @@
 // Laws of the definitions. Each is the contract of a function that does nothing.
 ghost use Rattle.std.specs.Prelude.{◌≡◌, ◌≤◌, ◌⊎◌, ℕ, List, length};
 ghost use Rattle.wasm_tree.specs.declared.entries.BodyEntry.{BodyEntry as Body};
-ghost use Rattle.wasm_valid.specs.declared.fault.Fault.{Fault as BodyFault};
-ghost use Rattle.wasm_valid.specs.Context.{Context};
-ghost use Rattle.wasm_valid.specs.Typing.{BodyHasType};
-ghost use Rattle.wasm_valid.specs.BodyFault.{FirstBodyFault};
+ghost use Rattle.wasm_typing.specs.declared.fault.Fault.{Fault as BodyFault};
+ghost use Rattle.wasm_typing.specs.Context.{Context};
+ghost use Rattle.wasm_typing.specs.Typing.{BodyHasType};
+ghost use Rattle.wasm_typing.specs.BodyFault.{FirstBodyFault};
 ghost use Rattle.wasm_tree.specs.declared.tree.Module.{Module as Tree};
-ghost use Rattle.wasm_valid.specs.Verdict.{Outcome, Verdict, Accepted, IsValid};
+ghost use Rattle.wasm_typing.specs.Verdict.{Outcome, Verdict, Accepted, IsValid};
 ghost use Rattle.wasm_valid.specs.FileVerdict.{FileVerdict, IsVerdictOn};
 
 /// A body has a typing or a first fault, never both, and one first fault at most.

@@ -1,11 +1,9 @@
-//! Validation of modules: the typing rules, and the first fault of a module that breaks one.
+//! Validation of modules: whether a module keeps the typing rules, and the first fault of one that breaks them.
 #![tactic(auto)]
 
 mod body;
-mod cases;
 mod context;
 mod expressions;
-mod fault;
 mod first;
 mod laws;
 mod numeric;
@@ -16,10 +14,10 @@ mod rows;
 mod stop;
 mod valid;
 
-pub use cases::{body_cases, module_cases};
-pub use fault::{Fault, ValidCause, ValidRefusal};
+pub use context::Spaces;
 pub use laws::{
     each_body_has_a_typing_or_one_first_fault, each_file_has_one_verdict,
     each_module_has_one_verdict,
 };
-pub use valid::ValidModule;
+pub use valid::Check;
+pub use wasm_typing::{Fault, ValidCause, ValidModule, ValidRefusal};

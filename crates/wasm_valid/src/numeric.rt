@@ -5,7 +5,7 @@ ghost use Rattle.wasm_tree.specs.declared.operators.Parts.TheVariants.{Other};
 ghost use Rattle.wasm_tree.specs.InstructionTable.{of_types};
 ghost use Rattle.wasm_tree.specs.Parts.{access_tree, numeric_tree, parts_of, simple_tree};
 ghost use Rattle.wasm_tree.specs.Views.{kind_tree};
-ghost use Rattle.wasm_valid.specs.Typing.{table_type, values};
+ghost use Rattle.wasm_typing.specs.Typing.{table_type, values};
 ghost use Rattle.wasm_valid.specs.Needs.{needs_of, typing_seen, needs_seen};
 
 use w2c_base::ValType;

@@ -24,9 +24,9 @@ pub(crate) struct OperandStack {
 
 impl OperandStack {
     ghost use Rattle.std.specs.Prelude.{◌≡◌, ◌↔◌, IsTrue, reverse, Some, OnOk};
+    ghost use Rattle.wasm_typing.specs.Typing.{values};
     ghost use Rattle.wasm_valid.specs.Checker.{nothing, anything, on, pop_type, pop_types, turn, give, chosen, on_some, closes};
     ghost use Rattle.w2c_base.specs.declared.value.ValType.TheVariants as ty;
-    ghost use Rattle.wasm_valid.specs.Typing.{values};
     ghost use Rattle.wasm_valid.specs.Shown.{shown, Keeps, Steps, Pops};
 
     /// No operands. It takes no memory.

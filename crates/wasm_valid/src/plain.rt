@@ -4,23 +4,23 @@ ghost use Rattle.w2c_base.specs.Values.{equal_results};
 ghost use Rattle.w2c_base.specs.declared.value.ValType.TheVariants as ty;
 ghost use Rattle.wasm_tree.specs.Instructions as tree;
 ghost use Rattle.wasm_tree.specs.Views.{kind_tree};
-ghost use Rattle.wasm_valid.specs.declared.fault.ValidCause.TheVariants as cause;
-ghost use Rattle.wasm_valid.specs.Typing.{values};
+ghost use Rattle.wasm_typing.specs.declared.fault.ValidCause.TheVariants as cause;
+ghost use Rattle.wasm_typing.specs.Typing.{values};
+ghost use Rattle.wasm_typing.specs.Context.{Context};
 ghost use Rattle.wasm_valid.specs.Checker.{jump, turn};
 ghost use Rattle.wasm_valid.specs.Shown.{shown, Keeps, Steps};
-ghost use Rattle.wasm_valid.specs.Context.{Context};
 ghost use Rattle.wasm_valid.specs.Needs.{row_step, row_cause};
 ghost use Rattle.wasm_valid.specs.Plain.{Plain, Finds, Does};
 ghost use Rattle.wasm_valid.specs.PlainParts.{Meets, Agrees, HasMemoryOr};
 ghost use Rattle.wasm_valid.specs.RanTo.{seen};
 
-use crate::ValidCause;
 use crate::context::Spaces;
 use crate::numeric::{Needs, fixed_type, is_aligned};
 use crate::operands::OperandStack;
 use crate::stop::Stop;
 use w2c_base::ValType;
 use wasm_tree::Kind;
+use wasm_typing::ValidCause;
 
 /// What stands around a body: the index spaces of the module, the locals and the result.
 #[derive(Clone, Copy)]

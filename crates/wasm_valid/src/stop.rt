@@ -3,8 +3,8 @@ ghost use Rattle.std.specs.Prelude.{◌≡◌};
 ghost use Rattle.wasm_valid.specs.RanTo.{placed};
 ghost use Rattle.wasm_valid.specs.declared.stop.Stop.TheVariants.{Memory as memory_wanted};
 
-use crate::{ValidCause, ValidRefusal};
 use std::alloc::{AllocError, AllocFailed};
+use wasm_typing::{ValidCause, ValidRefusal};
 
 /// A cause, or want of memory.
 #[derive(Clone, Copy)]

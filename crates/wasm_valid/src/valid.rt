@@ -1,48 +1,24 @@
-// Valid modules (WebAssembly Core 1.0, 3.4.10).
+// The checker of modules (WebAssembly Core 1.0, 3.4.10).
 ghost use Rattle.std.specs.Prelude.{◌≡◌, ◌≢◌, Ok, Err, IfOk, OnOk};
-ghost use Rattle.wasm_tree.specs.declared.tree.Module.{Module as Tree};
 ghost use Rattle.wasm_spelling.specs.Places.{IsFormed};
-ghost use Rattle.wasm_valid.specs.declared.fault.Fault.{Fault as OneFault};
-ghost use Rattle.wasm_valid.specs.declared.fault.ValidRefusal.TheVariants.{Invalid as refused_by, Memory as memory_wanted};
-ghost use Rattle.wasm_valid.specs.Verdict.{Verdict, Invalid, IsValid, bodies_of};
+ghost use Rattle.wasm_typing.specs.declared.fault.Fault.{Fault as OneFault};
+ghost use Rattle.wasm_typing.specs.declared.fault.ValidRefusal.TheVariants.{Invalid as refused_by, Memory as memory_wanted};
+ghost use Rattle.wasm_typing.specs.Verdict.{Verdict, Invalid, IsValid, bodies_of};
 ghost use Rattle.wasm_valid.specs.SaysVerdict.{SaysVerdict};
 ghost use Rattle.wasm_valid.specs.Seen.{AreSpacesOf};
 ghost use Rattle.wasm_valid.specs.EnteredBodies.{body_context_seen, EntersBody, EntersBodies};
 
-use crate::ValidRefusal;
 use crate::body::check_body;
 use crate::context::Spaces;
 use crate::first::FirstFault;
 use crate::rows::enter_module_faults;
 use std::alloc::Global;
-use std::marker::Model;
 use w2c_base::Memory;
 use wasm_tree::{BodyEntry, FuncEntry, Module};
+use wasm_typing::{ValidModule, ValidRefusal};
 
-/// A module that has a file, in which every body has a typing, and that has no fault outside its bodies. So it keeps
-/// within the limits of reading (`a_formed_module_keeps_within_the_limits` of wasm_spelling).
-#[derive(Drop)]
-pub struct ValidModule {
-    tree: Module,
-}
-
-impl Model for ValidModule {
-    ghost use Rattle.std.specs.Coded.{codes};
-    ghost use Rattle.wasm_tree.specs.declared.tree.Module.{Module as Tree};
-    ghost use Rattle.wasm_tree.specs.contracts.code.Code as code;
-    ghost use Rattle.wasm_spelling.specs.Places.{IsFormed};
-    ghost use Rattle.wasm_valid.specs.Verdict.{IsValid};
-
-    ghost Value = { Tree };
-
-    ghost coded = { Prim.hlevel (codes, code.the_row.coded) };
-
-    ghost view = { λ v. v.tree };
-
-    ghost invariant = { λ v. IsValid v.tree × IsFormed v.tree };
-}
-
-impl ValidModule {
+/// Modules that are checked.
+pub trait Check {
     /// Checks a module. The checker calls itself for each block in a block: in a module that has a file they are at
     /// most 500 deep.
     ///
@@ -51,7 +27,7 @@ impl ValidModule {
     /// `Invalid` where the module is not valid, with its first fault: the one with the least place, and of several there
     /// the one of the earliest row of the table of causes. `Memory` where memory was wanting, which may come in any case.
     /// The module is dropped.
-    pub fn check(alloc: Global, m: Module) -> Result<ValidModule, ValidRefusal>
+    fn check(alloc: Global, m: Module) -> Result<ValidModule, ValidRefusal>
         // Some file spells it, places aside.
         requires { IsFormed m }
         // What is accepted is this module,
@@ -64,21 +40,15 @@ impl ValidModule {
         ensures first { (fault : OneFault) → result ≡ Err (refused_by fault.place fault.cause) → Verdict m (Invalid fault) }
         // The first fault is given.
         ensures first_only { (fault : OneFault) → Verdict m (Invalid fault) → result ≢ Err memory_wanted
-            → result ≡ Err (refused_by fault.place fault.cause) }
-    {
+            → result ≡ Err (refused_by fault.place fault.cause) };
+}
+
+impl Check for ValidModule {
+    fn check(alloc: Global, m: Module) -> Result<ValidModule, ValidRefusal> {
         match refuse_faults(alloc, &m) {
-            Ok(()) => Ok(ValidModule { tree: m }),
+            Ok(()) => Ok(ValidModule::known(m)),
             Err(refusal) => Err(refusal),
         }
-    }
-
-    /// The module that was checked.
-    pub fn module(&self) -> &Module
-        ensures same { result.now ≡ self.now }
-        ensures valid { IsValid result.now }
-        ensures formed { IsFormed result.now }
-    {
-        &self.tree
     }
 }
 

@@ -1,5 +1,8 @@
 -- Spellings with the places aside: of whole modules, and of those without what may be left out.
-use Rattle.wasm_writing.proofs.Common.{ℕ, ◌+◌, ◌≤◌, List, [], ◌∷◌, ◌++◌, length, sym, refl, ap, subst, inl, inr, arith, length-append, cases_Bool, Module, Custom, Fields, Spelled, byte, either, finished, for_some, here, number, provided, signed, text, window, Part, content, custom, each, is_empty, module_fields, parts, section, sections, filled, short_fields}
+use Rattle.wasm_writing.proofs.Common.{ℕ, ◌+◌, ◌≤◌, List, [], ◌∷◌, ◌++◌, length, sym, refl, ap, subst, inl, inr, arith, length-append}
+use Rattle.wasm_writing.proofs.Common.{cases_Bool, Module, Custom, Fields, Spelled, byte, either, finished, for_some, here, number}
+use Rattle.wasm_writing.proofs.Common.{provided, signed, text, window, Part, content, custom, each, is_empty, module_fields, parts, section}
+use Rattle.wasm_writing.proofs.Common.{sections, filled, short_fields}
 use Rattle.wasm_writing.specs.Aside.{SpelledAside, SpelledBy}
 use Rattle.wasm_writing.proofs.PartLemmas.{filled-empty, filled-full}
 

@@ -1,5 +1,8 @@
 -- Runs of locals, and bodies.
-use Rattle.wasm_writing.proofs.Common.{◌≡◌, ℕ, suc, ◌+◌, ◌<◌, ◌≤◌, Bool, List, [], ◌∷◌, ◌++◌, length, get_or, take, drop, nat_le, sym, ap, ◌∙◌, subst, add-one, arith, take-append-drop, drop-cons, le-leb, leb-true, take_more, BodyEntry, Run, Fields, finished, number, provided, window, most_all_locals, most_locals, bodies, locals_of, runs, value_type, body_content, Fits, HasStopped, Puts, Refuses, Draft, Counted, Stopped, Written, Memory, Unformed}
+use Rattle.wasm_writing.proofs.Common.{◌≡◌, ℕ, ◌+◌, ◌<◌, ◌≤◌, Bool, List, [], ◌∷◌, ◌++◌, length, get_or, take, drop, nat_le, sym, ap, ◌∙◌}
+use Rattle.wasm_writing.proofs.Common.{subst, arith, le-leb, leb-true, BodyEntry, Run, Fields, finished, number, provided, window}
+use Rattle.wasm_writing.proofs.Common.{most_all_locals, most_locals, bodies, locals_of, runs, value_type, body_content, Fits, HasStopped}
+use Rattle.wasm_writing.proofs.Common.{Puts, Refuses, Draft, Stopped, Memory, Unformed, front_next, front_split}
 use Rattle.wasm_writing.specs.declared.draft.Stop.{Stop}
 use Rattle.wasm_writing.specs.Aside.{SpelledAside, SpelledBy}
 use Rattle.wasm_writing.proofs.Pieces.{puts_if, puts_none}
@@ -24,12 +27,9 @@ locals_of-append : (xs ys : List Run) → locals_of (xs ++ ys) ≡ locals_of xs 
 locals_of-append [] ys = omega arith
 locals_of-append (x ∷ xs) ys = omega (arith, locals_of-append xs ys)
 
-grown : {A : Type 0} (xs : List A) (i : ℕ) (x : A) → i < length xs → x ≡ get_or xs i x → take (i + 1) xs ≡ take i xs ++ x ∷ []
-grown {A} xs i x less is = take_more xs i x less ∙ ap (λ (y : A). take i xs ++ y ∷ []) (sym is)
-
 pub locals_more : (xs : List Run) (i : ℕ) (x : Run) → i < length xs → x ≡ get_or xs i x
     → locals_of (take (i + 1) xs) ≡ locals_of (take i xs) + x.count
-locals_more xs i x less is = ap locals_of (grown xs i x less is) ∙ locals_of-append (take i xs) (x ∷ []) ∙ omega arith
+locals_more xs i x less is = ap locals_of (front_next xs i x less is) ∙ locals_of-append (take i xs) (x ∷ []) ∙ omega arith
 
 -- one run, where so many locals stand before it
 abbrev run_fields : (l a : ℕ) → Run → Fields → Fields
@@ -51,13 +51,8 @@ runs_more before locals xs i x a b c d less is sum low all p q r =
     (puts_if (nat_le (m + x.count) most_all_locals) (value_type x.ty) c d
     (le-leb (m + x.count) most_all_locals (omega (arith, all, sum))) r)) in
     puts_same (λ rest. runs 0 before (take i xs) (run_fields n m x rest)) (runs 0 before (take (i + 1) xs)) a d
-    (λ rest. sym (ap (λ (l : List Run). runs 0 before l rest) (grown xs i x less is) ∙ runs-append 0 before (take i xs) (x ∷ []) rest))
+    (λ rest. sym (ap (λ (l : List Run). runs 0 before l rest) (front_next xs i x less is) ∙ runs-append 0 before (take i xs) (x ∷ []) rest))
     (puts_both (runs 0 before (take i xs)) (run_fields n m x) a b d p one)
-
-split_at : {A : Type 0} (xs : List A) (i : ℕ) (x : A) → i < length xs → x ≡ get_or xs i x → xs ≡ take i xs ++ x ∷ drop (i + 1) xs
-split_at {A} xs i x less is =
-    sym (take-append-drop i xs) ∙ ap (λ (l : List A). take i xs ++ l)
-    (rw (add-one, drop-cons xs i x) (ap (λ (y : A). y ∷ drop (suc i) xs) (sym is)))
 
 too_many : (n m : ℕ) (x : Run) (f : Fields) → (n + x.count ≤ most_locals → m + x.count ≤ most_all_locals → ⊥) → (bytes : List ℕ)
     → SpelledAside (provided (nat_le (n + x.count) most_locals) (provided (nat_le (m + x.count) most_all_locals) f)) bytes → ⊥
@@ -78,7 +73,8 @@ runs_refused before locals xs i x a b c d less is sum none p q r =
     puts_none tests c d (λ rest bytes _ s. too_many n m x (inner rest)
     (λ l h. none (omega (arith, l, sum)) (omega (arith, h, sum))) bytes s) r in
     puts_same (λ rest. runs 0 before (take i xs) (number x.count (tests rest))) (runs 0 before xs) a d
-    (λ rest. sym (ap (λ (l : List Run). runs 0 before l rest) (split_at xs i x less is) ∙ runs-append 0 before (take i xs) (x ∷ back) rest))
+    (λ rest. sym (ap (λ (l : List Run). runs 0 before l rest) (front_split xs i x less is)
+    ∙ runs-append 0 before (take i xs) (x ∷ back) rest))
     (puts_both (runs 0 before (take i xs)) (λ rest. number x.count (tests rest)) a b d p (puts_both (number x.count) tests b c d q stops))
 
 -- ---- bodies
@@ -100,7 +96,7 @@ all_of-append (x ∷ xs) ys = omega (arith, all_of-append xs ys)
 
 pub all_more : (xs : List BodyEntry) (i : ℕ) (x : BodyEntry) → i < length xs → x ≡ get_or xs i x
     → all_of (take (i + 1) xs) ≡ all_of (take i xs) + locals_of x.runs
-all_more xs i x less is = ap all_of (grown xs i x less is) ∙ all_of-append (take i xs) (x ∷ []) ∙ omega arith
+all_more xs i x less is = ap all_of (front_next xs i x less is) ∙ all_of-append (take i xs) (x ∷ []) ∙ omega arith
 
 pub bodies_more : (all : ℕ) (xs : List BodyEntry) (i : ℕ) (x : BodyEntry) (a b c : Draft) → i < length xs → x ≡ get_or xs i x
     → all ≡ all_of (take i xs)
@@ -110,13 +106,11 @@ bodies_more all xs i x a b c less is sum p q =
     let one = subst (λ n. Puts (window (body_content n x finished)) b c) from q in
     puts_same (λ rest. bodies 0 (take i xs) (window (body_content (0 + all_of (take i xs)) x finished) rest))
     (bodies 0 (take (i + 1) xs)) a c
-    (λ rest. sym (ap (λ (l : List BodyEntry). bodies 0 l rest) (grown xs i x less is) ∙ bodies-append 0 (take i xs) (x ∷ []) rest))
+    (λ rest. sym (ap (λ (l : List BodyEntry). bodies 0 l rest) (front_next xs i x less is) ∙ bodies-append 0 (take i xs) (x ∷ []) rest))
     (puts_both (bodies 0 (take i xs)) (window (body_content (0 + all_of (take i xs)) x finished)) a b c p one)
 
 -- what is put to a draft that has stopped
 puts_more : (front back : Fields → Fields) (a b : Draft) → Puts front a b → HasStopped b → Puts (λ rest. front (back rest)) a b
-puts_more front back a (Counted n) p h = absurd h
-puts_more front back a (Written f) p h = absurd h
 puts_more front back a (Stopped stop) p h = (
   (λ file rest m. absurd m.completes),
   (λ written room rest k. any written room rest (back rest) stop (p.1 written room (back rest) k)),
@@ -126,6 +120,7 @@ puts_more front back a (Stopped stop) p h = (
     any : (written : Bool) (room : ℕ) (f g : Fields) (stop : Stop) → Fits written room (Stopped stop) g → Fits written room (Stopped stop) f
     any written room f g Unformed h = absurd h.goes_on
     any written room f g Memory h = record { goes_on = h.goes_on }
+puts_more front back a _ p h = absurd h
 
 pub bodies_stopped : (all : ℕ) (xs : List BodyEntry) (i : ℕ) (x : BodyEntry) (a b c : Draft) → i < length xs → x ≡ get_or xs i x
     → all ≡ all_of (take i xs)
@@ -137,6 +132,6 @@ bodies_stopped all xs i x a b c less is sum p q stop =
     let back = drop (i + 1) xs in
     puts_same (λ rest. bodies 0 (take i xs) (window (body_content n x finished) (bodies (n + locals_of x.runs) back rest)))
     (bodies 0 xs) a c
-    (λ rest. sym (ap (λ (l : List BodyEntry). bodies 0 l rest) (split_at xs i x less is) ∙ bodies-append 0 (take i xs) (x ∷ back) rest))
+    (λ rest. sym (ap (λ (l : List BodyEntry). bodies 0 l rest) (front_split xs i x less is) ∙ bodies-append 0 (take i xs) (x ∷ back) rest))
     (puts_both (bodies 0 (take i xs)) (λ rest. window (body_content n x finished) (bodies (n + locals_of x.runs) back rest)) a b c p
     (puts_more (window (body_content n x finished)) (bodies (n + locals_of x.runs) back) b c one stop))

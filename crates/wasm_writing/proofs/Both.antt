@@ -1,5 +1,6 @@
 -- Fields that the same bytes spell with the places aside, whatever follows them.
-use Rattle.wasm_writing.proofs.Common.{◌≡◌, ℕ, List, [], ◌∷◌, map, length, nat_le, sym, refl, subst, arith, Fields, finished, here, number, provided, window, each, short_vector, vector}
+use Rattle.wasm_writing.proofs.Common.{◌≡◌, ℕ, List, [], ◌∷◌, map, length, nat_le, sym, refl, subst, arith, Fields, finished, here, number}
+use Rattle.wasm_writing.proofs.Common.{provided, window, each, short_vector, vector}
 use Rattle.wasm_writing.specs.Aside.{SpelledAside, SpelledBy}
 use Rattle.wasm_writing.proofs.Fills.{Fills, keeps_number, keeps_provided}
 

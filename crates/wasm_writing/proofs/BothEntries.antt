@@ -1,5 +1,12 @@
 -- Instructions and entries, and the same with every place 0: the same bytes spell both with the places aside.
-use Rattle.wasm_writing.proofs.Common.{ℕ, ◌+◌, ◌-◌, List, [], ◌∷◌, map, length, Option, ValType, opcode_of, Block, Code, If, Kind, Loop, else_code, end_code, no_else, then_code, BodyEntry, ElementEntry, Export, FuncEntry, FuncRef, GlobalEntry, Import, ImportKind, Limits, LimitsEntry, SegmentEntry, TypeEntry, byte, here, number, most_blocks, most_memory_pages, most_table_elements, bodies, code_fields, element_entry, end_byte, export_code, export_entry, expression, func_entry, func_ref, global_entry, immediates, import_entry, import_kind, limits, locals_of, memory_entry, mutability_code, name, runs, segment_entry, table_entry, table_type, type_entry, bare_body, bare_code, bare_element, bare_export, bare_func, bare_func_ref, bare_global, bare_import, bare_import_kind, bare_limits, bare_limits_entry, bare_segment, bare_type, body_content}
+use Rattle.wasm_writing.proofs.Common.{ℕ, ◌+◌, ◌-◌, List, [], ◌∷◌, map, length, Option, ValType, opcode_of, Block, Code, If, Loop}
+use Rattle.wasm_writing.proofs.Common.{else_code, end_code, no_else, then_code, BodyEntry, ElementEntry, Export, FuncEntry, FuncRef}
+use Rattle.wasm_writing.proofs.Common.{GlobalEntry, Import, ImportKind, Limits, LimitsEntry, SegmentEntry, TypeEntry, byte, here, number}
+use Rattle.wasm_writing.proofs.Common.{most_blocks, most_memory_pages, most_table_elements, bodies, code_fields, element_entry, end_byte}
+use Rattle.wasm_writing.proofs.Common.{export_code, export_entry, expression, func_entry, func_ref, global_entry, import_entry, import_kind}
+use Rattle.wasm_writing.proofs.Common.{limits, locals_of, memory_entry, mutability_code, name, runs, segment_entry, table_entry, table_type}
+use Rattle.wasm_writing.proofs.Common.{type_entry, bare_body, bare_code, bare_element, bare_export, bare_func, bare_func_ref, bare_global}
+use Rattle.wasm_writing.proofs.Common.{bare_import, bare_import_kind, bare_limits, bare_limits_entry, bare_segment, bare_type, body_content}
 use Rattle.wasm_tree.specs.declared.entries.ImportKind.TheVariants as imported
 use Rattle.wasm_writing.proofs.Fills.{keeps_both, keeps_byte, keeps_number, keeps_text}
 use Rattle.wasm_writing.proofs.FillsCode.{head, keeps_head, keeps_immediates}
@@ -39,11 +46,6 @@ both_two place room ty b q d e c h i k =
     both_here (both_then (both_self (keeps_head room 0x04 ty))
     (both_then h (both_here (both_then (both_byte 0x05) (both_then i (both_closed e room c k))))))
 
-both_plain : (k : Kind) (place room : ℕ) (c : Code) → Both (code_fields room c) (code_fields room (bare_code c))
-    → Both (λ x. here place (byte (opcode_of k) (immediates k (code_fields room c x))))
-    (λ x. here 0 (byte (opcode_of k) (immediates k (code_fields room (bare_code c) x))))
-both_plain k place room c h = both_here (both_then (both_byte (opcode_of k)) (both_then (both_self (keeps_immediates k)) h))
-
 both_code : (room : ℕ) (c : Code) → Both (code_fields room c) (code_fields room (bare_code c))
 unfolding head
 both_code room end_code = both_none
@@ -52,7 +54,8 @@ both_code room (then_code place (Loop ty b e) c) = both_one place room 0x03 ty b
 both_code room (then_code place (If ty b no_else e) c) = both_one place room 0x04 ty b e c (both_code (room - 1) b) (both_code room c)
 both_code room (then_code place (If ty b (else_code q d) e) c) =
     both_two place room ty b q d e c (both_code (room - 1) b) (both_code (room - 1) d) (both_code room c)
-both_code room (then_code place k c) = both_plain k place room c (both_code room c)
+both_code room (then_code place k c) =
+    both_here (both_then (both_byte (opcode_of k)) (both_then (both_self (keeps_immediates k)) (both_code room c)))
 
 both_expression : (c : Code) → Both (expression c) (expression (bare_code c))
 both_expression c = both_then (both_code most_blocks c) (both_byte 0x0B)

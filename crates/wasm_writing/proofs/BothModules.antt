@@ -1,9 +1,17 @@
 -- Modules, and the same with every place 0: the same bytes spell both with the places aside.
-use Rattle.wasm_writing.proofs.Common.{◌≡◌, ℕ, ◌≤◌, false, List, [], ◌∷◌, map, length, is_none, nat_eq, Some, None, Option, sym, refl, ap, ◌∙◌, subst, inl, inr, cases_Bool, DataCount, Start, Module, Fields, byte, finished, number, provided, most_functions, most_module_bytes, Part, bodies, code, content, data_count, data_count_content, each, elements, exports, functions, globals, id_of, imports, is_empty, magic, memories, module_fields, parts, segments, start, start_content, tables, types, version, SpellsAside, bare_body, bare_data_count, bare_element, bare_export, bare_func, bare_global, bare_import, bare_limits_entry, bare_module, bare_segment, bare_start, bare_type, filled, short_fields}
+use Rattle.wasm_writing.proofs.Common.{◌≡◌, ℕ, ◌≤◌, false, List, [], ◌∷◌, map, length, is_none, nat_eq, Some, None, Option, sym, refl, ap}
+use Rattle.wasm_writing.proofs.Common.{◌∙◌, subst, inl, inr, cases_Bool, DataCount, Start, Module, Fields, byte, finished, number, provided}
+use Rattle.wasm_writing.proofs.Common.{most_functions, most_module_bytes, Part, bodies, code, content, data_count, data_count_content, each}
+use Rattle.wasm_writing.proofs.Common.{elements, exports, functions, globals, id_of, imports, is_empty, magic, memories, module_fields}
+use Rattle.wasm_writing.proofs.Common.{parts, segments, start, start_content, tables, types, version, SpellsAside, bare_body}
+use Rattle.wasm_writing.proofs.Common.{bare_data_count, bare_element, bare_export, bare_func, bare_global, bare_import, bare_limits_entry}
+use Rattle.wasm_writing.proofs.Common.{bare_module, bare_segment, bare_start, bare_type, filled, short_fields}
 use Rattle.wasm_writing.specs.Aside.{SpelledAside}
 use Rattle.wasm_writing.proofs.Aside.{short_aside_of, spelled_aside}
-use Rattle.wasm_writing.proofs.Both.{Both, both_here, both_none, both_self, both_short_vector, both_then, both_vector, both_window, length-bare}
-use Rattle.wasm_writing.proofs.BothEntries.{both_bodies, both_element, both_export, both_func, both_global, both_import, both_memory, both_segment, both_table, both_type}
+use Rattle.wasm_writing.proofs.Both.{Both, both_here, both_none, both_self, both_short_vector, both_then, both_vector, both_window}
+use Rattle.wasm_writing.proofs.Both.{length-bare}
+use Rattle.wasm_writing.proofs.BothEntries.{both_bodies, both_element, both_export, both_func, both_global, both_import, both_memory}
+use Rattle.wasm_writing.proofs.BothEntries.{both_segment, both_table, both_type}
 use Rattle.wasm_writing.proofs.Fills.{Keeps, keeps_both, keeps_byte, keeps_number, keeps_provided}
 use Rattle.wasm_writing.proofs.FillsEntries.{keeps_data_count}
 use Rattle.wasm_writing.proofs.PartLemmas.{filled-empty, filled-full}

@@ -1,5 +1,9 @@
 -- Blocks, and lists of instructions.
-use Rattle.wasm_writing.proofs.Common.{◌≡◌, ℕ, zero, suc, ◌+◌, ◌-◌, ◌<◌, ◌≤◌, true, false, List, [], ◌∷◌, ◌++◌, length, get_or, take, nat_lt, Option, sym, refl, ap, ◌∙◌, subst, arith, lt-ltb, take_more, ValType, Binary, Br, BrIf, Call, Code, Compare, Drop, Eqz, Extend, GlobalGet, GlobalSet, I32WrapI64, I64ExtendI32S, I64ExtendI32U, Kind, Load, LocalGet, LocalSet, LocalTee, Nop, Return, Select, Store, Unary, Unreachable, code_tree, kind_tree, Fields, byte, here, number, provided, most_module_bytes, block_type_code, code_fields, end_byte, instr_fields, Puts, Refuses, Draft}
+use Rattle.wasm_writing.proofs.Common.{◌≡◌, ℕ, zero, suc, ◌+◌, ◌-◌, ◌<◌, ◌≤◌, true, false, List, [], ◌∷◌, ◌++◌, length, get_or, take}
+use Rattle.wasm_writing.proofs.Common.{nat_lt, Option, sym, refl, ap, ◌∙◌, subst, arith, lt-ltb, take_more, ValType, Block, BrTable}
+use Rattle.wasm_writing.proofs.Common.{CallIndirect, Code, I32Const, I64Const, If, Kind, Loop, MemoryCopy, MemoryFill, MemoryGrow}
+use Rattle.wasm_writing.proofs.Common.{MemorySize, code_tree, kind_tree, Fields, byte, here, number, provided, most_module_bytes}
+use Rattle.wasm_writing.proofs.Common.{block_type_code, code_fields, end_byte, instr_fields, Puts, Refuses, Draft, false≢true}
 use Rattle.wasm_tree.specs.declared.code.Instr.{Instr}
 use Rattle.wasm_tree.specs.declared.code.MemArg.{MemArg}
 use Rattle.wasm_tree.specs.declared.operators.Simple.{Simple}
@@ -25,10 +29,7 @@ puts_here place fields a b p = (
 pub no_room : (room : ℕ) (fields : Fields → Fields) → room ≡ 0 → (rest : Fields) (bytes : List ℕ) → length bytes ≤ most_module_bytes
     → SpelledAside (provided (nat_lt 0 room) (fields rest)) bytes → ⊥
 unfolding SpelledBy
-no_room zero fields e rest bytes _ s = differ s.0
-  where
-    differ : false ≡ true → ⊥
-    differ e = cc
+no_room zero fields e rest bytes _ s = false≢true s.0
 no_room (suc room) fields e rest bytes _ s = omega (arith, e)
 
 pub puts_no_room : (room : ℕ) (front back : Fields → Fields) (a b c : Draft) → room ≡ 0 → Puts front a b → Refuses b c
@@ -81,30 +82,18 @@ SpelledByParts k (parts.Numeric o) = (room : ℕ) (rest : Fields) → byte (nume
 SpelledByParts k parts.Other = Unit {0}
 
 spelled_by_parts : (k : Kind) → SpelledByParts k (parts_of k)
-spelled_by_parts Unreachable = λ room rest. refl
-spelled_by_parts Nop = λ room rest. refl
-spelled_by_parts Return = λ room rest. refl
-spelled_by_parts Drop = λ room rest. refl
-spelled_by_parts Select = λ room rest. refl
-spelled_by_parts (Br n) = λ room rest. refl
-spelled_by_parts (BrIf n) = λ room rest. refl
-spelled_by_parts (Call n) = λ room rest. refl
-spelled_by_parts (LocalGet n) = λ room rest. refl
-spelled_by_parts (LocalSet n) = λ room rest. refl
-spelled_by_parts (LocalTee n) = λ room rest. refl
-spelled_by_parts (GlobalGet n) = λ room rest. refl
-spelled_by_parts (GlobalSet n) = λ room rest. refl
-spelled_by_parts (Load op arg) = λ room rest. refl
-spelled_by_parts (Store op arg) = λ room rest. refl
-spelled_by_parts (Eqz ty) = λ room rest. refl
-spelled_by_parts (Compare ty op) = λ room rest. refl
-spelled_by_parts (Unary ty op) = λ room rest. refl
-spelled_by_parts (Binary ty op) = λ room rest. refl
-spelled_by_parts I32WrapI64 = λ room rest. refl
-spelled_by_parts I64ExtendI32S = λ room rest. refl
-spelled_by_parts I64ExtendI32U = λ room rest. refl
-spelled_by_parts (Extend op) = λ room rest. refl
-spelled_by_parts k = tt
+spelled_by_parts MemorySize = tt
+spelled_by_parts MemoryGrow = tt
+spelled_by_parts MemoryCopy = tt
+spelled_by_parts MemoryFill = tt
+spelled_by_parts (BrTable labels default) = tt
+spelled_by_parts (CallIndirect index) = tt
+spelled_by_parts (I32Const z) = tt
+spelled_by_parts (I64Const z) = tt
+spelled_by_parts (Block result code end_place) = tt
+spelled_by_parts (Loop result code end_place) = tt
+spelled_by_parts (If result code otherwise end_place) = tt
+spelled_by_parts _ = λ room rest. refl
 
 spelled_as : (k : Kind) (p : Parts) → p ≡ parts_of k → SpelledByParts k p
 spelled_as k p e = subst (SpelledByParts k) (sym e) (spelled_by_parts k)

@@ -1,5 +1,7 @@
 -- Bytes that spell fields with the places aside spell the same fields with some places, whatever follows them.
-use Rattle.wasm_writing.proofs.Common.{◌≡◌, ℕ, ◌+◌, Bool, List, [], ◌∷◌, ◌++◌, map, length, ℤ, sym, refl, ap, ◌∙◌, subst, append_assoc, add-zero, arith, length-append, SpellsSigned, SpellsUnsigned, Fields, Spelled, Then, byte, finished, here, number, provided, signed, text, window, each, vector}
+use Rattle.wasm_writing.proofs.Common.{◌≡◌, ℕ, ◌+◌, Bool, List, [], ◌∷◌, ◌++◌, map, length, ℤ, sym, refl, ap, ◌∙◌, subst, append_assoc}
+use Rattle.wasm_writing.proofs.Common.{add-zero, arith, length-append, SpellsSigned, SpellsUnsigned, Fields, Spelled, Then, byte, finished}
+use Rattle.wasm_writing.proofs.Common.{here, number, provided, signed, text, window, each, vector}
 use Rattle.wasm_writing.specs.Aside.{SpelledAside, SpelledBy}
 
 -- The bytes at the front spell the fields of a result, and what is behind them spells the rest.

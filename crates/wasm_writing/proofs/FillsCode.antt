@@ -1,6 +1,11 @@
 -- Instructions: with some places they are the same but for places.
-use Rattle.wasm_writing.proofs.Common.{◌≡◌, ℕ, ◌-◌, nat_lt, Option, sym, refl, ap, ◌∙◌, ValType, opcode_of, Block, Br, BrIf, BrTable, Call, CallIndirect, Code, GlobalGet, GlobalSet, I32Const, I64Const, If, Kind, Load, LocalGet, LocalSet, LocalTee, Loop, MemoryCopy, MemoryFill, MemoryGrow, MemorySize, Store, else_code, end_code, no_else, then_code, Fields, byte, here, provided, most_blocks, block_type_code, code_fields, end_byte, expression, immediates, bare_code}
-use Rattle.wasm_writing.proofs.Fills.{Fills, Keeps, Like, fills_after, fills_as, fills_before, fills_both, fills_here, fills_none, keeps_both, keeps_byte, keeps_none, keeps_number, keeps_provided, keeps_signed, keeps_vector}
+use Rattle.wasm_writing.proofs.Common.{◌≡◌, ℕ, ◌-◌, nat_lt, Option, sym, refl, ap, ◌∙◌, ValType, opcode_of, Block, Br, BrIf, BrTable, Call}
+use Rattle.wasm_writing.proofs.Common.{CallIndirect, Code, GlobalGet, GlobalSet, I32Const, I64Const, If, Kind, Load, LocalGet, LocalSet}
+use Rattle.wasm_writing.proofs.Common.{LocalTee, Loop, MemoryCopy, MemoryFill, MemoryGrow, MemorySize, Store, else_code, end_code, no_else}
+use Rattle.wasm_writing.proofs.Common.{then_code, Fields, byte, here, provided, most_blocks, block_type_code, code_fields, end_byte}
+use Rattle.wasm_writing.proofs.Common.{expression, immediates, bare_code}
+use Rattle.wasm_writing.proofs.Fills.{Fills, Keeps, Like, fills_after, fills_as, fills_before, fills_both, fills_here, fills_none}
+use Rattle.wasm_writing.proofs.Fills.{keeps_both, keeps_byte, keeps_none, keeps_number, keeps_provided, keeps_signed, keeps_vector}
 
 pub keeps_immediates : (k : Kind) → Keeps (immediates k)
 keeps_immediates (Br label) = keeps_number label

@@ -1,9 +1,20 @@
 -- The entries of sections: with some places they are the same but for places.
-use Rattle.wasm_writing.proofs.Common.{ℕ, ◌+◌, List, [], ◌∷◌, map, length, nat_eq, nat_le, Some, None, Option, refl, ap, ◌∙◌, ValType, BodyEntry, ElementEntry, Export, FuncEntry, FuncRef, GlobalEntry, Import, ImportKind, Limits, LimitsEntry, Run, SegmentEntry, Start, TypeEntry, Fields, number, provided, most_all_locals, most_blocks, most_locals, most_memory_pages, most_name_bytes, most_parameters, most_results, most_table_elements, bodies, code_fields, element_entry, end_byte, export_code, export_entry, func_entry, func_ref, func_type, global_entry, import_entry, import_kind, limits, limits_from, locals_of, memory_entry, mutability_code, name, results, runs, segment_entry, short_vector, start_entry, table_entry, table_type, type_code, type_entry, value_type, bare_body, bare_code, bare_element, bare_export, bare_func, bare_func_ref, bare_global, bare_import, bare_import_kind, bare_limits, bare_limits_entry, bare_segment, bare_type, body_content}
+use Rattle.wasm_writing.proofs.Common.{ℕ, ◌+◌, List, [], ◌∷◌, map, length, nat_eq, nat_le, Some, None, Option, refl, ap, ◌∙◌, ValType}
+use Rattle.wasm_writing.proofs.Common.{BodyEntry, ElementEntry, Export, FuncEntry, FuncRef, GlobalEntry, Import, ImportKind, Limits}
+use Rattle.wasm_writing.proofs.Common.{LimitsEntry, Run, SegmentEntry, Start, TypeEntry, Fields, number, provided, most_all_locals}
+use Rattle.wasm_writing.proofs.Common.{most_blocks, most_locals, most_memory_pages, most_name_bytes, most_parameters, most_results}
+use Rattle.wasm_writing.proofs.Common.{most_table_elements, bodies, code_fields, element_entry, end_byte, export_code, export_entry}
+use Rattle.wasm_writing.proofs.Common.{func_entry, func_ref, func_type, global_entry, import_entry, import_kind, limits, limits_from}
+use Rattle.wasm_writing.proofs.Common.{locals_of, memory_entry, mutability_code, name, results, runs, segment_entry, short_vector}
+use Rattle.wasm_writing.proofs.Common.{start_entry, table_entry, table_type, type_code, type_entry, value_type, bare_body, bare_code}
+use Rattle.wasm_writing.proofs.Common.{bare_element, bare_export, bare_func, bare_func_ref, bare_global, bare_import, bare_import_kind}
+use Rattle.wasm_writing.proofs.Common.{bare_limits, bare_limits_entry, bare_segment, bare_type, body_content}
 use Rattle.std.specs.Str.{is_utf8}
 use Rattle.w2c_base.specs.declared.signature.FuncType.{FuncType}
 use Rattle.wasm_tree.specs.declared.entries.ImportKind.TheVariants as imported
-use Rattle.wasm_writing.proofs.Fills.{Fills, Keeps, Like, Likes, fills_after, fills_as, fills_before, fills_both, fills_here, fills_none, fills_vector, fills_window, keeps_both, keeps_byte, keeps_each, keeps_none, keeps_number, keeps_provided, keeps_text, likes_more}
+use Rattle.wasm_writing.proofs.Fills.{Fills, Keeps, Like, Likes, fills_after, fills_as, fills_before, fills_both, fills_here, fills_none}
+use Rattle.wasm_writing.proofs.Fills.{fills_vector, fills_window, keeps_both, keeps_byte, keeps_each, keeps_none, keeps_number}
+use Rattle.wasm_writing.proofs.Fills.{keeps_provided, keeps_text, likes_more}
 use Rattle.wasm_writing.proofs.FillsCode.{fills_code, fills_expression}
 
 -- ---- names and types

@@ -1,17 +1,19 @@
-mod Common
-pub mod Pieces
-pub mod Lists
-pub mod Codes
-pub mod Shorts
-pub mod Windows
-pub mod BodyLemmas
+-- What crates above cite.
 pub mod PartLemmas
-pub mod Fills
-pub mod FillsCode
-pub mod FillsEntries
-pub mod Both
-pub mod BothEntries
-pub mod Aside
-pub mod PlacedModule
-pub mod BothModules
 pub mod Whole
+-- What the crate's own proofs cite.
+mod Common
+mod Pieces
+mod Lists
+mod Codes
+mod Shorts
+mod Windows
+mod BodyLemmas
+mod Fills
+mod FillsCode
+mod FillsEntries
+mod Both
+mod BothEntries
+mod Aside
+mod PlacedModule
+mod BothModules

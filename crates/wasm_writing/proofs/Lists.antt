@@ -1,5 +1,6 @@
 -- Lists of entries are put one after the other.
-use Rattle.wasm_writing.proofs.Common.{◌≡◌, ℕ, ◌+◌, ◌<◌, List, [], ◌∷◌, ◌++◌, length, get_or, take, sym, refl, ap, ◌∙◌, subst, take_more, Fields, each, Fits, Makes, Puts, Draft}
+use Rattle.wasm_writing.proofs.Common.{◌≡◌, ℕ, ◌+◌, ◌<◌, List, [], ◌∷◌, ◌++◌, length, get_or, take, sym, refl, ap, ◌∙◌, subst, take_more}
+use Rattle.wasm_writing.proofs.Common.{Fields, each, Fits, Makes, Puts, Draft}
 
 -- fields, and then others
 pub puts_both : (front back : Fields → Fields) (a b c : Draft) → Puts front a b → Puts back b c → Puts (λ rest. front (back rest)) a c

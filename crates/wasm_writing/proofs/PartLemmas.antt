@@ -1,5 +1,6 @@
 -- Sections, where they have entries.
-use Rattle.wasm_writing.proofs.Common.{◌≡◌, true, false, cond, sym, ap, Module, Fields, byte, finished, window, Part, content, id_of, is_empty, Puts, PutsSize, Draft, Counted}
+use Rattle.wasm_writing.proofs.Common.{◌≡◌, true, false, cond, sym, ap, Module, Fields, byte, finished, window, Part, content, id_of}
+use Rattle.wasm_writing.proofs.Common.{is_empty, Puts, PutsSize, Draft, Counted}
 use Rattle.wasm_writing.specs.ShortFile.{filled}
 use Rattle.wasm_writing.proofs.Lists.{puts_both, puts_same}
 use Rattle.wasm_writing.proofs.Windows.{puts_window}

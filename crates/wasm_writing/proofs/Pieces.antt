@@ -1,5 +1,8 @@
 -- A piece is put behind a draft: which fields it is the shortest spelling of.
-use Rattle.wasm_writing.proofs.Common.{◌≡◌, ℕ, ◌+◌, ◌^◌, ◌<◌, ◌≤◌, Bool, true, false, List, [], ◌∷◌, ◌++◌, length, ℤ, sym, refl, ap, ◌∙◌, subst, append_assoc, arith, length-append, all_append, SpellsSigned, SpellsUnsigned, IsShortest, AreBytes, Fields, byte, here, number, provided, signed, text, most_module_bytes, Completes, Fits, Makes, Puts, Refuses, Takes, size_of, Draft, Counted, Stopped, Written, Memory, Unformed}
+use Rattle.wasm_writing.proofs.Common.{◌≡◌, ℕ, ◌+◌, ◌^◌, ◌<◌, ◌≤◌, Bool, true, false, List, [], ◌∷◌, ◌++◌, length, ℤ, sym, refl, ap, ◌∙◌}
+use Rattle.wasm_writing.proofs.Common.{subst, append_assoc, arith, length-append, all_append, SpellsSigned, SpellsUnsigned, IsShortest}
+use Rattle.wasm_writing.proofs.Common.{AreBytes, Fields, byte, here, number, provided, signed, text, most_module_bytes, Completes, Fits}
+use Rattle.wasm_writing.proofs.Common.{Makes, Puts, Refuses, Takes, size_of, Draft, Counted, Stopped, Written, Memory, Unformed, false≢true}
 use Rattle.wasm_writing.specs.Aside.{SpelledAside, SpelledBy, SpelledShort}
 
 -- the piece is the shortest spelling of a field
@@ -35,9 +38,6 @@ puts_piece field piece old new f are t = (makes old new t, fits old new t, small
     makes (Written a) (Counted m) t file rest h = absurd t
     makes old (Stopped stop) t file rest h = absurd h.completes
     makes (Stopped stop) new t file rest h = absurd (subst (λ d. Completes d h.rest file) t h.completes)
-
-    same_flag : (written : Bool) → written ≡ false → written ≡ true → ⊥
-    same_flag written a b = cc
 
     fits : (old new : Draft) → Takes piece old new → (written : Bool) (room : ℕ) (rest : Fields) → Fits written room old (field rest)
         → Fits written room new rest
@@ -95,20 +95,17 @@ puts_none field old new none t = (makes old t, fits old t, small old t)
   where
     makes : (old : Draft) → Refuses old new → (file : List ℕ) (rest : Fields) → Makes file new rest → Makes file old (field rest)
     makes (Counted n) t file rest h = absurd (subst (λ d. Completes d h.rest file) t h.completes)
-    makes (Written a) t file rest h = absurd (subst (λ d. Completes d h.rest file) t h.completes)
-    makes (Stopped stop) t file rest h = absurd (subst (λ d. Completes d h.rest file) t h.completes)
+    makes _ t file rest h = absurd (subst (λ d. Completes d h.rest file) t h.completes)
 
     fits : (old : Draft) → Refuses old new → (written : Bool) (room : ℕ) (rest : Fields) → Fits written room old (field rest)
         → Fits written room new rest
-    fits (Counted n) t written room rest h = let w = h.goes_on.1 in absurd (none rest w.rest (omega (arith, w.within, w.small)) w.spelled)
-    fits (Written a) t written room rest h = let w = h.goes_on.1 in absurd (none rest w.rest (omega (arith, w.within, w.small)) w.spelled)
     fits (Stopped Unformed) t written room rest h = absurd h.goes_on
     fits (Stopped Memory) t written room rest h = subst (λ d. Fits written room d rest) (sym t) (record { goes_on = h.goes_on })
+    fits _ t written room rest h = let w = h.goes_on.1 in absurd (none rest w.rest (omega (arith, w.within, w.small)) w.spelled)
 
     small : (old : Draft) → Refuses old new → size_of old ≤ most_module_bytes → size_of new ≤ most_module_bytes
     small (Counted n) t s = subst (λ d. size_of d ≤ most_module_bytes) (sym t) (omega arith)
-    small (Written a) t s = subst (λ d. size_of d ≤ most_module_bytes) (sym t) (omega arith)
-    small (Stopped stop) t s = subst (λ d. size_of d ≤ most_module_bytes) (sym t) (omega arith)
+    small _ t s = subst (λ d. size_of d ≤ most_module_bytes) (sym t) (omega arith)
 
 pub byte_field : (b : ℕ) → IsField (byte b) (b ∷ [])
 unfolding SpelledBy
@@ -142,14 +139,11 @@ signed_field width n piece i = record {
 pub fits_as : (front back : Fields)
     → ((bytes : List ℕ) → SpelledAside front bytes → (other : List ℕ) × SpelledAside back other × (length other ≤ length bytes))
     → (written : Bool) (room : ℕ) (draft : Draft) → Fits written room draft front → Fits written room draft back
-fits_as front back same written room (Counted n) h =
-    let w = h.goes_on.1 in let o = same w.rest w.spelled in
-    record { goes_on = (h.goes_on.0, record { rest = o.0; spelled = o.1; within = omega (arith, o.2, w.within); small = w.small }) }
-fits_as front back same written room (Written a) h =
-    let w = h.goes_on.1 in let o = same w.rest w.spelled in
-    record { goes_on = (h.goes_on.0, record { rest = o.0; spelled = o.1; within = omega (arith, o.2, w.within); small = w.small }) }
 fits_as front back same written room (Stopped Unformed) h = absurd h.goes_on
 fits_as front back same written room (Stopped Memory) h = record { goes_on = h.goes_on }
+fits_as front back same written room _ h =
+    let w = h.goes_on.1 in let o = same w.rest w.spelled in
+    record { goes_on = (h.goes_on.0, record { rest = o.0; spelled = o.1; within = omega (arith, o.2, w.within); small = w.small }) }
 
 pub fits_here : (written : Bool) (room : ℕ) (draft : Draft) (place : ℕ) (rest : Fields) → Fits written room draft (here place rest)
     → Fits written room draft rest
@@ -172,10 +166,7 @@ puts_nothing draft = (
 
 pub does_not_hold : (rest : Fields) (bytes : List ℕ) → length bytes ≤ most_module_bytes → SpelledAside (provided false rest) bytes → ⊥
 unfolding SpelledBy
-does_not_hold rest bytes _ s = differ s.0
-  where
-    differ : false ≡ true → ⊥
-    differ e = cc
+does_not_hold rest bytes _ s = false≢true s.0
 
 pub too_large : (n : ℕ) → 2 ^ 32 ≤ n → (rest : Fields) (bytes : List ℕ) → length bytes ≤ most_module_bytes
     → SpelledAside (number n rest) bytes → ⊥

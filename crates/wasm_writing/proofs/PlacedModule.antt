@@ -1,10 +1,19 @@
 -- Sections: with some places they are the same but for places.
-use Rattle.wasm_writing.proofs.Common.{◌≡◌, ℕ, ◌+◌, false, List, [], ◌∷◌, length, drop, is_none, nat_eq, nat_le, Some, None, Option, sym, refl, ap, ◌∙◌, subst, inl, inr, cases_Bool, DataCount, Start, Module, Fields, Spelled, byte, finished, number, provided, window, most_functions, Part, bodies, code, content, data_count, data_count_content, each, elements, exports, functions, globals, id_of, imports, is_empty, memories, module_fields, parts, rank_of, sections, segments, short_vector, start, start_content, tables, types, SameApartFromPlaces, bare_body, bare_data_count, bare_element, bare_export, bare_func, bare_global, bare_import, bare_limits_entry, bare_module, bare_segment, bare_start, bare_type, filled, short_fields}
+use Rattle.wasm_writing.proofs.Common.{◌≡◌, ℕ, ◌+◌, false, List, [], ◌∷◌, length, drop, is_none, nat_eq, nat_le, Some, None, Option, sym}
+use Rattle.wasm_writing.proofs.Common.{refl, ap, ◌∙◌, subst, inl, inr, cases_Bool, DataCount, Start, Module, Fields, Spelled, byte}
+use Rattle.wasm_writing.proofs.Common.{finished, number, provided, window, most_functions, Part, bodies, code, content, data_count}
+use Rattle.wasm_writing.proofs.Common.{data_count_content, each, elements, exports, functions, globals, id_of, imports, is_empty, memories}
+use Rattle.wasm_writing.proofs.Common.{module_fields, parts, rank_of, sections, segments, short_vector, start, start_content, tables, types}
+use Rattle.wasm_writing.proofs.Common.{SameApartFromPlaces, bare_body, bare_data_count, bare_element, bare_export, bare_func, bare_global}
+use Rattle.wasm_writing.proofs.Common.{bare_import, bare_limits_entry, bare_module, bare_segment, bare_start, bare_type, filled}
+use Rattle.wasm_writing.proofs.Common.{short_fields}
 use Rattle.wasm_writing.specs.Aside.{SpelledAside, SpelledBy}
 use Rattle.wasm_spelling.proofs.Parts.{put}
 use Rattle.wasm_writing.proofs.Both.{length-bare}
-use Rattle.wasm_writing.proofs.Fills.{Fills, Like, Likes, fills_after, fills_as, fills_each, fills_here, fills_vector, fills_window, keeps_byte, keeps_number, keeps_provided}
-use Rattle.wasm_writing.proofs.FillsEntries.{fills_bodies, fills_element, fills_export, fills_func, fills_global, fills_import, fills_memory, fills_segment, fills_start, fills_table, fills_type, keeps_data_count}
+use Rattle.wasm_writing.proofs.Fills.{Fills, Like, Likes, fills_after, fills_as, fills_each, fills_here, fills_vector, fills_window}
+use Rattle.wasm_writing.proofs.Fills.{keeps_byte, keeps_number, keeps_provided}
+use Rattle.wasm_writing.proofs.FillsEntries.{fills_bodies, fills_element, fills_export, fills_func, fills_global, fills_import}
+use Rattle.wasm_writing.proofs.FillsEntries.{fills_memory, fills_segment, fills_start, fills_table, fills_type, keeps_data_count}
 use Rattle.wasm_writing.proofs.PartLemmas.{filled-empty, filled-full}
 
 -- a module that is the same but for places, with entries in the same sections

@@ -1,5 +1,6 @@
 -- A shortest spelling is a spelling.
-use Rattle.wasm_writing.proofs.Common.{ℕ, List, inl, inr, Fields, byte, either, finished, for_some, here, number, provided, signed, text, window}
+use Rattle.wasm_writing.proofs.Common.{ℕ, List, inl, inr, Fields, byte, either, finished, for_some, here, number, provided, signed, text}
+use Rattle.wasm_writing.proofs.Common.{window}
 use Rattle.wasm_writing.specs.Aside.{SpelledAside, SpelledBy, SpelledShort}
 
 pub short_aside : (fields : Fields) (bytes : List ℕ) → SpelledShort fields bytes → SpelledAside fields bytes

@@ -1,5 +1,6 @@
 -- A module has a file exactly where its fields were counted, and what is written is its shortest file.
-use Rattle.wasm_writing.proofs.Common.{◌≡◌, ℕ, ◌≤◌, true, List, [], length, refl, subst, append-nil, arith, Module, finished, most_module_bytes, IsFormed, SpellsAside, Puts, IsShortFile, short_fields, Draft, Counted, Written}
+use Rattle.wasm_writing.proofs.Common.{◌≡◌, ℕ, ◌≤◌, true, List, [], length, refl, subst, append-nil, arith, Module, finished}
+use Rattle.wasm_writing.proofs.Common.{most_module_bytes, IsFormed, SpellsAside, Puts, IsShortFile, short_fields, Draft, Counted, Written}
 use Rattle.wasm_writing.specs.Aside.{SpelledBy, SpelledShort}
 use Rattle.wasm_writing.proofs.BothModules.{short_of_file}
 use Rattle.wasm_writing.proofs.PlacedModule.{placed_module}

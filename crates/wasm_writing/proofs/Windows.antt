@@ -1,5 +1,9 @@
 -- A window: its content is counted first, then come the size and the content.
-use Rattle.wasm_writing.proofs.Common.{◌≡◌, ℕ, ◌+◌, ◌*◌, ◌^◌, ◌<◌, ◌≤◌, Bool, true, false, ◌⊎◌, List, [], ◌++◌, length, take, replicate, sym, refl, ap, ◌∙◌, subst, inl, inr, append_assoc, append-nil, arith, length-append, length-take-le, length-replicate, all_append, SpellsUnsigned, seven_bit_sum, AreBytes, Fields, finished, number, text, window, most_module_bytes, Completes, Fits, HasStopped, IsWithin, Makes, Puts, PutsSize, Refuses, size_of, Draft, Counted, Stopped, Written, Memory, Unformed}
+use Rattle.wasm_writing.proofs.Common.{◌≡◌, ℕ, ◌+◌, ◌*◌, ◌^◌, ◌<◌, ◌≤◌, Bool, true, false, ◌⊎◌, List, [], ◌++◌, length, take, replicate}
+use Rattle.wasm_writing.proofs.Common.{sym, refl, ap, ◌∙◌, subst, inl, inr, append_assoc, append-nil, arith, length-append, length-take-le}
+use Rattle.wasm_writing.proofs.Common.{length-replicate, all_append, SpellsUnsigned, seven_bit_sum, AreBytes, Fields, finished, number}
+use Rattle.wasm_writing.proofs.Common.{text, window, most_module_bytes, Completes, Fits, HasStopped, IsWithin, Makes, Puts, PutsSize}
+use Rattle.wasm_writing.proofs.Common.{Refuses, size_of, Draft, Counted, Stopped, Written, Memory, Unformed, false≢true}
 use Rattle.leb_bytes.proofs.Existence.{shortest_unsigned}
 use Rattle.leb_bytes.proofs.Runs.{IsNumberRun-some, seven_bit_sum-below}
 use Rattle.wasm_writing.specs.Aside.{SpelledAside, SpelledBy, SpelledShort}
@@ -35,16 +39,13 @@ Going written draft =
 
 cases_of : (written : Bool) (room : ℕ) (draft : Draft) (fields : Fields) → Fits written room draft fields
     → Going written draft ⊎ ((room : ℕ) (fields : Fields) → Fits written room draft fields)
-cases_of written room (Counted n) fields h = inl ((λ r f k. k.goes_on.1), (λ r f k. record { goes_on = (h.goes_on.0, k) }))
-cases_of written room (Written a) fields h = inl ((λ r f k. k.goes_on.1), (λ r f k. record { goes_on = (h.goes_on.0, k) }))
 cases_of written room (Stopped Unformed) fields h = absurd h.goes_on
 cases_of written room (Stopped Memory) fields h = inr (λ r f. record { goes_on = h.goes_on })
+cases_of written room _ fields h = inl ((λ r f k. k.goes_on.1), (λ r f k. record { goes_on = (h.goes_on.0, k) }))
 
 -- what was put before it stopped is all that is put
 pub puts_stopped : (fields more : Fields → Fields) (old mid new : Draft) → Puts fields old mid → HasStopped mid → Puts more mid new
     → Puts fields old new
-puts_stopped fields more old (Counted n) new p stop q = absurd stop
-puts_stopped fields more old (Written a) new p stop q = absurd stop
 puts_stopped fields more old (Stopped stop) new p _ q = (
   (λ file rest h. absurd (q.0 file rest h).completes),
   (λ written room rest h. q.1 written room rest (any written room rest (more rest) stop (p.1 written room rest h))),
@@ -54,6 +55,7 @@ puts_stopped fields more old (Stopped stop) new p _ q = (
     any : (written : Bool) (room : ℕ) (f g : Fields) (stop : _) → Fits written room (Stopped stop) f → Fits written room (Stopped stop) g
     any written room f g Unformed h = absurd h.goes_on
     any written room f g Memory h = record { goes_on = h.goes_on }
+puts_stopped fields more old _ new p stop q = absurd stop
 
 -- ---- the size that was counted is the least
 
@@ -163,9 +165,8 @@ opens (Stopped stop) bytes file c = absurd c
 
 within_room : (written : Bool) (room : ℕ) (draft : Draft) (fields : Fields) (bytes file : List ℕ) → Completes draft bytes file
     → Fits written room draft fields → size_of draft ≤ room
-within_room written room (Counted n) fields bytes file c h = omega (arith, h.goes_on.1.within)
-within_room written room (Written a) fields bytes file c h = omega (arith, h.goes_on.1.within)
 within_room written room (Stopped stop) fields bytes file c h = absurd c
+within_room written room _ fields bytes file c h = omega (arith, h.goes_on.1.within)
 
 -- the file so far
 kept : (draft : Draft) (bytes file : List ℕ) → Completes draft bytes file
@@ -274,19 +275,15 @@ not_counted fields counted bytes p n s small =
     none counted n (p.1 false (length bytes) finished
     (record { goes_on = (refl, record { rest = bytes; spelled = s; within = omega arith; small = small }) }))
   where
-    differ : false ≡ true → ⊥
-    differ e = cc
-
     none : (counted : Draft) → ((n : ℕ) → counted ≡ Counted n → ⊥) → Fits false (length bytes) counted finished → ⊥
     none (Counted n) other h = other n refl
-    none (Written a) other h = differ h.goes_on.0
+    none (Written a) other h = false≢true h.goes_on.0
     none (Stopped Unformed) other h = h.goes_on
-    none (Stopped Memory) other h = differ h.goes_on
+    none (Stopped Memory) other h = false≢true h.goes_on
 
 refused : (old mid : Draft) → Refuses old mid → HasStopped mid
 refused (Counted n) mid r = subst HasStopped (sym r) tt
-refused (Written a) mid r = subst HasStopped (sym r) tt
-refused (Stopped stop) mid r = subst HasStopped (sym r) tt
+refused _ mid r = subst HasStopped (sym r) tt
 
 no_window : (fields : Fields → Fields) (counted : Draft) → Puts fields (Counted 0) counted → ((n : ℕ) → counted ≡ Counted n → ⊥)
     → (rest : Fields) (bytes : List ℕ) → length bytes ≤ most_module_bytes → SpelledAside (window (fields finished) rest) bytes → ⊥

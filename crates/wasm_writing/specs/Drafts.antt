@@ -1,8 +1,8 @@
 -- What a draft of a file has taken.
 use Rattle.std.specs.Prelude.{◌≡◌, ℕ, ◌+◌, ◌<◌, ◌≤◌, List, ◌++◌, length, Bool, true, false}
-use Rattle.wasm_spelling.specs.Bytes.{AreBytes}
+use Rattle.wasm_tree.specs.Bytes.{AreBytes}
 use Rattle.wasm_spelling.specs.Fields.{Fields, number}
-use Rattle.wasm_spelling.specs.Limits.{most_module_bytes}
+use Rattle.wasm_tree.specs.Limits.{most_module_bytes}
 use Rattle.wasm_writing.specs.declared.draft.Draft.{Draft}
 use Rattle.wasm_writing.specs.declared.draft.Draft.TheVariants.{Counted, Written, Stopped}
 use Rattle.wasm_writing.specs.declared.draft.Stop.TheVariants.{Unformed, Memory}

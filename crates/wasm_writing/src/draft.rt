@@ -23,7 +23,7 @@ pub enum Draft {
 }
 
 impl Draft {
-    ghost use Rattle.wasm_spelling.specs.Bytes.{AreBytes};
+    ghost use Rattle.wasm_tree.specs.Bytes.{AreBytes};
     ghost use Rattle.wasm_writing.specs.Drafts.{size_of, Takes, Refuses, Puts, PutsSize};
 
     /// How many bytes it has taken.

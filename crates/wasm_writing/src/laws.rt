@@ -1,7 +1,7 @@
 // The law of reading and writing. It is the contract of a function that does nothing.
 ghost use Rattle.std.specs.Prelude.{◌≡◌, ℕ, List};
 ghost use Rattle.wasm_tree.specs.declared.tree.Module.{Module as Tree};
-ghost use Rattle.wasm_spelling.specs.Bytes.{AreBytes};
+ghost use Rattle.wasm_tree.specs.Bytes.{AreBytes};
 ghost use Rattle.wasm_spelling.specs.ModuleFields.{Spells};
 ghost use Rattle.wasm_spelling.specs.Places.{IsFormed, SameApartFromPlaces, SpellsAside};
 

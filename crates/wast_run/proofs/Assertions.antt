@@ -1,5 +1,8 @@
 -- What a run says of an assertion.
-use Rattle.wast_run.proofs.Common.{◌≡◌, ℕ, suc, List, [], ◌∷◌, ◌++◌, length, Some, Option, sym, ap, ◌∙◌, inl, inr, arith, length-append, InCall, TrapKind, Value, LinkedSet, Ended, ListedCall, Stopped, Asserts, EndsWith, IsTimely, Runs, Setting, TrapsIn, calls_with, set_at, HasCome, IsLong, HasRun, IsEndWord, IsTrapWord, setting_of, Came, Stage, Word}
+use Rattle.wast_run.proofs.Common.{◌≡◌, ℕ, suc, List, [], ◌∷◌, ◌++◌, length, Some, Option, sym, ap, ◌∙◌, inl, inr, arith, length-append}
+use Rattle.wast_run.proofs.Common.{InCall, TrapKind, Value, LinkedSet, Ended, ListedCall, Stopped, Asserts, EndsWith, IsTimely, Runs}
+use Rattle.wast_run.proofs.Common.{Setting, TrapsIn, calls_with, set_at, HasCome, IsLong, HasRun, IsEndWord, IsTrapWord, setting_of, Came}
+use Rattle.wast_run.proofs.Common.{Stage, Word}
 use Rattle.wasm_meaning.specs.Execution.{Trapped}
 use Rattle.wast_script.specs.Commands as script
 use Rattle.wast_run.specs.declared.runs.Came.TheVariants as came

@@ -1,5 +1,9 @@
 -- What the units of a set ran is what the modules of the set come to.
-use Rattle.wast_run.proofs.Common.{◌≡◌, ℕ, suc, ◌<◌, ◌≤◌, true, ◌≢◌, List, [], ◌∷◌, ◌++◌, map, length, Some, None, sym, refl, ap, ◌∙◌, subst, arith, Bor, AllByRecursion, Reply, TrapKind, LinkedSet, ListedCall, wasm_run, Program, SymbolCall, fits, CRun, c_run, IsAcceptedSet, IsListing, NeverStops, UnitsDoTheSame, program_of, symbol_call, Call, HasRan, came_in, symbol_of, symbols_of, EnoughStepsEndRuns, HasCome, IsLong, IsOver, RunsAreAlike, listed_call, listed_calls, modules_run, units_run, Came}
+use Rattle.wast_run.proofs.Common.{◌≡◌, ℕ, suc, ◌<◌, ◌≤◌, true, ◌≢◌, List, [], ◌∷◌, ◌++◌, map, length, Some, None, sym, refl, ap, ◌∙◌}
+use Rattle.wast_run.proofs.Common.{subst, arith, Bor, AllByRecursion, Reply, TrapKind, LinkedSet, ListedCall, wasm_run, Program, SymbolCall}
+use Rattle.wast_run.proofs.Common.{fits, CRun, c_run, IsAcceptedSet, IsListing, NeverStops, UnitsDoTheSame, program_of, symbol_call, Call}
+use Rattle.wast_run.proofs.Common.{HasRan, came_in, symbol_of, symbols_of, EnoughStepsEndRuns, HasCome, IsLong, IsOver, RunsAreAlike}
+use Rattle.wast_run.proofs.Common.{listed_call, listed_calls, modules_run, units_run, Came}
 use Rattle.wasm_meaning.specs.Execution as exec
 use Rattle.wasm_meaning.specs.Run as wasm
 use Rattle.c_meaning.specs.State as state
@@ -15,33 +19,27 @@ use Rattle.wast_run.specs.declared.session_runs.Ran.TheVariants as ran
 ended_alike : (o : wasm.Outcome) → OutcomesAlike o c.Ended → o ≡ wasm.Ended
 ended_alike wasm.Ended alike = refl
 ended_alike (wasm.Stopped (exec.Trapped kind)) alike = absurd alike
-ended_alike (wasm.Stopped exec.OutOfSteps) alike = absurd alike
-ended_alike (wasm.Stopped exec.Asks) alike = absurd alike
-ended_alike (wasm.Stopped exec.Stuck) alike = absurd alike
+ended_alike (wasm.Stopped _) alike = absurd alike
 
 trapped_alike : (o : wasm.Outcome) (kind : TrapKind) → OutcomesAlike o (c.Stopped (state.Trapped kind))
     → o ≡ wasm.Stopped (exec.Trapped kind)
 trapped_alike wasm.Ended kind alike = absurd alike
 trapped_alike (wasm.Stopped (exec.Trapped other)) kind alike = ap (λ k. wasm.Stopped (exec.Trapped k)) alike
 trapped_alike (wasm.Stopped exec.OutOfSteps) kind alike = absurd alike
-trapped_alike (wasm.Stopped exec.Asks) kind alike = absurd alike
-trapped_alike (wasm.Stopped exec.Stuck) kind alike = absurd alike
+trapped_alike (wasm.Stopped _) kind alike = absurd alike
 
 -- a run that is out of steps is like no other
 out_like_none : (o : c.Outcome) → OutcomesAlike (wasm.Stopped exec.OutOfSteps) o → ⊥
-out_like_none c.Ended alike = alike
 out_like_none (c.Stopped (state.Trapped kind)) alike = alike
 out_like_none (c.Stopped (state.Undefined kind place)) alike = alike
 out_like_none (c.Stopped state.Asks) alike = alike
 out_like_none (c.Stopped state.Stuck) alike = alike
-out_like_none c.OutOfSteps alike = alike
+out_like_none _ alike = alike
 
 none_like_out : (w : wasm.Outcome) → OutcomesAlike w c.OutOfSteps → ⊥
 none_like_out wasm.Ended alike = alike
 none_like_out (wasm.Stopped (exec.Trapped kind)) alike = alike
-none_like_out (wasm.Stopped exec.OutOfSteps) alike = alike
-none_like_out (wasm.Stopped exec.Asks) alike = alike
-none_like_out (wasm.Stopped exec.Stuck) alike = alike
+none_like_out (wasm.Stopped _) alike = alike
 
 modules_not_out : (w : wasm.Outcome) (o : c.Outcome) → OutcomesAlike w o → w ≢ wasm.Stopped exec.OutOfSteps
 modules_not_out w o alike is = out_like_none o (subst (λ w. OutcomesAlike w o) is alike)
@@ -157,10 +155,9 @@ module _ (s : LinkedSet) (calls : List ListedCall) (steps count : ℕ) (counted 
   pub came_to_something : NeverStops (program_of s) s → IsListing s calls → (r : Ran) → HasRan (units_run s calls steps) count r
       → came_in r ≡ None → ⊥
   came_to_something never listing (ran.Last (outcome.Ended value)) run_is e = absurd cc
-  came_to_something never listing (ran.Last (outcome.Trapped kind)) run_is e = absurd cc
   came_to_something never listing (ran.Last (outcome.Undefined u)) run_is e =
       never.never_undefined calls [] steps u.kind (place_of u) listing run_is.is
-  came_to_something never listing (ran.Last outcome.OutOfSteps) run_is e = absurd cc
+  came_to_something never listing (ran.Last _) run_is e = absurd cc
   came_to_something never listing (ran.Before (outcome.Ended value)) run_is e = absurd (stops_at_no_end run_is.stop)
     where
       stops_at_no_end : None ≡ Some (outcome.Ended value) → ⊥

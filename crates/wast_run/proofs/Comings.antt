@@ -1,9 +1,14 @@
 -- What a command comes to, from what its parts come to.
-use Rattle.wast_run.proofs.Common.{◌≡◌, ℕ, ◌≤◌, List, [], ◌∷◌, ◌++◌, map, length, Some, None, Option, sym, refl, ap, ◌∙◌, subst, inl, inr, Bor, TrapKind, Value, file_told, long_file_told, no_file_told, Contents, HasFile, HasLongFile, HasNoFile, Name, Told, Tells, Module, most_module_bytes, FileVerdict, Accepted, Invalid, Fits, WasmRun, named_of, ModuleFile, Refused, seen_call, Call, Agrees, says_invalid, says_malformed, tree_of, Asserts, Comes, IsFile, IsTimely, Joins, Keeps, Setting, accepted_tree, holds, is_invalid, is_malformed, listed, set_at, listed_call, listed_calls, HasRun, setting_of, IsUnreadFile, Judged, Stage, Word}
+use Rattle.wast_run.proofs.Common.{◌≡◌, ℕ, ◌≤◌, List, [], ◌∷◌, ◌++◌, map, length, Some, None, Option, sym, refl, ap, ◌∙◌, subst, inl, inr}
+use Rattle.wast_run.proofs.Common.{Bor, TrapKind, Value, file_told, long_file_told, no_file_told, Contents, HasFile, HasLongFile, HasNoFile}
+use Rattle.wast_run.proofs.Common.{Name, Told, Tells, Module, most_module_bytes, FileVerdict, Accepted, Invalid, Fits, WasmRun, named_of}
+use Rattle.wast_run.proofs.Common.{ModuleFile, Refused, seen_call, Call, Agrees, says_invalid, says_malformed, tree_of, Asserts, Comes}
+use Rattle.wast_run.proofs.Common.{IsFile, IsTimely, Joins, Keeps, Setting, accepted_tree, holds, is_invalid, is_malformed, listed, set_at}
+use Rattle.wast_run.proofs.Common.{listed_call, listed_calls, HasRun, setting_of, IsUnreadFile, Judged, Stage, Word}
 use Rattle.wasm_spelling.specs.declared.fault.Cause.{Cause}
 use Rattle.wasm_spelling.specs.declared.fault.Which.{Which}
 use Rattle.wasm_spelling.specs.declared.fault.ReadFault.TheVariants as fault
-use Rattle.wasm_valid.specs.declared.fault.ValidCause.{ValidCause}
+use Rattle.wasm_typing.specs.declared.fault.ValidCause.{ValidCause}
 use Rattle.wasm_valid.specs.FileVerdict.{Read, Unread, IsVerdictOn}
 use Rattle.wast_script.specs.Commands as script
 use Rattle.wast_run.specs.declared.judging.Judged.TheVariants as judged

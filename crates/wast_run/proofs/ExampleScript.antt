@@ -1,7 +1,12 @@
 -- The worked script: what its text says, what the files hold, and the word that each command comes to.
 use Rattle.std.specs.Char.{encode_utf8}
 use Rattle.std.specs.Str.{chars}
-use Rattle.wast_run.proofs.Common.{◌≡◌, ℕ, zero, suc, List, [], ◌∷◌, length, pos, Some, None, codes, Option, MatchOption, refl, ap, ◌∙◌, subst, inl, inr, arith, leb-true, get, AllByRecursion, I32, Contents, extended, Module, most_module_bytes, Accepted, IsValid, IsLinked, ModuleFunc, NamedModule, Fits, Line, Command, Usage, IsScript, most_script_bytes, IsJob, IsJobBehind, Reported, Reports, Stops, AreWords, AreWordsInTime, Comes, EndsWith, Setting, at_first, listed, report_of, report_status, set_at, modules_run, units_run, Word}
+use Rattle.wast_run.proofs.Common.{◌≡◌, ℕ, zero, suc, List, [], ◌∷◌, length, pos, Some, None, codes, Option, MatchOption, refl, ap, ◌∙◌}
+use Rattle.wast_run.proofs.Common.{subst, inl, inr, arith, leb-true, get, AllByRecursion, I32, Contents, extended, Module}
+use Rattle.wast_run.proofs.Common.{most_module_bytes, Accepted, IsValid, IsLinked, ModuleFunc, NamedModule, Fits, Line, Command, Usage}
+use Rattle.wast_run.proofs.Common.{IsScript, most_script_bytes, IsJob, IsJobBehind, Reported, Reports, Stops, AreWords, AreWordsInTime}
+use Rattle.wast_run.proofs.Common.{Comes, EndsWith, Setting, at_first, listed, report_of, report_status, set_at, modules_run, units_run}
+use Rattle.wast_run.proofs.Common.{Word}
 use Rattle.std.specs.Fmt.{digits}
 use Rattle.std.specs.Str.{is_utf8}
 use Rattle.clap.proofs.OnLiterals.{clap_on_literals}
@@ -12,9 +17,11 @@ use Rattle.wasm_tree.specs.declared.operators.BinaryOp.TheVariants.{Add}
 use Rattle.wasm_tree.specs.declared.entries.ExportKind.TheVariants.{Func as ExportFunc}
 use Rattle.wasm_spelling.specs.ModuleFields.{Spells}
 use Rattle.wasm_spelling.specs.Steps.{bytes_at, checked, number_at, reads, signed32_at}
-use Rattle.wasm_spelling.specs.Reading.{bodies_at, body_at, body_content_at, content_at, exactly_at, export_entry_at, file_at, form_at, func_entry_at, func_type_at, item_at, items_at, kind_at, magic_at, module_at, name_at, part_at, sections_at, times_at, type_at, type_entry_at, utf8_at, version_at, window_at}
+use Rattle.wasm_spelling.specs.Reading.{bodies_at, body_at, body_content_at, content_at, exactly_at, export_entry_at, file_at, form_at}
+use Rattle.wasm_spelling.specs.Reading.{func_entry_at, func_type_at, item_at, items_at, kind_at, magic_at, module_at, name_at, part_at}
+use Rattle.wasm_spelling.specs.Reading.{sections_at, times_at, type_at, type_entry_at, utf8_at, version_at, window_at}
 use Rattle.wasm_spelling.proofs.Whole.{file_takes}
-use Rattle.wasm_valid.specs.ModuleFaults.{module_faults}
+use Rattle.wasm_typing.specs.ModuleFaults.{module_faults}
 use Rattle.wasm_valid.proofs.Verdicts as verdicts
 use Rattle.serde_json.proofs.OnLiterals.{serde_json_on_literals}
 use Rattle.wasm_spelling.specs.declared.fault.Cause.TheVariants as cause

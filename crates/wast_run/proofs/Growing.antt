@@ -1,28 +1,18 @@
 -- What fits a set of modules fits it with one module more.
-use Rattle.wast_run.proofs.Common.{◌≡◌, ℕ, zero, suc, Bool, true, false, List, [], ◌∷◌, ◌++◌, if◌then◌else◌, slice_get, Some, None, Option, option_map, find, bytes_eq, refl, ap, ◌∙◌, none-some, AllByRecursion, Host, External, FuncAddress, HostFunc, Instance, ModuleFunc, NamedModule, as_func, exported, func_type, instance_of, instances, instances_behind, Fits, ListedCall, set_with}
+use Rattle.wast_run.proofs.Common.{◌≡◌, ℕ, zero, suc, List, [], ◌∷◌, ◌++◌, if◌then◌else◌, slice_get, Some, None, Option, option_map, refl}
+use Rattle.wast_run.proofs.Common.{ap, ◌∙◌, none-some, AllByRecursion, Host, External, FuncAddress, HostFunc, Instance, ModuleFunc}
+use Rattle.wast_run.proofs.Common.{NamedModule, as_func, exported, func_type, instance_of, instances, instances_behind, Fits, ListedCall}
+use Rattle.wast_run.proofs.Common.{set_with}
 use Rattle.wasm_tree.specs.IndexSpaces.{at_defined, type_in}
-use Rattle.w2c_base.specs.Lookup.{if_found, named}
+use Rattle.w2c_base.specs.Lookup.{if_found}
 use Rattle.w2c_base.specs.declared.signature.FuncType.{FuncType}
+use Rattle.c_unit.proofs.Stands.{exported_more}
 
 instances_more : (hosts : List Host) (earlier : List Instance) (modules : List NamedModule) (m : NamedModule)
     → instances_behind hosts earlier (modules ++ m ∷ [])
     ≡ instances_behind hosts earlier modules ++ instance_of hosts (instances_behind hosts earlier modules) m ∷ []
 instances_more hosts earlier [] m = refl
 instances_more hosts earlier (x ∷ modules) m = instances_more hosts (earlier ++ instance_of hosts earlier x ∷ []) modules m
-
-exported_more : (some others : List Instance) (module_name name : List ℕ) (e : External)
-    → exported some module_name name ≡ Some e → exported (some ++ others) module_name name ≡ Some e
-exported_more [] others module_name name e is = absurd (none-some e is)
-exported_more (i ∷ some) others module_name name e is =
-    by (bytes_eq i.name module_name) (exported_more some others module_name name e) is
-  where
-    by : (b : Bool) → (exported some module_name name ≡ Some e → exported (some ++ others) module_name name ≡ Some e)
-        → if_found (if b then Some i else find (λ i. bytes_eq i.name module_name) some) (λ i. if_found (named name i.exports) (λ e. e))
-        ≡ Some e
-        → if_found (if b then Some i else find (λ i. bytes_eq i.name module_name) (some ++ others))
-        (λ i. if_found (named name i.exports) (λ e. e)) ≡ Some e
-    by true behind is = is
-    by false behind is = behind is
 
 at_more : (modules others : List NamedModule) (p : ℕ) (m : NamedModule) → slice_get modules p ≡ Some m
     → slice_get (modules ++ others) p ≡ Some m

@@ -1,21 +1,28 @@
 -- Where the files behave as files, what passes through them says what they hold.
-use Rattle.wast_run.proofs.Common.{◌≡◌, ℕ, ◌≤◌, Bool, true, false, ◌≢◌, ◌⊎◌, List, [], ◌∷◌, ◌++◌, length, if◌then◌else◌, ◌==◌, Some, None, Ok, Err, Option, MatchOption, sym, refl, ap, ◌∙◌, subst, inl, inr, append_assoc, arith, none-some, same_Some, get, AllByRecursion, Contents, IsPrefix, Name, Told, Event, Read, Says, most_module_bytes, FileVerdict, Line, line_of, Command, Reason, Refused, Unread, Unwritten, Usage, WantOfMemory, error_line, status_of, most_script_bytes, ScriptFault, GainedPart, GainsPrefix, HasReading, IsAnswered, IsJob, IsJobBehind, IsNotThere, Job, Refuses, Reported, ReportedPart, Reports, Stops, GainsLinesBefore, HasItsFile, IsFirstMissing, IsNamed, IsPart, file_of, lines_before, Answer, ComesOver, DoesJob, DoesLine, Ending, EndsSo, IsGiven, IsJobBy, IsNoFile, IsReadAs, IsStatusOf, LastLines, LastReads, LeadOver, PassesFor, ReadsNext, ReportsOver, StopsIn, WantsMemory, module_read, script_read, Comes, IsFile, LeadInTime, Setting, at_first, ok_count, report_of, Word}
+use Rattle.wast_run.proofs.Common.{◌≡◌, ℕ, ◌≤◌, Bool, true, false, ◌≢◌, ◌⊎◌, List, [], ◌∷◌, ◌++◌, length, if◌then◌else◌, ◌==◌, Some, None}
+use Rattle.wast_run.proofs.Common.{Ok, Err, Option, MatchOption, sym, refl, ap, ◌∙◌, subst, inl, inr, arith, none-some, same_Some, get}
+use Rattle.wast_run.proofs.Common.{AllByRecursion, Contents, IsPrefix, Name, Told, Event, Read, Says, most_module_bytes, FileVerdict, Line}
+use Rattle.wast_run.proofs.Common.{line_of, Command, Reason, Refused, Unread, Unwritten, Usage, WantOfMemory, error_line, status_of}
+use Rattle.wast_run.proofs.Common.{most_script_bytes, ScriptFault, GainedPart, GainsPrefix, HasReading, IsAnswered, IsJob, IsJobBehind}
+use Rattle.wast_run.proofs.Common.{IsNotThere, Job, Refuses, Reported, ReportedPart, Reports, Stops, GainsLinesBefore, HasItsFile}
+use Rattle.wast_run.proofs.Common.{IsFirstMissing, IsNamed, IsPart, file_of, lines_before, Answer, ComesOver, DoesJob, DoesLine, Ending}
+use Rattle.wast_run.proofs.Common.{EndsSo, IsGiven, IsJobBy, IsNoFile, IsReadAs, IsStatusOf, LastLines, LastReads, LeadOver, PassesFor}
+use Rattle.wast_run.proofs.Common.{ReadsNext, ReportsOver, StopsIn, WantsMemory, module_read, script_read, Comes, IsFile, LeadInTime}
+use Rattle.wast_run.proofs.Common.{Setting, at_first, ok_count, report_of, Word}
 use Rattle.w2c_io.specs.Honest.{AreHonest, Does}
 use Rattle.w2c_io.specs.declared.answers.ReadAnswer.TheVariants as reading
 use Rattle.w2c_files.specs.Passing.{FailsLast}
-use Rattle.w2c_files.proofs.Honest.{honest_both, read_keeps}
+use Rattle.w2c_files.proofs.Honest.{honest_both, read_keeps, fails_behind}
 use Rattle.wast_script.specs.declared.fault.ScriptFault.TheVariants as fault
 use Rattle.wast_script.specs.Commands as script
 use Rattle.wast_run.proofs.Leads.{lead_plain, lead_there}
 use Rattle.wast_run.proofs.JobLaws.{AreApart, IsOneScript, job_apart, one_status}
-use Rattle.wast_run.proofs.TopLaws.{fault_not_3, fault_not_4, gained_before, missing_always, no_report, nothing_gained, part_gains, reported_always, whole_part}
+use Rattle.wast_run.proofs.TopLaws.{fault_not_3, fault_not_4, gained_before, missing_always, no_report, nothing_gained, part_gains}
+use Rattle.wast_run.proofs.TopLaws.{reported_always, whole_part}
 use Rattle.wast_run.proofs.WordLines.{lines_in_front}
 use Rattle.wast_run.proofs.WorkLaws.{job_by_line, job_of_text}
 
 -- ---- calls one behind another
-
-same_told : {a b c : Told} → b ≡ a → c ≡ b → c ≡ a
-same_told e f = f ∙ e
 
 module _ (m : Contents) where
   -- the files are these, before and behind
@@ -41,8 +48,7 @@ module _ (m : Contents) where
   given_file name (Err reading.TooLong) verdict current told after given does =
       subst (IsFile m name) (sym given) (does.0.0, does.0.1, does.0.2)
   given_file name (Err reading.Absent) verdict current told after given does = absurd given
-  given_file name (Err reading.Failed) verdict current told after given does = absurd given
-  given_file name (Err reading.Memory) verdict current told after given does = absurd given
+  given_file name (Err _) verdict current told after given does = absurd given
 
   file_honest : (name : Name) (verdict : Option FileVerdict) (events : List Event) (current : Option Name) (new : Told)
       (after : Option Name) → IsReadAs events name verdict → Honest events current new after → IsFile m name verdict × (new ≡ Some m)
@@ -58,18 +64,14 @@ module _ (m : Contents) where
   comes_honest steps at (script.Module file) w after events current new last (comes, none) honest =
       let h = file_honest file.filename comes.0 events current new last comes.1 honest in
       ((comes.0, h.0, comes.2), h.1)
-  comes_honest steps at (script.Invoke call) w after events current new last (comes, none) honest =
-      (comes, none_honest events current new last (none refl) honest)
-  comes_honest steps at (script.AssertReturn call expected) w after events current new last (comes, none) honest =
-      (comes, none_honest events current new last (none refl) honest)
-  comes_honest steps at (script.AssertTrap call cause) w after events current new last (comes, none) honest =
-      (comes, none_honest events current new last (none refl) honest)
   comes_honest steps at (script.AssertInvalid file) w after events current new last (comes, none) honest =
       let h = file_honest file comes.0 events current new last comes.1 honest in
       ((comes.0, h.0, comes.2, comes.3), h.1)
   comes_honest steps at (script.AssertMalformed file) w after events current new last (comes, none) honest =
       let h = file_honest file comes.0 events current new last comes.1 honest in
       ((comes.0, h.0, comes.2, comes.3), h.1)
+  comes_honest steps at _ w after events current new last (comes, none) honest =
+      (comes, none_honest events current new last (none refl) honest)
 
   lead_honest : (steps : ℕ) (at : Setting) (commands : List Command) (words : List Word) (after : Setting) (events : List Event)
       (current : Option Name) (new : Told) (last : Option Name)
@@ -111,10 +113,9 @@ prefix_of_lines : (why : Reason) (words : List Word) (rest : List Command) (text
     → IsPrefix text (lines_before words rest)
 prefix_of_lines (Unread file) words rest text lines =
     let front_is = lines_in_front words rest in (front_is.0, front_is.1 ∙ ap (λ (l : List ℕ). l ++ front_is.0) (sym lines))
-prefix_of_lines Unwritten words rest text lines = lines
-prefix_of_lines WantOfMemory words rest text lines = lines
 prefix_of_lines Usage words rest text lines = absurd lines
 prefix_of_lines (Refused why) words rest text lines = absurd lines
+prefix_of_lines _ words rest text lines = lines
 
 module _ (m : Contents) where
   module _ (steps : ℕ) (commands : List Command) (old out : Option (List ℕ)) (why : Reason) (events : List Event)
@@ -241,13 +242,6 @@ Over words m old out events (Err (Unread file)) = (FailsLast file events ⊎ IsN
 Over words m old out events (Err Unwritten) = ReportedPart words m old out
 Over words m old out events (Err WantOfMemory) = GainedPart words m old out
 
-fails_behind : (file : Name) (first given events : List Event) → events ≡ first ++ given → FailsLast file given → FailsLast file events
-fails_behind file first given events is (front, limit, fails) = (
-  first ++ front,
-  limit,
-  is ∙ ap (λ (l : List Event). first ++ l) fails ∙ sym (append_assoc first front (Read file limit (Err reading.Failed) ∷ [])),
-)
-
 not_usage : (line : Line) (answer : Answer) → IsJobBy line answer (Stops Usage) → ⊥
 not_usage line (Ok text) job = job
 not_usage line (Err reading.Absent) job = absurd cc
@@ -355,13 +349,12 @@ module _ (words : List Name) (m : Contents) (old out : Option (List ℕ)) (event
             missing file (inr first) = inr (inr (steps, commands, job, first))
 
             by : (other : Reason) → why ≡ other → LastReads other stops.rest stops.last → Over words m old out events (Err other)
-            by Usage same reads = absurd reads
-            by (Refused fault) same reads = absurd reads
             by (Unread file) same reads =
                 let had = stop_missing m steps commands old out why given behind_script new after stops behind_honest file same in
                 (missing file had, inr part)
             by Unwritten same reads = part
             by WantOfMemory same reads = inr part
+            by _ same reads = absurd reads
 
         reports_over : (ending : Ending) → ReportsOver steps commands old out ending given → Over words m old out events ending
         reports_over (Ok status) (all, at, lead, gained, status_is) =
@@ -452,9 +445,7 @@ module _ (words : List Name) (m : Contents) (old out said said' : Option (List �
           × Says said said' faults faults' (error_line why)
       for_reason Usage stopped is says = (Usage, is, stopped.0, stopped.1, says)
       for_reason (Refused why) stopped is says = (Refused why, is, stopped.0, stopped.1, says)
-      for_reason (Unread file) stopped is says = absurd (omega (arith, is))
-      for_reason Unwritten stopped is says = absurd (omega (arith, is))
-      for_reason WantOfMemory stopped is says = absurd (omega (arith, is))
+      for_reason _ stopped is says = absurd (omega (arith, is))
 
       by : (ending : Ending) → Over words m old out events ending → IsStatusOf ending status (Says said said' faults faults')
           → (why : Reason) × (status_of why ≡ 2) × Refuses words (Some m) why × (out ≡ old)
@@ -470,10 +461,8 @@ module _ (words : List Name) (m : Contents) (old out said said' : Option (List �
           → Says said said' faults faults' (error_line why)
           → (file : Name) × (FailsLast file events ⊎ IsNotThere words m file) × Says said said' faults faults' (error_line (Unread file))
       for_reason (Unread file) stopped is says = (file, stopped.0, says)
-      for_reason Usage stopped is says = absurd (omega (arith, is))
       for_reason (Refused why) stopped is says = absurd (fault_not_3 why is)
-      for_reason Unwritten stopped is says = absurd (omega (arith, is))
-      for_reason WantOfMemory stopped is says = absurd (omega (arith, is))
+      for_reason _ stopped is says = absurd (omega (arith, is))
 
       by : (ending : Ending) → Over words m old out events ending → IsStatusOf ending status (Says said said' faults faults')
           → (file : Name) × (FailsLast file events ⊎ IsNotThere words m file) × Says said said' faults faults' (error_line (Unread file))
@@ -522,10 +511,8 @@ module _ (words : List Name) (m : Contents) (old out said said' : Option (List �
           → Says said said' faults faults' (error_line why)
           → ReportedPart words m old out × Says said said' faults faults' (error_line Unwritten)
       for_reason Unwritten stopped is says = (stopped, says)
-      for_reason Usage stopped is says = absurd (omega (arith, is))
       for_reason (Refused why) stopped is says = absurd (fault_not_4 why is)
-      for_reason (Unread file) stopped is says = absurd (omega (arith, is))
-      for_reason WantOfMemory stopped is says = absurd (omega (arith, is))
+      for_reason _ stopped is says = absurd (omega (arith, is))
 
       by : (ending : Ending) → Over words m old out events ending → IsStatusOf ending status (Says said said' faults faults')
           → ReportedPart words m old out × Says said said' faults faults' (error_line Unwritten)

@@ -1,5 +1,7 @@
 -- What words ask for is one thing: a report on one list of commands, or reasons of one status.
-use Rattle.wast_run.proofs.Common.{◌≡◌, ℕ, ◌≢◌, List, Some, None, Option, MatchOption, sym, refl, ap, ◌∙◌, get, Contents, Name, Line, line_of, Command, Reason, Refused, Unread, Unwritten, Usage, WantOfMemory, fault_status, status_of, IsFault, IsScript, ScriptFault, IsJob, IsJobBehind, Job, Reports, Stops}
+use Rattle.wast_run.proofs.Common.{◌≡◌, ℕ, ◌≢◌, List, Some, None, Option, MatchOption, sym, refl, ap, ◌∙◌, get, Contents, Name, Line}
+use Rattle.wast_run.proofs.Common.{line_of, Command, Reason, Refused, Unread, Usage, fault_status, status_of, IsFault, IsScript}
+use Rattle.wast_run.proofs.Common.{ScriptFault, IsJob, IsJobBehind, Job, Reports, Stops}
 use Rattle.wast_script.specs.declared.fault.ScriptFault.TheVariants as fault
 
 -- that a text is one script, and none where it has a fault
@@ -22,11 +24,8 @@ by_line words m a b P without behind = go (line_of words)
     go (Some line) first second = behind line (get m line.script) first second
 
 pub fault_status_is : (why : ScriptFault) → why ≢ fault.Memory → fault_status why ≡ 2
-fault_status_is fault.TooLong not = refl
-fault_status_is fault.NotJson not = refl
-fault_status_is fault.NoCommands not = refl
-fault_status_is (fault.Command number) not = refl
 fault_status_is fault.Memory not = absurd (not refl)
+fault_status_is _ not = refl
 
 abbrev reason_of_job : Job → Reason
 reason_of_job (Stops why) = why
@@ -35,10 +34,7 @@ reason_of_job (Reports steps commands) = Usage
 -- a script that is refused has status 2
 refused_status : (line : Line) (text : List ℕ) (why : Reason) → IsJobBehind line (Some text) (Stops why) → status_of why ≡ 2
 refused_status line text (Refused why) job = fault_status_is why job.1
-refused_status line text Usage job = absurd job
-refused_status line text Unwritten job = absurd job
-refused_status line text WantOfMemory job = absurd job
-refused_status line text (Unread file) job = absurd job
+refused_status line text _ job = absurd job
 
 pub one_status : (words : List Name) (m : Contents) (a b : Reason) → IsJob words m (Stops a) → IsJob words m (Stops b)
     → status_of a ≡ status_of b
@@ -62,9 +58,7 @@ job_apart apart words m steps commands why = by_line words m (Reports steps comm
     behind line None why first second = no_report_stops steps commands (Unread line.script) first
     behind line (Some text) (Refused why) first second = apart text commands why second.1 first.0 second.0
     behind line (Some text) Usage first second = second
-    behind line (Some text) Unwritten first second = second
-    behind line (Some text) WantOfMemory first second = second
-    behind line (Some text) (Unread file) first second = second
+    behind line (Some text) _ first second = second
 
 pub one_list : IsOneScript → (words : List Name) (m : Contents) (steps others : ℕ) (a b : List Command)
     → IsJob words m (Reports steps a) → IsJob words m (Reports others b) → (steps ≡ others) × (a ≡ b)

@@ -1,5 +1,7 @@
 -- The units of the modules that joined, with one module more.
-use Rattle.wast_run.proofs.Common.{◌≡◌, List, [], ◌∷◌, ◌++◌, map, None, Option, sym, ap, ◌∙◌, subst, map-append, AllByRecursion, all_push, IsLinked, Fits, ListedCall, named_of, set_of, SetModule, link_refusal, items, IsAccepted, IsAcceptedSet, UnitsLink, program_of, units_in, alone}
+use Rattle.wast_run.proofs.Common.{◌≡◌, List, [], ◌∷◌, ◌++◌, map, None, Option, sym, ap, ◌∙◌, subst, map-append, AllByRecursion, all_push}
+use Rattle.wast_run.proofs.Common.{IsLinked, Fits, ListedCall, named_of, set_of, SetModule, link_refusal, items, IsAccepted, IsAcceptedSet}
+use Rattle.wast_run.proofs.Common.{UnitsLink, program_of, units_in, alone}
 use Rattle.c_tree.specs.Tree as tree
 use Rattle.crun.specs.Sessions.{State}
 

@@ -1,5 +1,6 @@
 -- The calls that were kept, one by one.
-use Rattle.wast_run.proofs.Common.{◌≡◌, ℕ, zero, suc, ◌+◌, ◌<◌, List, [], ◌∷◌, ◌++◌, map, length, get_or, take, drop, sym, ap, ◌∙◌, add-one, arith, take-append-drop, length-take-le, drop-cons, take-suc, length-map, map-append, AllByRecursion}
+use Rattle.wast_run.proofs.Common.{◌≡◌, ℕ, zero, suc, ◌+◌, ◌<◌, List, [], ◌∷◌, ◌++◌, map, length, get_or, take, drop, sym, ap, ◌∙◌, add-one}
+use Rattle.wast_run.proofs.Common.{arith, take-append-drop, length-take-le, drop-cons, take-suc, length-map, map-append, AllByRecursion}
 
 module _ {A B : Type 0} (f : A → B) where
   module _ (xs : List A) (k : ℕ) (d x : A) (less : k < length xs) (at : x ≡ get_or xs k d) where

@@ -1,5 +1,7 @@
 -- The words of commands, one command more.
-use Rattle.wast_run.proofs.Common.{◌≡◌, ℕ, suc, ◌≢◌, List, [], ◌∷◌, ◌++◌, length, Some, None, Option, refl, ap, ◌∙◌, subst, same_Some, get, AllByRecursion, Contents, Name, FileVerdict, Command, HasItsFile, Comes, IsFile, IsTimely, Lead, LeadInTime, Setting, Word}
+use Rattle.wast_run.proofs.Common.{◌≡◌, ℕ, suc, ◌≢◌, List, [], ◌∷◌, ◌++◌, length, Some, None, Option, refl, ap, ◌∙◌, subst, same_Some, get}
+use Rattle.wast_run.proofs.Common.{AllByRecursion, Contents, Name, FileVerdict, Command, HasItsFile, Comes, IsFile, IsTimely, Lead}
+use Rattle.wast_run.proofs.Common.{LeadInTime, Setting, Word}
 use Rattle.wast_script.specs.Commands as script
 
 module _ (contents : Contents) (steps : ℕ) where
@@ -40,11 +42,9 @@ file_there contents file verdict (bytes, held, judged) name same none =
 pub has_its_file : (contents : Contents) (steps : ℕ) (at : Setting) (command : Command) (w : Word) (after : Setting)
     → Comes contents steps at command w after → HasItsFile contents command
 has_its_file contents steps at (script.Module file) w after comes = file_there contents file.filename comes.0 comes.1
-has_its_file contents steps at (script.Invoke call) w after comes = λ name is. absurd cc
-has_its_file contents steps at (script.AssertReturn call expected) w after comes = λ name is. absurd cc
-has_its_file contents steps at (script.AssertTrap call cause) w after comes = λ name is. absurd cc
 has_its_file contents steps at (script.AssertInvalid file) w after comes = file_there contents file comes.0 comes.1
 has_its_file contents steps at (script.AssertMalformed file) w after comes = file_there contents file comes.0 comes.1
+has_its_file contents steps at _ w after comes = λ name is. absurd cc
 
 pub lead_there : (contents : Contents) (steps : ℕ) (at : Setting) (front : List Command) (words : List Word) (after : Setting)
     → Lead contents steps at front words after → AllByRecursion (HasItsFile contents) front

@@ -1,39 +1,39 @@
 -- What the proofs of this crate cite from elsewhere
 mod Common
 -- Lists, and what was written: pieces behind one another, and parts of them
-pub mod Lists
+mod Lists
 -- Words, and their lines
-pub mod WordLines
+mod WordLines
 -- Commands one behind another, and parts of a report
-pub mod Leads
-pub mod PartLaws
+mod Leads
+mod PartLaws
 -- One report for commands, of which a part is a prefix
-pub mod OneReport
-pub mod ReportStops
+mod OneReport
+mod ReportStops
 -- A set that grows
-pub mod Growing
+mod Growing
 -- Runs of sessions without hosts, and of the units of a linked set
-pub mod Kept
-pub mod Sessions
-pub mod Comes
-pub mod JoinedUnits
-pub mod Units
+mod Kept
+mod Sessions
+mod Comes
+mod JoinedUnits
+mod Units
 -- What a run says of an assertion
-pub mod Assertions
+mod Assertions
 -- A stage with one module or one call more
-pub mod StageLaws
-pub mod Comings
+mod StageLaws
+mod Comings
 -- The commands of a script
-pub mod ScriptLaws
+mod ScriptLaws
 -- What passes through the files
-pub mod Passing
-pub mod OnlyReads
+mod Passing
+mod OnlyReads
 -- Why the work stops
-pub mod WorkLaws
+mod WorkLaws
 -- What a stop means for the top call
-pub mod JobLaws
-pub mod TopLaws
+mod JobLaws
+mod TopLaws
 -- Where files behave as files
-pub mod Honest
+mod Honest
 -- The worked script
-pub mod ExampleScript
+mod ExampleScript

@@ -1,5 +1,6 @@
 -- The front of a list, seen through a view, with one item more.
-use Rattle.wast_run.proofs.Common.{◌≡◌, ℕ, zero, suc, ◌<◌, List, [], ◌∷◌, map, length, get_or, take, sym, subst, arith, length-take-le, length-map, AllByRecursion}
+use Rattle.wast_run.proofs.Common.{◌≡◌, ℕ, zero, suc, ◌<◌, List, [], ◌∷◌, map, length, get_or, take, sym, subst, arith, length-take-le}
+use Rattle.wast_run.proofs.Common.{length-map, AllByRecursion}
 
 pub mapped_front : {A B : Type 0} (view : A → B) (xs : List A) (k : ℕ) → k < length xs → length (take k (map view xs)) ≡ k
 mapped_front view xs k less = length-take-le k (map view xs) (omega (arith, less, length-map xs view))

@@ -1,6 +1,11 @@
 -- A script has one report at most: each command comes to one word, with one list of modules and of calls behind it. A part is a
 -- prefix of it.
-use Rattle.wast_run.proofs.Common.{◌≡◌, ℕ, suc, ◌+◌, List, [], ◌∷◌, ◌++◌, length, Some, None, Option, sym, refl, ap, ◌∙◌, subst, inl, inr, append_assoc, append-nil, arith, same_Some, Contents, IsPrefix, Name, Module, FileVerdict, LinkedSet, ListedCall, WasmRun, prefix_in_front, Command, IsPart, lines_before, AreWords, Asserts, Comes, EndsWith, IsFile, IsJudged, Joins, Keeps, Lead, Runs, Setting, TrapsIn, Where, accepted_tree, at_first, calls_with, command_line, holds, is_invalid, is_malformed, lines_from, lines_of, ok_count, report_of, set_at, total_line, Word}
+use Rattle.wast_run.proofs.Common.{◌≡◌, ℕ, suc, ◌+◌, List, [], ◌∷◌, ◌++◌, length, Some, None, Option, sym, refl, ap, ◌∙◌, subst, inl, inr}
+use Rattle.wast_run.proofs.Common.{append_assoc, append-nil, arith, same_Some, Contents, IsPrefix, Name, Module, FileVerdict, LinkedSet}
+use Rattle.wast_run.proofs.Common.{ListedCall, WasmRun, prefix_in_front, Command, IsPart, lines_before, AreWords, Asserts, Comes, EndsWith}
+use Rattle.wast_run.proofs.Common.{IsFile, IsJudged, Joins, Lead, Runs, Setting, TrapsIn, Where, accepted_tree, at_first, calls_with}
+use Rattle.wast_run.proofs.Common.{command_line, holds, is_invalid, is_malformed, lines_from, lines_of, ok_count, report_of, set_at}
+use Rattle.wast_run.proofs.Common.{total_line, Word}
 use Rattle.wasm_valid.proofs.Files.{one_file_verdict}
 use Rattle.wast_script.specs.Commands as script
 use Rattle.wast_run.proofs.Leads.{lead_plain}
@@ -41,9 +46,6 @@ module _ (w v : Word) (after other : Setting) where
   one_joining at name None a b = both_are _ at a b
   one_joining at name (Some tree) a b = same_case _ _ _ _ _ _ (both_are _ _) (both_are _ at) a b
 
-  one_keeping : (at : Setting) (call : script.Call) → Keeps at call w after → Keeps at call v other → AreSame
-  one_keeping at call a b = same_case _ _ _ _ _ _ (both_are _ _) (both_are _ at) a b
-
   one_run : (s : LinkedSet) (calls : List ListedCall) (steps : ℕ) (IsRight : WasmRun → Type 0)
       → Runs s calls steps IsRight w → Runs s calls steps IsRight v → w ≡ v
   one_run s calls steps IsRight a b =
@@ -59,7 +61,7 @@ module _ (w v : Word) (after other : Setting) where
   one_word contents steps at (script.Module file) (a, there, joins) (b, there', joins') =
       let same = one_file contents file.filename b a there' there in
       one_joining at file.name (accepted_tree a) joins (subst (λ o. Joins at file.name (accepted_tree o) v other) same joins')
-  one_word contents steps at (script.Invoke call) a b = one_keeping at call a b
+  one_word contents steps at (script.Invoke call) a b = same_case _ _ _ _ _ _ (both_are _ _) (both_are _ at) a b
   one_word contents steps at (script.AssertReturn call expected) a b = one_assertion at call steps (EndsWith expected) a b
   one_word contents steps at (script.AssertTrap call cause) a b = one_assertion at call steps (TrapsIn (length at.kept) cause) a b
   one_word contents steps at (script.AssertInvalid file) (a, there, is, stays) (b, there', is', stays') =

@@ -1,5 +1,10 @@
 -- Through the files pass reads alone: of the script, and of files that its commands name.
-use Rattle.wast_run.proofs.Common.{◌≡◌, ℕ, ◌⊎◌, List, [], ◌∷◌, ◌++◌, Some, None, Ok, Err, Option, MatchOption, sym, refl, ◌∙◌, subst, inl, inr, append_assoc, append-nil, AllByRecursion, all_append, passed_so, Name, Event, Passes, FileVerdict, Line, line_of, Command, Reason, Refused, Unread, Unwritten, Usage, WantOfMemory, Job, Reports, Stops, IsNamed, file_of, Answer, AreReadsFor, ComesOver, DoesJob, DoesLine, Ending, EndsSo, IsJobBy, IsReadAs, IsReadOf, LastReads, LeadOver, OnlyReads, ReadsNext, ReportsOver, WantsMemory, module_read, Setting, at_first, Word}
+use Rattle.wast_run.proofs.Common.{◌≡◌, ℕ, ◌⊎◌, List, [], ◌∷◌, ◌++◌, Some, None, Ok, Err, Option, MatchOption, sym, refl, ◌∙◌, subst, inl}
+use Rattle.wast_run.proofs.Common.{inr, append_assoc, append-nil, AllByRecursion, all_append, passed_so, Name, Event, Passes, FileVerdict}
+use Rattle.wast_run.proofs.Common.{Line, line_of, Command, Reason, Refused, Unread, Unwritten, Usage, WantOfMemory, Job, Reports, Stops}
+use Rattle.wast_run.proofs.Common.{IsNamed, file_of, Answer, AreReadsFor, ComesOver, DoesJob, DoesLine, Ending, EndsSo, IsJobBy, IsReadAs}
+use Rattle.wast_run.proofs.Common.{IsReadOf, LastReads, LeadOver, OnlyReads, ReadsNext, ReportsOver, WantsMemory, module_read, Setting}
+use Rattle.wast_run.proofs.Common.{at_first, Word}
 use Rattle.w2c_io.specs.declared.answers.ReadAnswer.TheVariants as reading
 use Rattle.wast_script.specs.declared.fault.ScriptFault.TheVariants as fault
 use Rattle.wast_script.specs.Commands as script
@@ -24,13 +29,11 @@ module _ (all : List Command) where
       → ComesOver events steps at command w after → AreReads events
   command_reads steps at (script.Module file) w after events named (comes, none) =
       judged_reads file.filename comes.0 events (named file.filename refl) comes.1
-  command_reads steps at (script.Invoke call) w after events named (comes, none) = none_read events (none refl)
-  command_reads steps at (script.AssertReturn call expected) w after events named (comes, none) = none_read events (none refl)
-  command_reads steps at (script.AssertTrap call cause) w after events named (comes, none) = none_read events (none refl)
   command_reads steps at (script.AssertInvalid file) w after events named (comes, none) =
       judged_reads file comes.0 events (named file refl) comes.1
   command_reads steps at (script.AssertMalformed file) w after events named (comes, none) =
       judged_reads file comes.0 events (named file refl) comes.1
+  command_reads steps at _ w after events named (comes, none) = none_read events (none refl)
 
   lead_reads : (steps : ℕ) (at : Setting) (before commands behind : List Command) (words : List Word) (after : Setting)
       (events : List Event) → all ≡ before ++ (commands ++ behind) → LeadOver steps at commands words after events → AreReads events

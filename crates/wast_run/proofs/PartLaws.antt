@@ -1,5 +1,10 @@
 -- Parts of a report: what a stream has gained in the midst of the commands.
-use Rattle.wast_run.proofs.Common.{◌≡◌, ℕ, suc, ◌+◌, List, [], ◌∷◌, ◌++◌, length, if◌then◌else◌, ◌==◌, Some, None, Option, sym, refl, ap, ◌∙◌, subst, inl, inr, append_assoc, append-nil, get, AllByRecursion, Contents, IsPrefix, Name, Told, extended, SaysPart, Tells, extended_twice, none_written, prefix_behind, prefix_in_front, prefix_of_itself, whole_behind, Command, HasItsFile, IsPart, IsPartOfLines, file_of, lines_before, LeadInTime, Setting, at_first, command_line, is_ok, lines_of, ok_count, total_line, HasGained, HasReported, IsBehind, TellsCommand, TellsPart, Word}
+use Rattle.wast_run.proofs.Common.{◌≡◌, ℕ, suc, ◌+◌, List, [], ◌∷◌, ◌++◌, length, if◌then◌else◌, ◌==◌, Some, None, Option, sym, refl, ap}
+use Rattle.wast_run.proofs.Common.{◌∙◌, subst, inl, inr, append_assoc, append-nil, get, AllByRecursion, Contents, IsPrefix, Name, Told}
+use Rattle.wast_run.proofs.Common.{extended, SaysPart, Tells, extended_twice, none_written, prefix_behind, prefix_in_front}
+use Rattle.wast_run.proofs.Common.{prefix_of_itself, whole_behind, Command, HasItsFile, IsPart, IsPartOfLines, file_of, lines_before}
+use Rattle.wast_run.proofs.Common.{LeadInTime, Setting, at_first, command_line, is_ok, lines_of, ok_count, total_line, HasGained}
+use Rattle.wast_run.proofs.Common.{HasReported, IsBehind, TellsCommand, TellsPart, Word}
 use Rattle.wast_run.proofs.WordLines.{count_more, line_more, lines_in_front}
 use Rattle.wast_run.proofs.Leads.{lead_length, lead_more, lead_plain, lead_there}
 

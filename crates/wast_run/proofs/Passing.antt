@@ -1,5 +1,17 @@
 -- What passes through the files, part by part.
-use Rattle.wast_run.proofs.Common.{◌≡◌, ℕ, suc, ◌+◌, ◌≤◌, Bool, ◌⊎◌, List, [], ◌∷◌, ◌++◌, length, if◌then◌else◌, ◌==◌, Some, None, Ok, Err, Option, MatchOption, sym, refl, ap, ◌∙◌, subst, inl, inr, append_assoc, append-nil, both_passed, none_passed, passed_so, HasFile, IsPrefix, Name, Told, extended, Event, Read, Passes, SaysPart, Module, most_module_bytes, extended_twice, none_written, prefix_behind, prefix_in_front, prefix_of_itself, whole_behind, Line, line_of, Command, ModuleFile, Reason, Refused, Unread, Unwritten, Usage, WantOfMemory, error_line, status_of, IsScript, most_script_bytes, ScriptFault, GivesFirst, Reports, Stops, says_invalid, says_malformed, tree_of, file_of, lines_before, Answer, ComesOver, DoesLine, Ending, EndsSo, IsJobBy, IsNoFile, IsReadAs, LastLines, LastReads, LeadOver, PassesFor, ReportsOver, StopsIn, WantsMemory, module_read, script_read, HasReportedOver, IsBehindOver, IsFaultBy, IsOfLine, IsStopBy, JudgesFile, JudgesSo, ReadsScript, StopsOver, StopsRead, StopsScriptOver, StopsTellingOver, TellsOver, Asserts, ComesBy, EndsWith, IsTimely, Joins, Keeps, Setting, TrapsIn, accepted_tree, at_first, command_line, holds, is_invalid, is_malformed, is_ok, lines_of, ok_count, total_line, StopsLine, StopsWords, Judged, Word}
+use Rattle.wast_run.proofs.Common.{◌≡◌, ℕ, suc, ◌+◌, ◌≤◌, Bool, ◌⊎◌, List, [], ◌∷◌, ◌++◌, length, if◌then◌else◌, ◌==◌, Some, None, Ok, Err}
+use Rattle.wast_run.proofs.Common.{Option, MatchOption, sym, refl, ap, ◌∙◌, subst, inl, inr, append_assoc, append-nil, both_passed}
+use Rattle.wast_run.proofs.Common.{none_passed, passed_so, HasFile, IsPrefix, Name, Told, extended, Event, Read, Passes, SaysPart, Module}
+use Rattle.wast_run.proofs.Common.{most_module_bytes, extended_twice, prefix_behind, prefix_in_front, prefix_of_itself, whole_behind, Line}
+use Rattle.wast_run.proofs.Common.{line_of, Command, ModuleFile, Reason, Refused, Unread, Unwritten, Usage, WantOfMemory, error_line}
+use Rattle.wast_run.proofs.Common.{status_of, IsScript, most_script_bytes, ScriptFault, GivesFirst, Reports, Stops, says_invalid}
+use Rattle.wast_run.proofs.Common.{says_malformed, tree_of, file_of, lines_before, Answer, ComesOver, DoesLine, Ending, EndsSo, IsJobBy}
+use Rattle.wast_run.proofs.Common.{IsNoFile, IsReadAs, LastLines, LastReads, LeadOver, PassesFor, ReportsOver, StopsIn, WantsMemory}
+use Rattle.wast_run.proofs.Common.{module_read, script_read, HasReportedOver, IsBehindOver, IsFaultBy, IsOfLine, IsStopBy, JudgesFile}
+use Rattle.wast_run.proofs.Common.{JudgesSo, ReadsScript, StopsOver, StopsRead, StopsScriptOver, StopsTellingOver, TellsOver, Asserts}
+use Rattle.wast_run.proofs.Common.{ComesBy, EndsWith, IsTimely, Joins, Keeps, Setting, TrapsIn, accepted_tree, at_first, command_line}
+use Rattle.wast_run.proofs.Common.{holds, is_invalid, is_malformed, is_ok, lines_of, ok_count, total_line, StopsLine, StopsWords, Judged}
+use Rattle.wast_run.proofs.Common.{Word}
 use Rattle.w2c_io.specs.declared.answers.ReadAnswer.{ReadAnswer}
 use Rattle.w2c_io.specs.declared.answers.ReadAnswer.TheVariants as reading
 use Rattle.wast_script.specs.Commands as script
@@ -125,9 +137,7 @@ none_without_memory old = none_passed old (StopsOver None WantOfMemory) (refl, r
 of_line : (faults faults' : ℕ) (why : Reason) → StopsLine faults faults' why → IsOfLine why
 of_line faults faults' Unwritten stop = tt
 of_line faults faults' WantOfMemory stop = tt
-of_line faults faults' Usage stop = absurd stop
-of_line faults faults' (Refused why) stop = absurd stop
-of_line faults faults' (Unread file) stop = absurd stop
+of_line faults faults' _ stop = absurd stop
 
 -- a command has come to its word, and its line is written, or not
 module _ (old new : List Event) (steps index : ℕ) (at : Setting) (command : Command) where
@@ -190,11 +200,6 @@ module _ (steps : ℕ) where
   lead_over_length at (c ∷ front) words after events (v, others, next, one, later, comes, lead, is, calls) =
       ap length is ∙ ap suc (lead_over_length next front others after later lead)
 
-pub behind_none_over : (trace : List Event) (steps : ℕ) (at : Setting) (out : Option (List ℕ)) → at ≡ at_first
-    → Passes trace trace (IsBehindOver steps [] at out out 0)
-behind_none_over trace steps at out is = none_passed trace (IsBehindOver steps [] at out out 0)
-    (record { words = []; lead = (refl, is, refl); written = none_written out; counted = refl })
-
 pub behind_more_over : (start old new : List Event) (steps index : ℕ) (front : List Command) (command : Command) (w : Word)
     (at after : Setting) (out now now' : Option (List ℕ)) (ok count : ℕ) → length front ≡ index
     → count ≡ (if is_ok w then suc ok else ok)
@@ -225,33 +230,27 @@ last_read command rest (Some name) is (Unread file) events (same, answer, no_fil
     (answer, (is ∙ ap Some (sym same), calls ∙ ap (λ f. module_read f answer) (sym same)), no_file)
 last_read command rest (Some name) is WantOfMemory events (answer, calls) = inr (name, answer, (is, calls))
 last_read command rest (Some name) is Usage events stop = absurd stop
-last_read command rest (Some name) is (Refused why) events stop = absurd stop
-last_read command rest (Some name) is Unwritten events stop = absurd stop
+last_read command rest (Some name) is _ events stop = absurd stop
 
 -- the lines so far
 lines_here : (command : Command) (rest : List Command) (words : List Word) (why : Reason) (events : List Event)
     → LastReads why (command ∷ rest) events → LastLines why words (command ∷ rest) (lines_of words)
 lines_here command rest words (Unread file) events reads = refl
-lines_here command rest words Unwritten events reads = prefix_of_itself (lines_of words)
-lines_here command rest words WantOfMemory events reads = prefix_of_itself (lines_of words)
 lines_here command rest words Usage events reads = absurd reads
 lines_here command rest words (Refused why) events reads = absurd reads
+lines_here command rest words _ events reads = prefix_of_itself (lines_of words)
 
 -- a line that is not written: behind it nothing is read
 no_more : (rest : List Command) (why : Reason) → IsOfLine why → LastReads why rest []
 no_more rest Unwritten line = refl
 no_more rest WantOfMemory line = inl refl
-no_more rest Usage line = absurd line
-no_more rest (Refused why) line = absurd line
-no_more rest (Unread file) line = absurd line
+no_more rest _ line = absurd line
 
 part_lines : (rest : List Command) (words : List Word) (text : List ℕ) (why : Reason) → IsOfLine why
     → IsPrefix text (lines_before words rest) → LastLines why words rest text
 part_lines rest words text Unwritten line prefix = prefix
 part_lines rest words text WantOfMemory line prefix = prefix
-part_lines rest words text Usage line prefix = absurd line
-part_lines rest words text (Refused why) line prefix = absurd line
-part_lines rest words text (Unread file) line prefix = absurd line
+part_lines rest words text _ line prefix = absurd line
 
 prefix_before : (words : List Word) (rest : List Command) (text : List ℕ) → IsPrefix text (lines_of words)
     → IsPrefix text (lines_before words rest)
@@ -400,17 +399,14 @@ pub words_end : (trace : List Event) (words : List Name) (out : Option (List ℕ
     → Passes trace trace (EndsSo words out out (Err why))
 words_end trace words out Usage stop = none_passed trace (EndsSo words out out (Err Usage)) (ends_none words stop out)
 words_end trace words out WantOfMemory stop = none_passed trace (EndsSo words out out (Err WantOfMemory)) (ends_early words out)
-words_end trace words out (Refused why) stop = absurd stop
-words_end trace words out (Unread file) stop = absurd stop
-words_end trace words out Unwritten stop = absurd stop
+words_end trace words out _ stop = absurd stop
 
 module _ (words : List Name) (line : Line) (is : line_of words ≡ Some line) where
   fault_job : (answer : Answer) (why : ScriptFault) → IsFaultBy answer why → IsJobBy line answer (Stops (Refused why))
   fault_job (Ok text) why by = by
   fault_job (Err reading.TooLong) why by = ap (λ w. Stops (Refused w)) by
   fault_job (Err reading.Absent) why by = absurd by
-  fault_job (Err reading.Failed) why by = absurd by
-  fault_job (Err reading.Memory) why by = absurd by
+  fault_job (Err _) why by = absurd by
 
   unread_job : (answer : Answer) → IsNoFile answer → IsJobBy line answer (Stops (Unread line.script))
   unread_job (Ok text) no_file = absurd no_file
@@ -426,8 +422,7 @@ module _ (words : List Name) (line : Line) (is : line_of words ≡ Some line) wh
   script_ends_so out (Refused why) events (answer, calls, by) =
       inr (answer, Stops (Refused why), [], fault_job answer why by, (refl, refl, refl), calls)
   script_ends_so out WantOfMemory events (answer, calls, by) = inl (refl, refl, inr (answer, calls))
-  script_ends_so out Usage events (answer, calls, by) = absurd by
-  script_ends_so out Unwritten events (answer, calls, by) = absurd by
+  script_ends_so out _ events (answer, calls, by) = absurd by
 
   pub script_ends : (old new : List Event) (out : Option (List ℕ)) (why : Reason) → Passes old new (StopsScriptOver line.script why)
       → Passes old new (EndsSo words out out (Err why))

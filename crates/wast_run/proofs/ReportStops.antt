@@ -1,5 +1,8 @@
 -- Why a command's line is not written, as why the report stops.
-use Rattle.wast_run.proofs.Common.{◌≡◌, ℕ, ◌+◌, ◌≤◌, List, ◌∷◌, ◌++◌, length, Option, sym, ◌∙◌, subst, inl, inr, length-map, rose_from, Name, Told, SaysPart, Tells, Command, Reason, Refused, Unread, Unwritten, Usage, WantOfMemory, seen_command, seen_commands, Comes, IsTimely, Setting, at_first, command_line, total_line, HasGained, StopsLine, StopsReport, IsBehind, StopsTelling, Word}
+use Rattle.wast_run.proofs.Common.{◌≡◌, ℕ, ◌+◌, ◌≤◌, List, ◌∷◌, ◌++◌, length, Option, sym, ◌∙◌, subst, inl, inr, length-map, rose_from}
+use Rattle.wast_run.proofs.Common.{Name, Told, SaysPart, Tells, Command, Reason, Unread, Unwritten, WantOfMemory, seen_command}
+use Rattle.wast_run.proofs.Common.{seen_commands, Comes, IsTimely, Setting, at_first, command_line, total_line, HasGained, StopsLine}
+use Rattle.wast_run.proofs.Common.{StopsReport, IsBehind, StopsTelling, Word}
 use Rattle.wast_script.specs.declared.command.Command.{Command as CodeCommand}
 use Rattle.wast_run.proofs.Leads.{lead_plain, lead_there}
 use Rattle.wast_run.proofs.PartLaws.{gained_lines, gained_part, gained_total}
@@ -14,9 +17,7 @@ line_stops told steps index at command w after reads reads' named old new faults
     (rose, λ m tells. inr (w, after, comes m tells, timely, said))
 line_stops told steps index at command w after reads reads' named old new faults faults' WantOfMemory comes timely said stop =
     λ m tells. inr (w, after, comes m tells, timely, said)
-line_stops told steps index at command w after reads reads' named old new faults faults' Usage comes timely said stop = absurd stop
-line_stops told steps index at command w after reads reads' named old new faults faults' (Refused why) comes timely said stop = absurd stop
-line_stops told steps index at command w after reads reads' named old new faults faults' (Unread file) comes timely said stop = absurd stop
+line_stops told steps index at command w after reads reads' named old new faults faults' _ comes timely said stop = absurd stop
 
 module _ (told : Told) (steps : ℕ) (commands : List Command) (start reads reads' : ℕ) (named : Option Name)
     (old now new : Option (List ℕ)) (first faults faults' : ℕ) (ok : ℕ) (at : Setting) (later : first ≤ faults) where
@@ -56,8 +57,7 @@ module _ (told : Told) (steps : ℕ) (commands : List Command) (start reads read
   )
   telling_stops front rest command index WantOfMemory split many before behind part =
       λ m tells. gained_part m steps commands front rest command index at old now new ok split many (behind m tells) (part m tells)
-  telling_stops front rest command index Usage split many before behind stop = absurd stop
-  telling_stops front rest command index (Refused why) split many before behind stop = absurd stop
+  telling_stops front rest command index _ split many before behind stop = absurd stop
 
 pub many_seen : (commands : List CodeCommand) (n : ℕ) → n ≡ length commands → n ≡ length (seen_commands commands)
 many_seen commands n is = is ∙ sym (length-map commands seen_command)
@@ -77,6 +77,4 @@ total_stops told steps commands start reads named old now new first faults fault
     by : (why : Reason) → StopsLine faults faults' why → StopsReport told steps commands start reads named old new first faults' why
     by Unwritten rose = (rose_from first faults faults' later rose, gained)
     by WantOfMemory stop = gained
-    by Usage stop = absurd stop
-    by (Refused why) stop = absurd stop
-    by (Unread file) stop = absurd stop
+    by _ stop = absurd stop

@@ -1,11 +1,15 @@
 -- The names that a script gives to modules have 1 to 1,024 bytes.
-use Rattle.wast_run.proofs.Common.{◌≡◌, ℕ, ◌≤◌, Bool, true, false, ◌&&◌, List, [], ◌∷◌, length, if◌then◌else◌, nat_le, Some, None, codes, Option, option_map, find, option_and_then, bytes_eq, refl, subst, arith, none-some, same_Some, AllByRecursion, TrapKind, Value, Command, IsScript, HasModuleName}
+use Rattle.wast_run.proofs.Common.{◌≡◌, ℕ, ◌≤◌, Bool, true, false, ◌&&◌, List, [], ◌∷◌, length, if◌then◌else◌, nat_le, Some, None, codes}
+use Rattle.wast_run.proofs.Common.{Option, option_map, find, option_and_then, bytes_eq, refl, subst, arith, none-some, same_Some}
+use Rattle.wast_run.proofs.Common.{AllByRecursion, TrapKind, Value, Command, IsScript, HasModuleName}
 use Rattle.std.proofs.lemmas.Bool.Decides.{nat_tests}
 use Rattle.serde_json.specs.Data.{Data}
+use Rattle.w2c_base.proofs.Conjunctions.{both_hold}
 use Rattle.program_words.specs.Tests.{is_module_name}
 use Rattle.wast_script.specs.Commands as script
 use Rattle.wast_script.specs.Commands.{Call}
-use Rattle.wast_script.specs.Forms.{call_in, cause_in, command_by, command_of, expected_in, kind_named, kind_text, kinds, module_with, return_with, trap_with}
+use Rattle.wast_script.specs.Forms.{call_in, cause_in, command_by, command_of, expected_in, kind_named, kind_text, kinds, module_with}
+use Rattle.wast_script.specs.Forms.{return_with, trap_with}
 use Rattle.wast_script.specs.Values.{text_in}
 use Rattle.wast_script.specs.Lists.{all_given}
 
@@ -15,14 +19,9 @@ of_found : {A : Type 0} (make : A → Command) → ((a : A) → HasModuleName (m
 of_found make holds None c is = absurd (none-some c is)
 of_found make holds (Some a) c is = subst HasModuleName (same_Some (make a) c is) (holds a)
 
-both_tests : (a b : Bool) → a && b ≡ true → (a ≡ true) × (b ≡ true)
-both_tests true true e = (refl, refl)
-both_tests true false e = absurd cc
-both_tests false b e = absurd cc
-
 long_enough : (n : ℕ) → nat_le 1 n && nat_le n 1024 ≡ true → (1 ≤ n) × (n ≤ 1024)
 long_enough n is =
-    let h = both_tests (nat_le 1 n) (nat_le n 1024) is in
+    let h = both_hold (nat_le 1 n) (nat_le n 1024) is in
     let low = h.0 in
     let high = h.1 in
     (grind (arith, nat_tests, low), grind (arith, nat_tests, high))

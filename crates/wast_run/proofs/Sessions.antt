@@ -1,5 +1,7 @@
 -- What the outcome of an init function or a call makes of where a session without hosts stands.
-use Rattle.wast_run.proofs.Common.{◌≡◌, ℕ, ◌+◌, ◌<◌, ◌≤◌, List, [], ◌∷◌, ◌++◌, map, length, get_or, take, drop, IfSome, slice_get, Some, None, Option, sym, refl, ap, ◌∙◌, subst, append_assoc, arith, Bor, length-map, InCall, values_in, unit_of, Item, SymbolCall, CRun, c_run, Call, StopsAt, alone, run_of, symbol_of, symbols_in, symbols_of}
+use Rattle.wast_run.proofs.Common.{◌≡◌, ℕ, ◌+◌, ◌<◌, ◌≤◌, List, [], ◌∷◌, ◌++◌, map, length, get_or, take, drop, IfSome, slice_get, Some}
+use Rattle.wast_run.proofs.Common.{None, Option, sym, refl, ap, ◌∙◌, subst, append_assoc, arith, Bor, length-map, InCall, values_in}
+use Rattle.wast_run.proofs.Common.{unit_of, Item, SymbolCall, CRun, c_run, Call, StopsAt, alone, run_of, symbol_of, symbols_in, symbols_of}
 use Rattle.w2c_base.specs.Run.{Event, Init, CallEnded}
 use Rattle.w2c_base.proofs.Events.{values_behind}
 use Rattle.c_link.specs.declared.host_symbol.HostSymbol.{HostSymbol}
@@ -22,29 +24,21 @@ seen call = symbol_of call.now
 
 pub ready_of_end : (o : Outcome) → stop_in o ≡ None → standing_of o ≡ standing.Ready
 ready_of_end (outcome.Ended value) e = refl
-ready_of_end (outcome.Trapped kind) e = absurd cc
-ready_of_end (outcome.Undefined u) e = absurd cc
-ready_of_end outcome.OutOfSteps e = absurd cc
+ready_of_end _ e = absurd cc
 
 -- any calls may be listed behind one that did not end
 pub last_of_stop : (o stop : Outcome) → stop_in o ≡ Some stop → (rest : List SymbolCall) → IsLast o rest
 last_of_stop (outcome.Ended value) stop e rest = absurd cc
-last_of_stop (outcome.Trapped kind) stop e rest = tt
-last_of_stop (outcome.Undefined u) stop e rest = tt
-last_of_stop outcome.OutOfSteps stop e rest = tt
+last_of_stop _ stop e rest = tt
 
 pub stop_is : (o stop : Outcome) → stop_in o ≡ Some stop → o ≡ stop
 stop_is (outcome.Ended value) stop e = absurd cc
-stop_is (outcome.Trapped kind) stop e = cc
-stop_is (outcome.Undefined u) stop e = cc
-stop_is outcome.OutOfSteps stop e = cc
+stop_is _ stop e = cc
 
 -- nothing is listed behind the last call
 pub last_of_none : (o : Outcome) → IsLast o []
 last_of_none (outcome.Ended value) = refl
-last_of_none (outcome.Trapped kind) = tt
-last_of_none (outcome.Undefined u) = tt
-last_of_none outcome.OutOfSteps = tt
+last_of_none _ = tt
 
 -- an outcome that is given where it is no end
 pub if_stop : (r : Option Outcome) (o : Outcome) (P : Outcome → Type 0) → r ≡ stop_in o
@@ -66,16 +60,12 @@ outcome_of_call (outcome.Ended value) told run end is = record {
   others = values_in (told ++ []);
   last = ap values_in is ∙ values_behind (told ++ []) (CallEnded value ∷ []);
 }
-outcome_of_call (outcome.Trapped kind) told run end is = end
-outcome_of_call (outcome.Undefined u) told run end is = end
-outcome_of_call outcome.OutOfSteps told run end is = end
+outcome_of_call _ told run end is = end
 
 -- the same of one that is no end
 pub outcome_of_stop : (o stop : Outcome) (run : CRun) → stop_in o ≡ Some stop → IsEnd o run → IsOutcomeOf o run
 outcome_of_stop (outcome.Ended value) stop run e end = absurd cc
-outcome_of_stop (outcome.Trapped kind) stop run e end = end
-outcome_of_stop (outcome.Undefined u) stop run e end = end
-outcome_of_stop outcome.OutOfSteps stop run e end = end
+outcome_of_stop _ stop run e end = end
 
 -- it is that of a call before the one with this number
 pub stops_in_call : (o stop : Outcome) (k count : ℕ) {run : CRun} {n : ℕ} → k < count → stop_in o ≡ Some stop → n ≡ k

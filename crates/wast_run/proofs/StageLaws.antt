@@ -1,5 +1,7 @@
 -- A module that joins, and a call that is kept.
-use Rattle.wast_run.proofs.Common.{◌≡◌, ℕ, List, [], ◌∷◌, ◌++◌, map, Some, sym, refl, ap, ◌∙◌, subst, inl, inr, Bor, map-append, all_push, Module, IsLinked, NamedModule, Fits, ListedCall, named_of, set_of, SetModule, Call, Joins, Setting, joined, set_at, set_with, listed_call, listed_calls, IsReady, IsSound, setting_of, Stage}
+use Rattle.wast_run.proofs.Common.{◌≡◌, ℕ, List, [], ◌∷◌, ◌++◌, map, Some, sym, refl, ap, ◌∙◌, subst, inl, inr, Bor, map-append, all_push}
+use Rattle.wast_run.proofs.Common.{Module, IsLinked, NamedModule, Fits, ListedCall, named_of, set_of, SetModule, Call, Joins, Setting}
+use Rattle.wast_run.proofs.Common.{joined, set_at, set_with, listed_call, listed_calls, IsReady, IsSound, setting_of, Stage}
 use Rattle.wast_run.specs.declared.word.Word.TheVariants as word
 use Rattle.wast_run.proofs.Growing.{all_fit_more}
 

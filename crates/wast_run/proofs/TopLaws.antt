@@ -1,5 +1,13 @@
 -- What the work's stop means for the status, and for what stands.
-use Rattle.wast_run.proofs.Common.{◌≡◌, ℕ, ◌<◌, ◌≤◌, Bool, true, false, ◌≢◌, ◌⊎◌, List, [], ◌∷◌, ◌++◌, length, if◌then◌else◌, ◌==◌, Some, None, Option, MatchOption, sym, refl, ◌∙◌, subst, inl, inr, append-nil, arith, same_Some, get, AllByRecursion, Rose, Contents, Name, Told, Tells, none_written, prefix_of_itself, line_of, Command, Reason, Refused, Unread, Unwritten, Usage, WantOfMemory, fault_status, status_of, IsScript, ScriptFault, Answers, GainedPart, GainsPrefix, IsAnswered, IsJob, IsJobBehind, IsUnread, Refuses, Reported, ReportedPart, Reports, Stops, GainsLinesBefore, HasItsFile, IsFirstMissing, IsNamed, IsPart, file_of, LeadInTime, Setting, at_first, ok_count, report_of, StopsWork, Word}
+use Rattle.wast_run.proofs.Common.{◌≡◌, ℕ, ◌<◌, ◌≤◌, Bool, true, false, ◌≢◌, ◌⊎◌, List, [], ◌∷◌, ◌++◌, length, if◌then◌else◌, ◌==◌, Some}
+use Rattle.wast_run.proofs.Common.{None, Option, MatchOption, sym, refl, ◌∙◌, subst, inl, inr, append-nil, arith, same_Some, get}
+use Rattle.wast_run.proofs.Common.{AllByRecursion, Rose, Contents, Name, Tells, none_written, prefix_of_itself, line_of, Command, Reason}
+use Rattle.wast_run.proofs.Common.{Refused, Unread, Unwritten, Usage, WantOfMemory, fault_status, status_of, IsScript, ScriptFault, Answers}
+use Rattle.wast_run.proofs.Common.{GainedPart, GainsPrefix, IsAnswered, IsJob, IsJobBehind, IsUnread, Refuses, Reported, ReportedPart}
+use Rattle.wast_run.proofs.Common.{Reports, Stops, GainsLinesBefore, HasItsFile, IsFirstMissing, IsNamed, IsPart, file_of, LeadInTime}
+use Rattle.wast_run.proofs.Common.{Setting, at_first, ok_count, report_of, StopsWork, Word, GivesFirst}
+use Rattle.w2c_io.specs.declared.files.Files.{Ghosts as Files}
+use Rattle.w2c_io.specs.declared.sink.Sink.{Ghosts as Sink}
 use Rattle.wast_script.specs.declared.fault.ScriptFault.TheVariants as fault
 use Rattle.wast_run.proofs.JobLaws.{AreApart, IsOneScript, job_apart, one_list, one_status}
 use Rattle.wast_run.proofs.Leads.{lead_plain, lead_there, there_at}
@@ -30,11 +38,8 @@ between : (n : ℕ) → 2 ≤ n → n ≤ 5 → (2 ≤ n) × (n ≤ 5)
 between n low high = (low, high)
 
 fault_between : (why : ScriptFault) → (2 ≤ fault_status why) × (fault_status why ≤ 5)
-fault_between fault.TooLong = between 2 (omega arith) (omega arith)
-fault_between fault.NotJson = between 2 (omega arith) (omega arith)
-fault_between fault.NoCommands = between 2 (omega arith) (omega arith)
-fault_between (fault.Command number) = between 2 (omega arith) (omega arith)
 fault_between fault.Memory = between 5 (omega arith) (omega arith)
+fault_between _ = between 2 (omega arith) (omega arith)
 
 pub status_between : (why : Reason) → (2 ≤ status_of why) × (status_of why ≤ 5)
 status_between Usage = between 2 (omega arith) (omega arith)
@@ -44,18 +49,12 @@ status_between Unwritten = between 4 (omega arith) (omega arith)
 status_between WantOfMemory = between 5 (omega arith) (omega arith)
 
 pub fault_not_3 : (why : ScriptFault) → fault_status why ≢ 3
-fault_not_3 fault.TooLong e = below 2 3 (omega arith) (sym e)
-fault_not_3 fault.NotJson e = below 2 3 (omega arith) (sym e)
-fault_not_3 fault.NoCommands e = below 2 3 (omega arith) (sym e)
-fault_not_3 (fault.Command number) e = below 2 3 (omega arith) (sym e)
 fault_not_3 fault.Memory e = below 3 5 (omega arith) e
+fault_not_3 _ e = below 2 3 (omega arith) (sym e)
 
 pub fault_not_4 : (why : ScriptFault) → fault_status why ≢ 4
-fault_not_4 fault.TooLong e = below 2 4 (omega arith) (sym e)
-fault_not_4 fault.NotJson e = below 2 4 (omega arith) (sym e)
-fault_not_4 fault.NoCommands e = below 2 4 (omega arith) (sym e)
-fault_not_4 (fault.Command number) e = below 2 4 (omega arith) (sym e)
 fault_not_4 fault.Memory e = below 4 5 (omega arith) e
+fault_not_4 _ e = below 2 4 (omega arith) (sym e)
 
 -- the status that is reported: that of the reason, or want of memory
 abbrev pub Ends : Reason → ℕ → Type 0
@@ -84,10 +83,16 @@ said S status wanted (inr is) e not = absurd (not (sym e ∙ is))
 not_5 : (n : ℕ) → n ≤ 4 → n ≢ 5
 not_5 n le e = omega (arith, le, e)
 
-module _ (words : List Name) (told : Told) (Gives : Name → List ℕ → Type 0) (reads reads' : ℕ) (named : Option Name)
-    (old new : Option (List ℕ)) (faults faults' : ℕ) where
+module _ {F O : Type 0} (words : List Name) (files : Files F) (out : Sink O) (x y : F) (u v : O) where
+  abbrev Gives : Name → List ℕ → Type 0
+  Gives = GivesFirst (files.told x) (files.trace x) (files.trace y)
+
   abbrev pub Stopped : Reason → Type 0
-  Stopped why = StopsWork words told Gives reads reads' named old new faults faults' why
+  Stopped why = StopsWork words (files.told x) Gives (files.read_faults x) (files.read_faults y) (files.fault_name y) (out.told u)
+      (out.told v) (out.faults u) (out.faults v) why
+
+  abbrev NotRead : Name → Type 0
+  NotRead file = IsUnread words (files.told x) Gives (files.read_faults x) (files.read_faults y) (files.fault_name y) file
 
   -- words without a reading
   usage_job : (m : Contents) → line_of words ≡ None → IsJob words m (Stops Usage)
@@ -95,21 +100,20 @@ module _ (words : List Name) (told : Told) (Gives : Name → List ℕ → Type 0
       subst (λ o. MatchOption o (Stops Usage ≡ Stops Usage) (λ line. IsJobBehind line (get m line.script) (Stops Usage))) (sym none) refl
 
   -- whatever stops it, the stream has gained a part
-  pub stop_part : (why : Reason) → Stopped why → Tells told (λ m. GainedPart words m old new)
-  stop_part Usage stop = λ m tells. inl stop.1
-  stop_part (Refused why) stop = λ m tells. inl stop.1
+  pub stop_part : (why : Reason) → Stopped why → Tells (files.told x) (λ m. GainedPart words m (out.told u) (out.told v))
   stop_part (Unread file) stop = stop.1
   stop_part Unwritten stop = λ m tells. inr (stop.2 m tells)
   stop_part WantOfMemory stop = stop
+  stop_part _ stop = λ m tells. inl stop.1
 
   module _ (why : Reason) (status : ℕ) (stop : Stopped why) (ends : Ends why status) where
     pub stop_refused : (S : Reason → Type 0) → S why ⊎ (status ≡ 5) → status ≡ 2
-        → (why : Reason) × (status_of why ≡ 2) × Refuses words told why × S why
+        → (why : Reason) × (status_of why ≡ 2) × Refuses words (files.told x) why × S why
     stop_refused S says two =
         by why stop (ends_so why status 2 ends two (not_5 2 (omega arith))) (said (S why) status 2 says two (not_5 2 (omega arith)))
       where
         by : (why : Reason) → Stopped why → status_of why ≡ 2 → S why
-            → (why : Reason) × (status_of why ≡ 2) × Refuses words told why × S why
+            → (why : Reason) × (status_of why ≡ 2) × Refuses words (files.told x) why × S why
         by Usage stop is says = (Usage, is, stop.0, says)
         by (Refused why) stop is says = (Refused why, is, stop.0, says)
         by (Unread file) stop is says = absurd (below 2 3 (omega arith) is)
@@ -117,12 +121,12 @@ module _ (words : List Name) (told : Told) (Gives : Name → List ℕ → Type 0
         by WantOfMemory stop is says = absurd (below 2 5 (omega arith) is)
 
     pub stop_unread : (S : Reason → Type 0) → S why ⊎ (status ≡ 5) → status ≡ 3
-        → (file : Name) × IsUnread words told Gives reads reads' named file × S (Unread file)
+        → (file : Name) × NotRead file × S (Unread file)
     stop_unread S says three =
         by why stop (ends_so why status 3 ends three (not_5 3 (omega arith))) (said (S why) status 3 says three (not_5 3 (omega arith)))
       where
         by : (why : Reason) → Stopped why → status_of why ≡ 3 → S why
-            → (file : Name) × IsUnread words told Gives reads reads' named file × S (Unread file)
+            → (file : Name) × NotRead file × S (Unread file)
         by Usage stop is says = absurd (below 2 3 (omega arith) (sym is))
         by (Refused why) stop is says = absurd (fault_not_3 why is)
         by (Unread file) stop is says = (file, stop.0, says)
@@ -130,27 +134,26 @@ module _ (words : List Name) (told : Told) (Gives : Name → List ℕ → Type 0
         by WantOfMemory stop is says = absurd (below 3 5 (omega arith) is)
 
     pub stop_unwritten : (S : Reason → Type 0) → S why ⊎ (status ≡ 5) → status ≡ 4
-        → Rose faults faults' × Tells told (λ m. ReportedPart words m old new) × S Unwritten
+        → Rose (out.faults u) (out.faults v) × Tells (files.told x) (λ m. ReportedPart words m (out.told u) (out.told v)) × S Unwritten
     stop_unwritten S says four =
         by why stop (ends_so why status 4 ends four (not_5 4 (omega arith))) (said (S why) status 4 says four (not_5 4 (omega arith)))
       where
         by : (why : Reason) → Stopped why → status_of why ≡ 4 → S why
-            → Rose faults faults' × Tells told (λ m. ReportedPart words m old new) × S Unwritten
+            → Rose (out.faults u) (out.faults v) × Tells (files.told x) (λ m. ReportedPart words m (out.told u) (out.told v)) × S Unwritten
         by Usage stop is says = absurd (below 2 4 (omega arith) (sym is))
         by (Refused why) stop is says = absurd (fault_not_4 why is)
         by (Unread file) stop is says = absurd (below 3 4 (omega arith) (sym is))
         by Unwritten stop is says = (stop.0, stop.2, says)
         by WantOfMemory stop is says = absurd (below 4 5 (omega arith) is)
 
-    pub stop_silent : status ≡ 2 → new ≡ old
+    pub stop_silent : status ≡ 2 → out.told v ≡ out.told u
     stop_silent two = by why stop (ends_so why status 2 ends two (not_5 2 (omega arith)))
       where
-        by : (why : Reason) → Stopped why → status_of why ≡ 2 → new ≡ old
-        by Usage stop is = stop.1
-        by (Refused why) stop is = stop.1
+        by : (why : Reason) → Stopped why → status_of why ≡ 2 → out.told v ≡ out.told u
         by (Unread file) stop is = absurd (below 2 3 (omega arith) is)
         by Unwritten stop is = absurd (below 2 4 (omega arith) is)
         by WantOfMemory stop is = absurd (below 2 5 (omega arith) is)
+        by _ stop is = stop.1
 
     -- words without a reading
     pub stop_usage : line_of words ≡ None → (status ≡ 2) ⊎ (status ≡ 5)
@@ -166,7 +169,8 @@ module _ (words : List Name) (told : Told) (Gives : Name → List ℕ → Type 0
         by Unwritten stop ends = absurd (stop.1 none)
         by WantOfMemory stop ends = elim ends [ inl is ↦ inr is | inr is ↦ inr is ]
 
-    pub stop_complete : Tells told (λ m. (Rose reads reads' → ⊥) → (Rose faults faults' → ⊥) → (status ≡ 5) ⊎ IsAnswered words m status)
+    pub stop_complete : Tells (files.told x) (λ m. (Rose (files.read_faults x) (files.read_faults y) → ⊥)
+        → (Rose (out.faults u) (out.faults v) → ⊥) → (status ≡ 5) ⊎ IsAnswered words m status)
     stop_complete m tells no_read no_write = either ends
       where
         by : (why : Reason) → Stopped why → status ≡ status_of why → (status ≡ 5) ⊎ IsAnswered words m status
@@ -191,8 +195,8 @@ module _ (words : List Name) (told : Told) (Gives : Name → List ℕ → Type 0
         either (inr five) = inl five
 
     module _ (apart : AreApart) where
-      pub stop_always : Tells told (λ m. (Rose reads reads' → ⊥) → (other : Reason) → IsJob words m (Stops other)
-          → (status ≡ status_of other) ⊎ (status ≡ 5))
+      pub stop_always : Tells (files.told x) (λ m. (Rose (files.read_faults x) (files.read_faults y) → ⊥) → (other : Reason)
+          → IsJob words m (Stops other) → (status ≡ status_of other) ⊎ (status ≡ 5))
       stop_always m tells no_read other other_job = either ends
         where
           by : (why : Reason) → Stopped why → status ≡ status_of why → (status ≡ status_of other) ⊎ (status ≡ 5)

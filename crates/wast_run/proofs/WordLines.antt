@@ -1,5 +1,7 @@
 -- The lines of words, with one word more, and how many of the words are ok.
-use Rattle.wast_run.proofs.Common.{◌≡◌, ℕ, suc, ◌+◌, ◌≤◌, Bool, true, false, List, [], ◌∷◌, ◌++◌, length, if◌then◌else◌, sym, refl, ap, ◌∙◌, append_assoc, append-nil, arith, Command, lines_before, command_line, is_ok, lines_from, lines_of, ok_count, total_line, Word}
+use Rattle.wast_run.proofs.Common.{◌≡◌, ℕ, suc, ◌+◌, ◌≤◌, Bool, true, false, List, [], ◌∷◌, ◌++◌, length, if◌then◌else◌, sym, refl, ap, ◌∙◌}
+use Rattle.wast_run.proofs.Common.{append_assoc, append-nil, arith, Command, lines_before, command_line, is_ok, lines_from, lines_of}
+use Rattle.wast_run.proofs.Common.{ok_count, total_line, Word}
 
 pub lines_more : (number : ℕ) (words : List Word) (w : Word)
     → lines_from number (words ++ w ∷ []) ≡ lines_from number words ++ command_line (number + length words) w

@@ -1,14 +1,16 @@
 -- Why the commands stop, and why a script is refused, as why the work stops.
-use Rattle.wast_run.proofs.Common.{◌≡◌, ℕ, ◌≤◌, Bool, ◌⊎◌, List, if◌then◌else◌, Some, None, Option, MatchOption, sym, refl, ap, ◌∙◌, subst, inl, inr, none-some, get, rose_from, Faulted, Contents, Name, Told, Tells, Line, line_of, Command, Reason, Refused, Unread, Unwritten, Usage, WantOfMemory, IsScript, HasReading, IsJob, IsJobBehind, IsToRead, Job, Reported, ReportedPart, Reports, Stops, IsNamed, HasGained, IsUnreadFile, StopsCommand, StopsFile, StopsReport, StopsScript, StopsWords, StopsWork, HasReported}
+use Rattle.wast_run.proofs.Common.{◌≡◌, ℕ, ◌≤◌, Bool, ◌⊎◌, List, if◌then◌else◌, Some, None, Option, MatchOption, sym, refl, ap, ◌∙◌, subst}
+use Rattle.wast_run.proofs.Common.{inl, inr, none-some, get, rose_from, Faulted, Contents, Name, Told, Tells, Line, line_of, Command}
+use Rattle.wast_run.proofs.Common.{Reason, Refused, Unread, Unwritten, Usage, WantOfMemory, IsScript, HasReading, IsJob, IsJobBehind}
+use Rattle.wast_run.proofs.Common.{IsToRead, Job, Reported, ReportedPart, Reports, Stops, IsNamed, HasGained, IsUnreadFile, StopsCommand}
+use Rattle.wast_run.proofs.Common.{StopsFile, StopsReport, StopsScript, StopsWords, StopsWork, HasReported}
 
 pub file_stops : (told : Told) (file : Name) (before after : ℕ) (named : Option Name) (why : Reason)
     → StopsFile told file before after named why → StopsCommand told (Some file) before after named why
 file_stops told file before after named (Unread name) stop =
     (ap Some (sym stop.0), subst (λ f. IsUnreadFile told f before after named) (sym stop.0) stop.1)
 file_stops told file before after named WantOfMemory stop = tt
-file_stops told file before after named Usage stop = absurd stop
-file_stops told file before after named (Refused why) stop = absurd stop
-file_stops told file before after named Unwritten stop = absurd stop
+file_stops told file before after named _ stop = absurd stop
 
 pub words_stop : (words : List Name) (told : Told) (Gives : Name → List ℕ → Type 0) (reads reads' : ℕ) (named : Option Name)
     (old : Option (List ℕ)) (faults : ℕ) (why : Reason)
@@ -16,8 +18,7 @@ pub words_stop : (words : List Name) (told : Told) (Gives : Name → List ℕ �
 words_stop words told Gives reads reads' named old faults Usage stop = (stop, refl)
 words_stop words told Gives reads reads' named old faults WantOfMemory stop = λ m tells. inl refl
 words_stop words told Gives reads reads' named old faults (Refused why) stop = absurd stop
-words_stop words told Gives reads reads' named old faults (Unread file) stop = absurd stop
-words_stop words told Gives reads reads' named old faults Unwritten stop = absurd stop
+words_stop words told Gives reads reads' named old faults _ stop = absurd stop
 
 module _ (words : List Name) (line : Line) (is : line_of words ≡ Some line) (told : Told) (Gives : Name → List ℕ → Type 0) where
   has_reading : HasReading words
@@ -63,8 +64,7 @@ module _ (words : List Name) (line : Line) (is : line_of words ≡ Some line) (t
   script_stops reads reads' named old faults (Refused why) (not, faulty) =
       ((has_reading, λ m tells. let f = faulty m tells in job_of_text m f.0 (Stops (Refused why)) f.1 (f.2, not)), refl)
   script_stops reads reads' named old faults WantOfMemory stop = λ m tells. inl refl
-  script_stops reads reads' named old faults Usage stop = absurd stop
-  script_stops reads reads' named old faults Unwritten stop = absurd stop
+  script_stops reads reads' named old faults _ stop = absurd stop
 
   module _ (commands : List Command)
       (job : Tells told (λ m. IsJob words m (Reports line.steps commands)))
@@ -99,5 +99,4 @@ module _ (words : List Name) (line : Line) (is : line_of words ≡ Some line) (t
     report_stops start reads reads' named old new faults faults' Unwritten later (rose, gains) = (rose, has_reading, gained old new gains)
     report_stops start reads reads' named old new faults faults' WantOfMemory later gains =
         λ m tells. inr (gained old new gains m tells)
-    report_stops start reads reads' named old new faults faults' Usage later stop = absurd stop
-    report_stops start reads reads' named old new faults faults' (Refused why) later stop = absurd stop
+    report_stops start reads reads' named old new faults faults' _ later stop = absurd stop

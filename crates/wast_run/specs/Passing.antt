@@ -7,7 +7,7 @@ use Rattle.w2c_io.specs.Events.{Event, Read}
 use Rattle.w2c_io.specs.Honest.{AreHonest}
 use Rattle.w2c_io.specs.declared.answers.ReadAnswer.{ReadAnswer}
 use Rattle.w2c_io.specs.declared.answers.ReadAnswer.TheVariants as reading
-use Rattle.wasm_spelling.specs.Limits.{most_module_bytes}
+use Rattle.wasm_tree.specs.Limits.{most_module_bytes}
 use Rattle.wasm_valid.specs.FileVerdict.{FileVerdict}
 use Rattle.wast_script.specs.declared.fault.ScriptFault.TheVariants as fault
 use Rattle.wast_script.specs.CommandLine.{Line, line_of}

@@ -13,7 +13,7 @@ use std::alloc::Global;
 use w2c_base::{MODULE_BYTES, Memory};
 use w2c_io::{Files, ReadAnswer};
 use w2c_sim::{Refusal, accept};
-use wasm_valid::ValidModule;
+use wasm_typing::ValidModule;
 use wast_script::Stop;
 
 /// What is said of a file, as far as commands ask.

@@ -20,7 +20,7 @@ use crun::Session;
 use std::alloc::Global;
 use w2c_base::{Bytes, Memory, Value};
 use wasm_set::ModuleSet;
-use wasm_valid::ValidModule;
+use wasm_typing::ValidModule;
 use wast_script::Call;
 
 /// The modules that joined, in order, and a session of their units, which were translated once, each when its module joined,

@@ -12,7 +12,7 @@ use c_tree::{Unit, well_formed_units_are_spelled};
 use c_unit::{unit, units_are_proper};
 use std::alloc::Global;
 use w2c_base::Memory;
-use wasm_valid::ValidModule;
+use wasm_typing::ValidModule;
 
 /// The unit of a module under a name. It keeps the rules.
 pub(crate) fn checked_unit(
@@ -42,7 +42,7 @@ fn module_unit(alloc: Global, module: &ValidModule, name: &[u8]) -> Result<Unit,
     Ok(made)
 }
 
-// A module that was checked has a file and is valid.
+// A module that was checked is valid and within the limits.
 fn is_accepted(module: &ValidModule, name: &[u8])
     requires { (1 ≤ length name.now) × (length name.now ≤ 1024) }
     ensures { IsAccepted (record { name = name.now; tree = «module».now }) }

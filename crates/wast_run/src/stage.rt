@@ -17,7 +17,7 @@ use crate::word::Word;
 use std::alloc::Global;
 use w2c_base::{Bytes, Memory, TrapKind, Value};
 use w2c_io::Files;
-use wasm_valid::ValidModule;
+use wasm_typing::ValidModule;
 use wast_script::{Call, ModuleFile, Stop};
 
 /// The modules that joined, in order, and the calls that are kept.

@@ -1,5 +1,7 @@
 -- A loop that gathers what each item gives: what was gathered, and what the rest gives, is what the whole gives.
-use Rattle.wast_script.proofs.Common.{◌≡◌, ℕ, ◌+◌, ◌<◌, cond, not, List, [], ◌∷◌, ◌++◌, map, length, get_or, drop, is_some, Some, None, Option, option_map, option_and_then, sym, refl, ap, ◌∙◌, append_assoc, drop_more, length-map, position_from, all_given, gives_nothing}
+use Rattle.wast_script.proofs.Common.{◌≡◌, ℕ, ◌+◌, ◌<◌, cond, not, List, [], ◌∷◌, ◌++◌, map, length, get_or, drop, is_some, Some, None}
+use Rattle.wast_script.proofs.Common.{Option, option_map, option_and_then, sym, refl, ap, ◌∙◌, append_assoc, drop_more, length-map}
+use Rattle.wast_script.proofs.Common.{position_from, all_given, gives_nothing}
 use Rattle.std.proofs.Math.ListN.{get_or-map}
 
 module _ {A B : Type 0} (f : A → Option B) where

@@ -1,5 +1,7 @@
 -- The items of an array as JSON values.
-use Rattle.wast_script.proofs.Common.{◌≡◌, ◌≤◌, Bool, true, ◌&&◌, leb, List, [], ◌∷◌, map, length, is_some, Some, Option, Vec, option_map, Global, sym, refl, ap, ◌∙◌, Bor, le-leb, Data, Items, items_of, items_view, view, length-map, list_all, are_objects, most_commands, items_in, list_of}
+use Rattle.wast_script.proofs.Common.{◌≡◌, ◌≤◌, Bool, true, ◌&&◌, leb, List, [], ◌∷◌, map, length, is_some, Some, Option, Vec, option_map}
+use Rattle.wast_script.proofs.Common.{Global, sym, refl, ap, ◌∙◌, Bor, le-leb, Data, Items, items_of, items_view, view, length-map}
+use Rattle.wast_script.proofs.Common.{list_all, are_objects, most_commands, items_in, list_of}
 use Rattle.std.proofs.lemmas.List.Folds.{list_all-map}
 use Rattle.serde_json.specs.Find.{as_array, as_object}
 use Rattle.serde_json.specs.declared.value.Value.{Value}

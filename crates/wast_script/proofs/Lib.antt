@@ -1,4 +1,6 @@
-mod Common
-pub mod Gathered
-pub mod Items
+-- What crates above cite.
 pub mod Readings
+-- What the crate's own proofs cite.
+mod Common
+mod Gathered
+mod Items

@@ -1,5 +1,7 @@
 -- A text comes to one thing at most.
-use Rattle.wast_script.proofs.Common.{◌≡◌, ℕ, ◌+◌, ◌<◌, ◌≤◌, ◌≢◌, List, [], ◌∷◌, length, Some, None, Option, option_map, option_and_then, sym, refl, ap, ◌∙◌, arith, Data, position_from, command_of, all_given, gives_nothing, HasFault, IsFault, IsJson, IsScript, is_formless, most_script_bytes, objects_in}
+use Rattle.wast_script.proofs.Common.{◌≡◌, ℕ, ◌+◌, ◌<◌, ◌≤◌, ◌≢◌, List, [], ◌∷◌, length, Some, None, Option, option_map, option_and_then}
+use Rattle.wast_script.proofs.Common.{sym, refl, ap, ◌∙◌, arith, Data, position_from, command_of, all_given, gives_nothing, HasFault}
+use Rattle.wast_script.proofs.Common.{IsFault, IsJson, IsScript, is_formless, most_script_bytes, objects_in}
 use Rattle.wast_script.specs.declared.fault.ScriptFault.{ScriptFault}
 use Rattle.wast_script.specs.declared.fault.ScriptFault.TheVariants as fault
 use Rattle.wast_script.specs.Commands.{Command}
@@ -49,17 +51,15 @@ module _ (text : List ℕ) where
   long : (b : ScriptFault) → b ≢ fault.Memory → most_script_bytes < length text → IsFault text b → fault.TooLong ≡ b
   long fault.TooLong other too_long is = refl
   long fault.NotJson other too_long is = absurd (omega (arith, too_long, is.0))
-  long fault.NoCommands other too_long is = absurd (let short = is.short in omega (arith, too_long, short))
-  long (fault.Command n) other too_long is = absurd (let short = is.short in omega (arith, too_long, short))
   long fault.Memory other too_long is = absurd (other refl)
+  long _ other too_long is = absurd (let short = is.short in omega (arith, too_long, short))
 
   no_json : (b : ScriptFault) → b ≢ fault.Memory → length text ≤ most_script_bytes → ((d : Data) → IsJson text d → ⊥) → IsFault text b
       → fault.NotJson ≡ b
   no_json fault.TooLong other short none is = absurd (omega (arith, short, is))
   no_json fault.NotJson other short none is = refl
-  no_json fault.NoCommands other short none is = absurd (none is.json is.is_json)
-  no_json (fault.Command n) other short none is = absurd (none is.json is.is_json)
   no_json fault.Memory other short none is = absurd (other refl)
+  no_json _ other short none is = absurd (none is.json is.is_json)
 
   module _ (short : length text ≤ most_script_bytes) (json : Data) (is_json : IsJson text json) where
     no_commands : (b : ScriptFault) → b ≢ fault.Memory → objects_in json ≡ None → IsFault text b → fault.NoCommands ≡ b

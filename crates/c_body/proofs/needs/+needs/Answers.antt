@@ -1,4 +1,5 @@
-use Rattle.c_body.proofs.Common.{◌≡◌, ◌+◌, ◌≤◌, OnOk, sym, ap, ◌∙◌, subst, arith, on_ok_weaker, code_size, kind_size, otherwise_size, code_tree, kind_tree, otherwise_tree, instr_smaller, HasMore, any_inside, calls}
+use Rattle.c_body.proofs.Common.{◌≡◌, ◌+◌, ◌≤◌, OnOk, sym, ap, ◌∙◌, subst, arith, on_ok_weaker, code_size, kind_size, otherwise_size}
+use Rattle.c_body.proofs.Common.{code_tree, kind_tree, otherwise_tree, instr_smaller, HasMore, any_inside, calls}
 use Rattle.wasm_tree.specs.declared.code.Kind.{Kind}
 use Rattle.c_body.proofs.CalledHelpers.{code_next, code_stops, code_through, more_behind}
 use Rattle.c_body.proofs.needs.+needs.Goals as goal

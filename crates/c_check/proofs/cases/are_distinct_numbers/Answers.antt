@@ -1,4 +1,5 @@
-use Rattle.c_check.proofs.Common.{◌≡◌, ◌+◌, ◌-◌, ◌≤◌, map, length, ◌==◌, nat_cmp, sym, ap, ◌∙◌, arith, drop_all, length-map, is_at, list_any, are_distinct_numbers, case_value}
+use Rattle.c_check.proofs.Common.{◌≡◌, ◌+◌, ◌-◌, ◌≤◌, map, length, ◌==◌, nat_cmp, sym, ap, ◌∙◌, arith, drop_all, length-map, is_at}
+use Rattle.c_check.proofs.Common.{list_any, are_distinct_numbers, case_value}
 use Rattle.c_check.proofs.DistinctNumbers.{distinct_more, distinct_stops, knows_before}
 use Rattle.c_check.proofs.cases.are_distinct_numbers.Goals as goal
 

@@ -6,7 +6,7 @@ pub loop-item-preserved : goal.loop-item-preserved
 loop-item-preserved c =
     knows_put item_of some_name c.args.items.now c.loop-item.item-index c.item-item.result c.loop-item-test.true c.item-item.is
     c.loop-item.set c.put.new.set _
-    (ap Some c.name_of.ensures) c.in_ok-put.ensures c.loop-item.invariant
+    (ap Some c.name.ensures) c.in_ok-put.ensures c.loop-item.invariant
 
 pub returns : goal.returns
 returns c = knows_all item_of some_name c.args.items.now c.loop-item.item-index c.loop-item.set c.loop-item-test.false c.loop-item.invariant

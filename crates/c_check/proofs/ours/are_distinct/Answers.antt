@@ -1,4 +1,5 @@
-use Rattle.c_check.proofs.Common.{◌≡◌, ◌+◌, ◌-◌, ◌≤◌, map, length, is_some, bytes_eq, sym, ap, ◌∙◌, arith, drop_all, length-map, list_any, named, are_distinct, Variable}
+use Rattle.c_check.proofs.Common.{◌≡◌, ◌+◌, ◌-◌, ◌≤◌, map, length, is_some, bytes_eq, sym, ap, ◌∙◌, arith, drop_all, length-map, list_any}
+use Rattle.c_check.proofs.Common.{named, are_distinct, Variable}
 use Rattle.c_rules.proofs.Distinct.{distinct_more, distinct_stops, knows_before}
 use Rattle.c_check.proofs.ours.are_distinct.Goals as goal
 

@@ -1,4 +1,5 @@
-use Rattle.c_check.proofs.Common.{map, take, Option, ap, ◌∙◌, named, body_variables, body_of, func_of, item_of, maybe_body_of, body_some, first_in_stmts, variable_pair}
+use Rattle.c_check.proofs.Common.{map, take, Option, ap, ◌∙◌, named, body_variables, body_of, func_of, item_of, maybe_body_of, body_some}
+use Rattle.c_check.proofs.Common.{first_in_stmts, variable_pair}
 use Rattle.c_tree.specs.declared.tree.Body.{Body}
 use Rattle.c_check.proofs.pass.broken_in_definition.Goals as goal
 

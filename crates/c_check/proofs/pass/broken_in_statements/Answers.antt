@@ -1,4 +1,5 @@
-use Rattle.c_check.proofs.Common.{◌≡◌, ◌+◌, ◌-◌, List, map, length, take, bytes_eq, sym, ap, ◌∙◌, arith, length-map, list_any, label_of, labels_of, stmt_of, stmts_end, stmts_more, stmts_stop, scope_of}
+use Rattle.c_check.proofs.Common.{◌≡◌, ◌+◌, ◌-◌, List, map, length, take, bytes_eq, sym, ap, ◌∙◌, arith, length-map, list_any, label_of}
+use Rattle.c_check.proofs.Common.{labels_of, stmt_of, stmts_end, stmts_more, stmts_stop, scope_of}
 use Rattle.c_tree.specs.declared.tree.Stmt.{Stmt}
 use Rattle.c_check.proofs.Sets.{knows_put}
 use Rattle.c_check.proofs.pass.broken_in_statements.Goals as goal
@@ -29,7 +30,7 @@ loop-i-preserved c =
           (sym c.as_slice-stmts.ensures)) c.args.item c.loop-i.i _ x c.loop-i-test.true c.index-stmts-i.is (sym c.in_ok-rule.ensures
           ∙ c.in-None.is) c.loop-i.invariant.0,
       knows_put stmt_of label_of stmts c.loop-i.i x c.loop-i-test.true c.index-stmts-i.is c.loop-i.earlier
-          c.put.new.set _ c.label_name.ensures c.in_ok-put-in-None.ensures c.loop-i.invariant.1,
+          c.put.new.set _ c.label.ensures c.in_ok-put-in-None.ensures c.loop-i.invariant.1,
       c.loop-i.invariant.2,
     )
 

@@ -1,4 +1,5 @@
-use Rattle.c_check.proofs.Common.{◌≡◌, ◌+◌, List, map, length, option_map, sym, ap, ◌∙◌, arith, length-map, item_of, Item, items_end, items_more, items_stop, items_stop_inside, first_in_body, broken_at}
+use Rattle.c_check.proofs.Common.{◌≡◌, ◌+◌, List, map, length, option_map, sym, ap, ◌∙◌, arith, length-map, item_of, Item, items_end}
+use Rattle.c_check.proofs.Common.{items_more, items_stop, items_stop_inside, first_in_body, broken_at}
 use Rattle.c_check.proofs.Behind.{breaks_there}
 use Rattle.c_check.proofs.pass.first_broken.Goals as goal
 

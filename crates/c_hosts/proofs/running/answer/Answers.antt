@@ -1,4 +1,5 @@
-use Rattle.c_hosts.proofs.Common.{◌≡◌, List, [], ◌∷◌, ◌++◌, Some, sym, ap, ◌∙◌, subst, append-nil, Gave, Reply, Stuck, Stops, below_in, machine_in, waiting_in, ask_of, asked, trail_before, trail_behind}
+use Rattle.c_hosts.proofs.Common.{◌≡◌, List, [], ◌∷◌, ◌++◌, Some, sym, ap, ◌∙◌, subst, append-nil, Gave, Reply, Stuck, Stops, below_in}
+use Rattle.c_hosts.proofs.Common.{machine_in, waiting_in, ask_of, asked, trail_before, trail_behind}
 use Rattle.c_meaning.specs.declared.reply.HostReply.TheVariants as reply
 use Rattle.c_hosts.proofs.Called.{when_none, when_some}
 use Rattle.c_hosts.proofs.Offers.{answered_once}

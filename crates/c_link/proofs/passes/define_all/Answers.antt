@@ -1,4 +1,6 @@
-use Rattle.c_link.proofs.Common.{◌≡◌, ◌<◌, map, length, slice_get, Some, flat_map, sym, ap, ◌∙◌, subst, take_all, length-map, option_or, numbered_at, mapped_at, named, numbered, unit_of, external_functions, first, twice, c_symbols, told, unit_offers, AllChecked, IsRefusal, types_in}
+use Rattle.c_link.proofs.Common.{◌≡◌, ◌<◌, map, length, slice_get, Some, flat_map, sym, ap, ◌∙◌, subst, take_all, length-map, option_or}
+use Rattle.c_link.proofs.Common.{numbered_at, mapped_at, named, numbered, unit_of, external_functions, first, twice, c_symbols, told}
+use Rattle.c_link.proofs.Common.{unit_offers, AllChecked, IsRefusal, types_in}
 use Rattle.c_link.proofs.FirstRefusal.{twice_in, twice_units}
 use Rattle.c_link.proofs.Walks.{left_first, left_more, refused, units_end}
 use Rattle.c_link.proofs.Tables.{all_taken, holds_as, holds_more, unit_added}

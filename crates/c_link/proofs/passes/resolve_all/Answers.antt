@@ -1,4 +1,5 @@
-use Rattle.c_link.proofs.Common.{◌≡◌, map, slice_get, Some, flat_map, sym, ap, ◌∙◌, subst, numbered_at, mapped_at, numbered, unit_of, external_functions, first, unresolved, IsRefusal, types_in}
+use Rattle.c_link.proofs.Common.{◌≡◌, map, slice_get, Some, flat_map, sym, ap, ◌∙◌, subst, numbered_at, mapped_at, numbered, unit_of}
+use Rattle.c_link.proofs.Common.{external_functions, first, unresolved, IsRefusal, types_in}
 use Rattle.c_link.proofs.FirstRefusal.{unresolved_in, unresolved_units}
 use Rattle.c_link.proofs.Walks.{left_first, left_more, refused, units_end}
 use Rattle.c_link.proofs.passes.resolve_all.Goals as goal

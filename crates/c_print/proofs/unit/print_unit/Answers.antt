@@ -1,4 +1,5 @@
-use Rattle.c_print.proofs.Common.{◌≡◌, [], sym, refl, ap, ◌∙◌, subst, rules, CSpells, Fixed, fixed_text, unit_of, items_onto, printed, print_of, Page}
+use Rattle.c_print.proofs.Common.{◌≡◌, [], sym, refl, ap, ◌∙◌, subst, rules, CSpells, Fixed, fixed_text, unit_of, items_onto, printed}
+use Rattle.c_print.proofs.Common.{print_of, Page}
 use Rattle.c_tree.specs.declared.token.Kind.TheVariants as kind
 use Rattle.c_tree.specs.declared.token.Tok.TheVariants as tok
 use Rattle.c_print.proofs.PageText.{include_put, items_text}

@@ -1,4 +1,5 @@
-use Rattle.c_read.proofs.Common.{◌≡◌, true, false, [], ◌∷◌, ◌++◌, map, ap, ◌∙◌, arith, rules, map_push, err_from_is_err_and, arg_of, next_kind, is_comma}
+use Rattle.c_read.proofs.Common.{◌≡◌, true, false, [], ◌∷◌, ◌++◌, map, ap, ◌∙◌, arith, rules, map_push, err_from_is_err_and, arg_of}
+use Rattle.c_read.proofs.Common.{next_kind, is_comma}
 use Rattle.c_read.specs.Arguments.{next_argument, more_arguments}
 use Rattle.c_read.proofs.Loops.{left_more, left_ends, left_fails, left_behind}
 use Rattle.c_read.proofs.argument.more_arguments.Goals as goal

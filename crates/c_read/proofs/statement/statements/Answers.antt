@@ -1,4 +1,5 @@
-use Rattle.c_read.proofs.Common.{◌≡◌, true, false, [], ◌∷◌, ◌++◌, map, ap, ◌∙◌, arith, rules, map_push, err_from_is_err_and, stmt_of, next_kind, not_brace, statement}
+use Rattle.c_read.proofs.Common.{◌≡◌, true, false, [], ◌∷◌, ◌++◌, map, ap, ◌∙◌, arith, rules, map_push, err_from_is_err_and, stmt_of}
+use Rattle.c_read.proofs.Common.{next_kind, not_brace, statement}
 use Rattle.c_read.specs.Statements.{statements}
 use Rattle.c_read.proofs.Loops.{left_more, left_ends, left_fails, left_whole}
 use Rattle.c_read.proofs.statement.statements.Goals as goal

@@ -1,4 +1,5 @@
-use Rattle.c_read.proofs.Common.{◌≡◌, true, false, [], ◌∷◌, ◌++◌, map, ap, ◌∙◌, arith, rules, map_push, err_from_is_err_and, item_of, next_kind, item, not_end}
+use Rattle.c_read.proofs.Common.{◌≡◌, true, false, [], ◌∷◌, ◌++◌, map, ap, ◌∙◌, arith, rules, map_push, err_from_is_err_and, item_of}
+use Rattle.c_read.proofs.Common.{next_kind, item, not_end}
 use Rattle.c_read.specs.Items.{items}
 use Rattle.c_read.proofs.Loops.{left_more, left_ends, left_fails, left_whole}
 use Rattle.c_read.proofs.unit.items.Goals as goal

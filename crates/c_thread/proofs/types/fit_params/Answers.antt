@@ -1,5 +1,5 @@
-use Rattle.c_thread.proofs.Common.{◌≡◌, ◌+◌, [], Some, sym, ap, ◌∙◌, arith, slice_get-get_or, value_of}
-use Rattle.c_thread.proofs.Params.{left, at_end, differs, none_left, no_length, passed_over, taken, wanting}
+use Rattle.c_thread.proofs.Common.{◌≡◌, ◌+◌, [], Some, sym, ap, ◌∙◌, arith, slice_get-get_or, value_of, nil_from_length}
+use Rattle.c_thread.proofs.Params.{left, at_end, differs, none_left, passed_over, taken, wanting}
 use Rattle.c_thread.proofs.types.fit_params.Goals as goal
 use Rattle.c_thread.proofs.types.fit_params.Goals.{then-is_some+in-Some+else-not-is_of_type, else-is_some}
 
@@ -7,7 +7,7 @@ pub returns-in_default : goal.returns-in_default
 returns-in_default c names =
     let at = slice_get-get_or c.args.params.now c.loop-param.param-index c.param-item.result c.loop-param-test.true
     ∙ ap Some (sym c.param-item.is) in
-    let nothing : c.loop-param.rest.now ≡ [] = no_length c.loop-param.rest.now c.in_default.ensures.cases in
+    let nothing : c.loop-param.rest.now ≡ [] = nil_from_length c.loop-param.rest.now c.in_default.ensures.cases in
     sym (c.loop-param.invariant names)
     ∙ ap (left (value_of names) c.args.params.now c.loop-param.param-index) nothing
     ∙ wanting (value_of names) c.args.params.now c.loop-param.param-index c.param-item.result at (sym c.if-is_some.ensures)

@@ -1,7 +1,9 @@
-use Rattle.c_trim.proofs.Common.{◌≡◌, Bool, true, false, not, ◌&&◌, ◌||◌, List, [], ◌∷◌, codes, bytes_eq, refl, ap, ◌∙◌, list_all, both_hold, by_test, Name, is_among, name_of, IsNeeded, TellsNeeded, external_names, item_functions, leads, names}
+use Rattle.c_trim.proofs.Common.{◌≡◌, Bool, true, false, not, ◌&&◌, ◌||◌, List, [], ◌∷◌, codes, bytes_eq, refl, ap, ◌∙◌, list_all}
+use Rattle.c_trim.proofs.Common.{both_hold, by_test, Name, is_among, name_of, IsNeeded, TellsNeeded, external_names, item_functions, leads}
+use Rattle.c_trim.proofs.Common.{names}
+use Rattle.std.proofs.lemmas.Bool.{not-true, and_right}
 use Rattle.c_tree.specs.Tree as tree
 use Rattle.c_trim.specs.Samples as sample
-use Rattle.c_trim.proofs.Lists.{and_false, not_true}
 use Rattle.c_trim.proofs.cases.trimmed_cases.Goals as goal
 
 module _ (unit : List tree.Item) (needed : Name → Bool) (tells : TellsNeeded unit needed) where
@@ -17,7 +19,7 @@ module _ (unit : List tree.Item) (needed : Name → Bool) (tells : TellsNeeded u
 
   nothing : ((x : Name) → external_names unit x ≡ false) → (chain : List Name) (x : Name) → leads unit chain x ≡ false
   nothing none [] x = none x
-  nothing none (y ∷ chain) x = and_false (names unit y x) (leads unit chain y) (nothing none chain y)
+  nothing none (y ∷ chain) x = and_right (names unit y x) (leads unit chain y) (nothing none chain y)
 
   -- what no item names
   abbrev is_unnamed : Name → List tree.Item → Bool
@@ -27,7 +29,7 @@ module _ (unit : List tree.Item) (needed : Name → Bool) (tells : TellsNeeded u
   none_names y x [] e = refl
   none_names y x (item ∷ items) e =
       let two = both_hold (not (is_among x (item_functions item))) (is_unnamed x items) e in
-      λ i. and_false (bytes_eq (name_of item) y) (is_among x (item_functions item)) (not_true (is_among x (item_functions item)) two.0) i
+      λ i. and_right (bytes_eq (name_of item) y) (is_among x (item_functions item)) (not-true (is_among x (item_functions item)) two.0) i
       || none_names y x items two.1 i
 
   unnamed : (x : Name) → is_unnamed x unit ≡ true → external_names unit x ≡ false → (chain : List Name) → leads unit chain x ≡ false

@@ -1,5 +1,5 @@
 use Rattle.c_trim.proofs.Common.{◌≡◌, ◌<◌, map, length, refl, arith, length-map, item_of, reached_by}
-use Rattle.c_trim.proofs.Steps.{mapped_at}
+use Rattle.w2c_base.proofs.Places.{mapped_at}
 use Rattle.c_trim.proofs.Spread.{begin_next}
 use Rattle.c_trim.proofs.reach.begin.Goals as goal
 

@@ -1,5 +1,5 @@
 use Rattle.c_trim.proofs.Common.{[], ◌∷◌, ◌++◌, map, take, if◌then◌else◌, sym, ap, ◌∙◌, filter-append, item_of, is_reached, kept, stays}
-use Rattle.c_trim.proofs.Steps.{take_one}
+use Rattle.w2c_base.proofs.Places.{mapped_next}
 use Rattle.c_trim.proofs.trimming.kept_items.Goals as goal
 
 pub loop-item-preserved : goal.loop-item-preserved
@@ -12,4 +12,4 @@ loop-item-preserved c =
     ∙ ap (λ l. l ++ (if test (item_of item) then item_of item ∷ [] else [])) c.loop-item.invariant
     ∙ sym (filter-append test (take i (map item_of items)) (item_of item ∷ []))
     ∙ sym (ap (kept (is_reached c.args.table.now c.args.marks.now.flags.items))
-    (take_one item_of items i item c.loop-item-test.true c.item-item.is))
+    (mapped_next item_of items i item c.loop-item-test.true c.item-item.is))

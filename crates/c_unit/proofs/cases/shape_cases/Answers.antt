@@ -1,4 +1,6 @@
-use Rattle.c_unit.proofs.Common.{◌≡◌, ℕ, true, false, List, [], ◌∷◌, Some, None, codes, Contains, Option, sym, refl, ap, ◌∙◌, inr, arith, AllByRecursion, of_contained, Name, is_among, CType, Definition, declared_names, defined_names, module_objects, own_symbols, unit_objects}
+use Rattle.c_unit.proofs.Common.{◌≡◌, ℕ, true, false, List, [], ◌∷◌, Some, None, codes, Contains, Option, sym, refl, ap, ◌∙◌, inr, arith}
+use Rattle.c_unit.proofs.Common.{AllByRecursion, of_contained, Name, is_among, CType, Definition, declared_names, defined_names}
+use Rattle.c_unit.proofs.Common.{module_objects, own_symbols, unit_objects, none-some, false≢true}
 use Rattle.std.specs.Fmt.{digits}
 use Rattle.c_tree.specs.declared.tree.CType.TheVariants as c_type
 use Rattle.c_tree.specs.Tree as tree
@@ -8,21 +10,15 @@ use Rattle.c_unit.proofs.cases.shape_cases.Goals as goal
 
 -- ---- what a list has not
 
-false_is_true : false ≡ true → ⊥
-false_is_true e = absurd cc
-
 absent : (name : Name) (names : List Name) → is_among name names ≡ false → Contains names name → ⊥
 absent name names none there =
-    false_is_true (sym none ∙ of_contained (λ (n : Name). is_among n names ≡ true) names name (self_among names) there)
+    false≢true (sym none ∙ of_contained (λ (n : Name). is_among n names ≡ true) names name (self_among names) there)
 
 -- an object whose name is none of those that objects have
 no_object : (names : List Name) (x : CType × Name) (xs : List (CType × Name)) → is_among x.1 names ≡ false
     → AllByRecursion (λ (o : CType × Name). is_among o.1 names ≡ true) xs → Contains xs x → ⊥
 no_object names x xs none all there =
-    false_is_true (sym none ∙ of_contained (λ (o : CType × Name). is_among o.1 names ≡ true) xs x all there)
-
-none_is_some : {A : Type 0} (a : A) → None ≡ Some a → ⊥
-none_is_some a e = absurd cc
+    false≢true (sym none ∙ of_contained (λ (o : CType × Name). is_among o.1 names ≡ true) xs x all there)
 
 -- ---- what a function gives
 
@@ -94,7 +90,7 @@ pub returns-clause-without_function : goal.returns-clause-without_function
 unfolding digits
 returns-clause-without_function c s =
     let f = s.functions 1 (record { behind = omega arith; within = omega arith }) in
-    none_is_some f.0 f.1
+    none-some f.0 f.1
 
 pub returns-clause-without_memory : goal.returns-clause-without_memory
 unfolding digits

@@ -1,4 +1,5 @@
-use Rattle.c_unit.proofs.Common.{◌≡◌, Bool, refl, ap, ◌∙◌, ValType, is_global_import, Import, ImportGlobal, Module, global_drawn, kind_next, no_global_drawn, pointer_type, pointed}
+use Rattle.c_unit.proofs.Common.{◌≡◌, Bool, refl, ap, ◌∙◌, ValType, is_global_import, Import, ImportGlobal, Module, global_drawn, kind_next}
+use Rattle.c_unit.proofs.Common.{no_global_drawn, pointer_type, pointed}
 use Rattle.c_unit.proofs.global_pointers.global_pointers.Goals as goal
 use Rattle.c_unit.proofs.global_pointers.global_pointers.Goals.{in-Global+in_ok-push, in_default}
 

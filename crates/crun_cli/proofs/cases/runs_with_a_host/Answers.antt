@@ -1,5 +1,8 @@
-use Rattle.crun_cli.proofs.Common.{◌≡◌, ℕ, zero, suc, false, List, [], ◌∷◌, slice_get, Some, None, codes, Option, sym, refl, ap, subst, Host, Value, I32, I64, extended, SymbolCall, CRun, c_run, call_with, env, host_call, lines_of, Answered, Keeps, host_of, replies_in, HostModule, Asked, asked_events, run_with, HasRun, HasStatus}
+use Rattle.crun_cli.proofs.Common.{◌≡◌, ℕ, zero, suc, false, List, [], ◌∷◌, slice_get, Some, codes, Option, sym, refl, ap, subst, Host}
+use Rattle.crun_cli.proofs.Common.{Value, I32, I64, extended, SymbolCall, CRun, c_run, call_with, env, host_call, lines_of, Answered, Keeps}
+use Rattle.crun_cli.proofs.Common.{host_of, replies_in, HostModule, Asked, asked_events, run_with, HasRun, HasStatus}
 use Rattle.std.specs.Fmt.{digits}
+use Rattle.std.proofs.lemmas.Option.{none-some, same_Some}
 use Rattle.c_tree.specs.declared.tree.CType.TheVariants.{U64}
 use Rattle.c_meaning.specs.declared.reply.HostReply.{HostReply}
 use Rattle.c_meaning.specs.declared.reply.HostReply.TheVariants as reply
@@ -15,15 +18,9 @@ with_host host asks = c_run (record { units = host_call U64 ∷ []; hosts = host
 abbrev tick : Asked
 tick = record { host = 0; function = 0; args = []; reply = reply.Value (Some (I64 1)) }
 
-none_is_some : {A : Type 0} (a : A) → None ≡ Some a → ⊥
-none_is_some a e = absurd cc
-
-same_one : {A : Type 0} (a b : A) → Some a ≡ Some b → a ≡ b
-same_one a b e = cc
-
 the_one : {A : Type 0} (a b : A) (number : ℕ) → slice_get (a ∷ []) number ≡ Some b → a ≡ b
-the_one a b zero e = same_one a b e
-the_one a b (suc number) e = absurd (none_is_some b e)
+the_one a b zero e = same_Some a b e
+the_one a b (suc number) e = absurd (none-some b e)
 
 module _ {H : Type 0} (m : HostModule H) (before : H) (is_env : host_of m before ≡ env) where
   answered : (after : H) → Keeps m before after → m.may before (m.state before) 0 [] (reply.Value (Some (I64 1))) (m.state after)

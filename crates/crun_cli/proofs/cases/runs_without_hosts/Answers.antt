@@ -1,9 +1,8 @@
-use Rattle.crun_cli.proofs.Common.{◌≡◌, ℕ, false, List, [], ◌∷◌, Some, None, Option, refl, ap, subst, arith, I32, extended, call_with, division, lines_of, Answered, hosts_of, HostModule, Asked, run_with, HasRun, HasStatus}
+use Rattle.crun_cli.proofs.Common.{◌≡◌, ℕ, false, List, [], ◌∷◌, Some, None, Option, refl, ap, subst, arith, I32, extended, call_with}
+use Rattle.crun_cli.proofs.Common.{division, lines_of, Answered, hosts_of, HostModule, Asked, run_with, HasRun, HasStatus}
 use Rattle.std.specs.Fmt.{digits}
+use Rattle.std.proofs.lemmas.Option.{none-some}
 use Rattle.crun_cli.proofs.cases.runs_without_hosts.Goals as goal
-
-none_is_some : {A : Type 0} (a : A) → None ≡ Some a → ⊥
-none_is_some a e = absurd cc
 
 abbrev byte_count : Option (List ℕ) → ℕ
 byte_count None = 0
@@ -14,7 +13,7 @@ module _ {H : Type 0} (m : HostModule H) where
   -- nobody is asked
   no_asks : (asks : List Asked) (after : List H) → Answered m [] asks after → asks ≡ []
   no_asks [] after answered = refl
-  no_asks (a ∷ asks) after (middle, answers, rest) = absurd (none_is_some answers.old answers.old_is)
+  no_asks (a ∷ asks) after (middle, answers, rest) = absurd (none-some answers.old answers.old_is)
 
   other_status : (new : Option (List ℕ))
       → HasRun m [] (division ∷ []) (call_with (I32 7) (I32 2) ∷ []) 2 false (Some []) new 1 → ⊥

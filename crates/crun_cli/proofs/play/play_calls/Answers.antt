@@ -1,4 +1,5 @@
-use Rattle.crun_cli.proofs.Common.{◌≡◌, ℕ, ◌+◌, ◌<◌, ◌≤◌, List, ◌∷◌, ◌++◌, length, take, drop, IfSome, Option, ◌∙◌, subst, arith, take_all, length-map, SymbolCall, State, call_seen, calls_seen}
+use Rattle.crun_cli.proofs.Common.{◌≡◌, ℕ, ◌+◌, ◌<◌, ◌≤◌, List, ◌∷◌, ◌++◌, length, take, drop, IfSome, Option, ◌∙◌, subst, arith, take_all}
+use Rattle.crun_cli.proofs.Common.{length-map, SymbolCall, State, call_seen, calls_seen}
 use Rattle.crun_cli.specs.Playing.{HasPlayed, IsBehind, IsLeft}
 use Rattle.crun_cli.proofs.Behind.{all_played}
 use Rattle.crun_cli.proofs.CallLists.{calls_before, calls_next, calls_split}

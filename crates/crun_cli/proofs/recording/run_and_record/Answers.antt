@@ -1,4 +1,6 @@
-use Rattle.crun_cli.proofs.Common.{ℕ, map, Ok, Err, sym, refl, ap, subst, inl, inr, none_passed, passed_so, unit_of, hosts_of, seen_run, IsTextsJob, calls_seen, reason_of, StopsTexts, job_of, reason_for, stopped_by, symbols_of, outside, IsBlankFor, PutsJournal, PutsJournalPart, WritesOfTexts, ended_by}
+use Rattle.crun_cli.proofs.Common.{ℕ, map, Ok, Err, sym, refl, ap, subst, inl, inr, none_passed, passed_so, unit_of, hosts_of, seen_run}
+use Rattle.crun_cli.proofs.Common.{IsTextsJob, calls_seen, reason_of, StopsTexts, job_of, reason_for, stopped_by, symbols_of, outside}
+use Rattle.crun_cli.proofs.Common.{IsBlankFor, PutsJournal, PutsJournalPart, WritesOfTexts, ended_by}
 use Rattle.crun_job.specs.declared.stop.Stop.TheVariants as stop
 use Rattle.crun_cli.proofs.Passing.{run_broken, run_left, run_written, texts_stopped}
 use Rattle.crun_cli.proofs.RecordLaws.{journal_part, kept_part, kept_whole, lines_part, offered_distinct, texts_stop, whole_run}

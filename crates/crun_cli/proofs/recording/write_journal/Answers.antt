@@ -1,4 +1,5 @@
-use Rattle.crun_cli.proofs.Common.{Some, None, option_map, sym, refl, ◌∙◌, subst, inl, inr, none_passed, passed_so, BreaksOff, Passes, WritesFile, IsBegun, recorded, journal_text, IsWrittenPart, PutsJournal, PutsJournalPart}
+use Rattle.crun_cli.proofs.Common.{Some, None, option_map, sym, refl, ◌∙◌, subst, inl, inr, none_passed, passed_so, BreaksOff, Passes}
+use Rattle.crun_cli.proofs.Common.{WritesFile, IsBegun, recorded, journal_text, IsWrittenPart, PutsJournal, PutsJournalPart}
 use Rattle.w2c_io.specs.declared.answers.WriteAnswer.TheVariants as answer
 use Rattle.crun_cli.proofs.recording.write_journal.Goals as goal
 

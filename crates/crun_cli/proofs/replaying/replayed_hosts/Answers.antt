@@ -1,4 +1,5 @@
-use Rattle.crun_cli.proofs.Common.{Err, sym, ap, subst, passed_so, Passes, IsJournal, IsRefusedAt, recorded, journal_read, Held, GivesJournal, TriesJournal, JournalLine, WantOfMemory, reason_of, stop_for, GivesReplays, TriesReplay}
+use Rattle.crun_cli.proofs.Common.{Err, sym, ap, subst, passed_so, Passes, IsJournal, IsRefusedAt, recorded, journal_read, Held}
+use Rattle.crun_cli.proofs.Common.{GivesJournal, TriesJournal, JournalLine, WantOfMemory, reason_of, stop_for, GivesReplays, TriesReplay}
 use Rattle.crun_cli.proofs.Passing.{replay_tried}
 use Rattle.crun_cli.proofs.ReplaysOffered.{replays_offered}
 use Rattle.crun_cli.proofs.replaying.replayed_hosts.Goals as goal

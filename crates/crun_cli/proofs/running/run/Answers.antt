@@ -1,6 +1,10 @@
-use Rattle.crun_cli.proofs.Common.{ℕ, List, Ok, Err, option_map, sym, refl, ap, ◌∙◌, subst, both_passed, passed_so, Passes, Tells, names_of, AreReplays, replaying, Recorded, RunLine, AllRead, AreInputs, StopsInputs, GivesInputs, TriesInputs, seen_run, reason_of, stop_for, FilesSeen, files_seen, stopped_by, HoldsJournal, Outside, SinkSeen, outside, sink_seen, PassesRun, StopsWork, GivesReplays, TriesReplay, WritesOfTexts, ended_by}
+use Rattle.crun_cli.proofs.Common.{ℕ, List, Ok, Err, option_map, sym, refl, ap, ◌∙◌, subst, both_passed, passed_so, Passes, Tells, names_of}
+use Rattle.crun_cli.proofs.Common.{AreReplays, replaying, Recorded, RunLine, AllRead, AreInputs, StopsInputs, GivesInputs, TriesInputs}
+use Rattle.crun_cli.proofs.Common.{seen_run, reason_of, stop_for, FilesSeen, files_seen, stopped_by, HoldsJournal, Outside, SinkSeen}
+use Rattle.crun_cli.proofs.Common.{outside, sink_seen, PassesRun, StopsWork, TriesReplay, ended_by}
 use Rattle.w2c_io.specs.Events.{Event}
-use Rattle.crun_cli.proofs.Passing.{handed_passed, inputs_stopped, replay_stopped, replayed_both, ReadsBoth}
+use Rattle.crun_cli.proofs.EndPasses.{run_handed, run_replayed}
+use Rattle.crun_cli.proofs.Passing.{inputs_stopped, replay_stopped}
 use Rattle.crun_cli.proofs.RunForm.{
   handed_ran,
   handed_stop,
@@ -151,52 +155,20 @@ returns-in-Err-clause-passed g c =
 pub returns-in-Ok-run_and_record-clause-passed : goal.returns-in-Ok-run_and_record-clause-passed
 returns-in-Ok-run_and_record-clause-passed g c =
     let files = g.F.Files in
-    let m = g.H.HostModule in
-    let hosts = c.args.hosts.items in
-    let told = g.O.Sink.told c.args.out.now in
-    let told' = g.O.Sink.told c.run_and_record.new.out in
-    let line : RunLine = seen_run c.args.line.now in
-    let start = files.trace c.args.files.now in
-    let middle = files.trace c.read_inputs.new.files in
-    let texts = c.in-Ok.inputs.units.items in
-    let text = c.in-Ok.inputs.calls in
-    let Gives : List Event → Type 0 = GivesInputs line.units line.calls (AllRead texts text) in
-    let gives : Passes start middle Gives =
-    subst (λ ns. Passes start middle (GivesInputs (names_of ns) line.calls (AllRead texts text))) c.as_slice.ensures.value
-    c.in-Ok.ensures.passed in
-    let new = files.trace c.run_and_record.new.files in
-    let ends = ended_by (Ok c.in-Ok-run_and_record.status) in
-    let stopped = stopped_by {A = ℕ} (Ok c.in-Ok-run_and_record.status) in
-    both_passed start middle new Gives (WritesOfTexts m hosts line texts text told told' ends stopped)
-    (PassesRun m hosts line told told' ends stopped)
-    (λ first last gave writes. handed_passed m hosts line told told' ends stopped texts text first gave
-    (ap (λ o. option_map (λ name. name.now) o) c.in-None.is) last writes)
-    gives c.in-Ok-run_and_record.ensures.passed
+    run_handed g.H.HostModule c.args.hosts.items (seen_run c.args.line.now) (g.O.Sink.told c.args.out.now)
+    (g.O.Sink.told c.run_and_record.new.out) (Ok c.in-Ok-run_and_record.status) c.in-Ok.inputs.units.items c.in-Ok.inputs.calls
+    (files.trace c.args.files.now) (files.trace c.read_inputs.new.files) (files.trace c.run_and_record.new.files) _
+    (ap (λ ns. names_of ns) c.as_slice.ensures.value) c.in-Ok.ensures.passed (ap (λ o. option_map (λ name. name.now) o) c.in-None.is)
+    c.in-Ok-run_and_record.ensures.passed
 
 pub returns-in-None-clause-passed : goal.returns-in-None-clause-passed
 returns-in-None-clause-passed g c =
     let files = g.F.Files in
-    let m = g.H.HostModule in
-    let hosts = c.args.hosts.items in
-    let told = g.O.Sink.told c.args.out.now in
-    let told' = g.O.Sink.told c.run_and_record.new.out in
-    let line : RunLine = seen_run c.args.line.now in
-    let start = files.trace c.args.files.now in
-    let middle = files.trace c.read_inputs.new.files in
-    let texts = c.in-Ok.inputs.units.items in
-    let text = c.in-Ok.inputs.calls in
-    let Gives : List Event → Type 0 = GivesInputs line.units line.calls (AllRead texts text) in
-    let gives : Passes start middle Gives =
-    subst (λ ns. Passes start middle (GivesInputs (names_of ns) line.calls (AllRead texts text))) c.as_slice.ensures.value
-    c.in-Ok.ensures.passed in
-    let new = files.trace c.run_and_record.new.files in
-    let ends = ended_by (Err c.in-Err-run_and_record.stop) in
-    let stopped = stopped_by {A = ℕ} (Err c.in-Err-run_and_record.stop) in
-    both_passed start middle new Gives (WritesOfTexts m hosts line texts text told told' ends stopped)
-    (PassesRun m hosts line told told' ends stopped)
-    (λ first last gave writes. handed_passed m hosts line told told' ends stopped texts text first gave
-    (ap (λ o. option_map (λ name. name.now) o) c.in-None.is) last writes)
-    gives c.in-Err-run_and_record.ensures.passed
+    run_handed g.H.HostModule c.args.hosts.items (seen_run c.args.line.now) (g.O.Sink.told c.args.out.now)
+    (g.O.Sink.told c.run_and_record.new.out) (Err c.in-Err-run_and_record.stop) c.in-Ok.inputs.units.items c.in-Ok.inputs.calls
+    (files.trace c.args.files.now) (files.trace c.read_inputs.new.files) (files.trace c.run_and_record.new.files) _
+    (ap (λ ns. names_of ns) c.as_slice.ensures.value) c.in-Ok.ensures.passed (ap (λ o. option_map (λ name. name.now) o) c.in-None.is)
+    c.in-Err-run_and_record.ensures.passed
 
 pub returns-in-Err-replayed_hosts-clause-passed : goal.returns-in-Err-replayed_hosts-clause-passed
 returns-in-Err-replayed_hosts-clause-passed g c =
@@ -226,61 +198,19 @@ returns-in-Err-replayed_hosts-clause-passed g c =
 pub returns-in-Ok-run_and_record-2-clause-passed : goal.returns-in-Ok-run_and_record-2-clause-passed
 returns-in-Ok-run_and_record-2-clause-passed g c =
     let files = g.F.Files in
-    let m = g.H.HostModule in
-    let hosts = c.args.hosts.items in
-    let told = g.O.Sink.told c.args.out.now in
-    let told' = g.O.Sink.told c.run_and_record-in-Some.new.out in
-    let line : RunLine = seen_run c.args.line.now in
-    let start = files.trace c.args.files.now in
-    let middle = files.trace c.read_inputs.new.files in
-    let texts = c.in-Ok.inputs.units.items in
-    let text = c.in-Ok.inputs.calls in
-    let Gives : List Event → Type 0 = GivesInputs line.units line.calls (AllRead texts text) in
-    let gives : Passes start middle Gives =
-    subst (λ ns. Passes start middle (GivesInputs (names_of ns) line.calls (AllRead texts text))) c.as_slice.ensures.value
-    c.in-Ok.ensures.passed in
-    let read = files.trace c.replayed_hosts.new.files in
-    let new = files.trace c.run_and_record-in-Some.new.files in
-    let name = c.in-Some.name.now in
-    let replays = c.in-Ok-replayed_hosts.replays.items in
-    let ends = ended_by (Ok c.in-Ok-run_and_record-2.status) in
-    let stopped = stopped_by {A = ℕ} (Ok c.in-Ok-run_and_record-2.status) in
-    both_passed start read new (ReadsBoth line texts text name replays)
-    (WritesOfTexts replaying replays line texts text told told' ends stopped)
-    (PassesRun m hosts line told told' ends stopped)
-    (λ first last both writes. replayed_both m hosts line told told' ends stopped texts text name
-    (ap (λ o. option_map (λ n. n.now) o) c.in-Some.is) replays first last both writes)
-    (both_passed start middle read Gives (GivesReplays name replays) (ReadsBoth line texts text name replays)
-    (λ first last gave replay. (first, last, refl, gave, replay)) gives c.in-Ok-replayed_hosts.ensures.passed)
-    c.in-Ok-run_and_record-2.ensures.passed
+    run_replayed g.H.HostModule c.args.hosts.items (seen_run c.args.line.now) (g.O.Sink.told c.args.out.now)
+    (g.O.Sink.told c.run_and_record-in-Some.new.out) (Ok c.in-Ok-run_and_record-2.status) c.in-Ok.inputs.units.items c.in-Ok.inputs.calls
+    (files.trace c.args.files.now) (files.trace c.read_inputs.new.files) (files.trace c.run_and_record-in-Some.new.files) _
+    (ap (λ ns. names_of ns) c.as_slice.ensures.value) c.in-Ok.ensures.passed
+    (files.trace c.replayed_hosts.new.files) c.in-Some.name.now (ap (λ o. option_map (λ n. n.now) o) c.in-Some.is)
+    c.in-Ok-replayed_hosts.replays.items c.in-Ok-replayed_hosts.ensures.passed c.in-Ok-run_and_record-2.ensures.passed
 
 pub returns-clause-passed : goal.returns-clause-passed
 returns-clause-passed g c =
     let files = g.F.Files in
-    let m = g.H.HostModule in
-    let hosts = c.args.hosts.items in
-    let told = g.O.Sink.told c.args.out.now in
-    let told' = g.O.Sink.told c.run_and_record-in-Some.new.out in
-    let line : RunLine = seen_run c.args.line.now in
-    let start = files.trace c.args.files.now in
-    let middle = files.trace c.read_inputs.new.files in
-    let texts = c.in-Ok.inputs.units.items in
-    let text = c.in-Ok.inputs.calls in
-    let Gives : List Event → Type 0 = GivesInputs line.units line.calls (AllRead texts text) in
-    let gives : Passes start middle Gives =
-    subst (λ ns. Passes start middle (GivesInputs (names_of ns) line.calls (AllRead texts text))) c.as_slice.ensures.value
-    c.in-Ok.ensures.passed in
-    let read = files.trace c.replayed_hosts.new.files in
-    let new = files.trace c.run_and_record-in-Some.new.files in
-    let name = c.in-Some.name.now in
-    let replays = c.in-Ok-replayed_hosts.replays.items in
-    let ends = ended_by (Err c.in-Err-run_and_record-2.stop) in
-    let stopped = stopped_by {A = ℕ} (Err c.in-Err-run_and_record-2.stop) in
-    both_passed start read new (ReadsBoth line texts text name replays)
-    (WritesOfTexts replaying replays line texts text told told' ends stopped)
-    (PassesRun m hosts line told told' ends stopped)
-    (λ first last both writes. replayed_both m hosts line told told' ends stopped texts text name
-    (ap (λ o. option_map (λ n. n.now) o) c.in-Some.is) replays first last both writes)
-    (both_passed start middle read Gives (GivesReplays name replays) (ReadsBoth line texts text name replays)
-    (λ first last gave replay. (first, last, refl, gave, replay)) gives c.in-Ok-replayed_hosts.ensures.passed)
-    c.in-Err-run_and_record-2.ensures.passed
+    run_replayed g.H.HostModule c.args.hosts.items (seen_run c.args.line.now) (g.O.Sink.told c.args.out.now)
+    (g.O.Sink.told c.run_and_record-in-Some.new.out) (Err c.in-Err-run_and_record-2.stop) c.in-Ok.inputs.units.items c.in-Ok.inputs.calls
+    (files.trace c.args.files.now) (files.trace c.read_inputs.new.files) (files.trace c.run_and_record-in-Some.new.files) _
+    (ap (λ ns. names_of ns) c.as_slice.ensures.value) c.in-Ok.ensures.passed
+    (files.trace c.replayed_hosts.new.files) c.in-Some.name.now (ap (λ o. option_map (λ n. n.now) o) c.in-Some.is)
+    c.in-Ok-replayed_hosts.replays.items c.in-Ok-replayed_hosts.ensures.passed c.in-Err-run_and_record-2.ensures.passed

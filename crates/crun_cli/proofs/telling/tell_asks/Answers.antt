@@ -1,4 +1,5 @@
-use Rattle.crun_cli.proofs.Common.{◌+◌, take, drop, sym, subst, hosts_of, AreWritten, front_next, front_split, one_more, stopped_at, asked_line}
+use Rattle.crun_cli.proofs.Common.{◌+◌, take, drop, sym, subst, hosts_of, AreWritten, front_next, front_split, one_more, stopped_at}
+use Rattle.crun_cli.proofs.Common.{asked_line}
 use Rattle.crun_cli.proofs.telling.tell_asks.Goals as goal
 
 pub returns-in-Err : goal.returns-in-Err

@@ -1,4 +1,5 @@
-use Rattle.crun_cli.proofs.Common.{◌≡◌, ℕ, List, Ok, Err, subst, passed_so, Says, texts, error_line, reason_of, stopped_by, outside, PassesFor, PassesWords, StopsFor, ended_by}
+use Rattle.crun_cli.proofs.Common.{◌≡◌, ℕ, List, Ok, Err, subst, passed_so, Says, texts, error_line, reason_of, stopped_by, outside}
+use Rattle.crun_cli.proofs.Common.{PassesFor, PassesWords, StopsFor, ended_by}
 use Rattle.crun_cli.proofs.Passing.{stopped_for, words_so}
 use Rattle.crun_cli.proofs.TopLaws.{
   done_again,

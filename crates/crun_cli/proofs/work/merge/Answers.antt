@@ -1,4 +1,6 @@
-use Rattle.crun_cli.proofs.Common.{◌≡◌, List, Ok, Err, refl, ap, ◌∙◌, subst, none_passed, holding, Passes, Tells, CSpells, print_of, c_symbols, seen_merge, Write, reason_of, units_wanting, files_seen, IsMergeJob, IsMerged, PassesUnits, StopsWrite, done_by, stopped_by}
+use Rattle.crun_cli.proofs.Common.{◌≡◌, List, Ok, Err, refl, ap, ◌∙◌, subst, none_passed, holding, Passes, Tells, CSpells, print_of}
+use Rattle.crun_cli.proofs.Common.{c_symbols, seen_merge, Write, reason_of, units_wanting, files_seen, IsMergeJob, IsMerged, PassesUnits}
+use Rattle.crun_cli.proofs.Common.{StopsWrite, done_by, stopped_by}
 use Rattle.c_tree.specs.Tree.{Item}
 use Rattle.crun_job.specs.declared.stop.Stop.TheVariants as stop
 use Rattle.crun_cli.proofs.work.merge.Goals as goal

@@ -1,6 +1,8 @@
-use Rattle.crun_cli.proofs.Common.{ℕ, [], ◌∷◌, Some, Ok, Err, refl, ap, ◌∙◌, subst, inl, none_passed, passed_so, Passes, texts, hosts_of, merges, runs, trims, seen_line, seen_merge, seen_run, seen_trim, reason_of, files_seen, IsMerged, IsTrimmedText, PassesUnits, done_by, stopped_by, symbols_of, sink_seen, PassesRun, PassesWords, ended_by}
+use Rattle.crun_cli.proofs.Common.{ℕ, [], ◌∷◌, Some, Ok, Err, refl, ap, ◌∙◌, inl, none_passed, texts, seen_line, seen_merge, seen_run}
+use Rattle.crun_cli.proofs.Common.{seen_trim, reason_of, files_seen, done_by, stopped_by, sink_seen, PassesWords, ended_by}
 use Rattle.crun_job.specs.declared.stop.Stop.TheVariants as stop
-use Rattle.crun_cli.proofs.Passing.{line_passed, line_so, usage_passed, words_wanting}
+use Rattle.crun_cli.proofs.EndPasses.{words_merge, words_run, words_trim}
+use Rattle.crun_cli.proofs.Passing.{usage_passed, words_wanting}
 use Rattle.crun_cli.proofs.WriteForms.{merge_done, merge_stop, trim_stop}
 use Rattle.crun_cli.proofs.work.work.Goals as goal
 
@@ -56,120 +58,50 @@ returns-in-Err-Memory-clause-passed g c =
 pub returns-in-Ok-run-clause-passed : goal.returns-in-Ok-run-clause-passed
 returns-in-Ok-run-clause-passed g c =
     let files = g.F.Files in
-    let m = g.H.HostModule in
-    let hosts = c.args.hosts.items in
-    let words = texts c.args.words.now in
-    let old = files.trace c.args.files.now in
-    let told = g.O.Sink.told c.args.out.now in
-    let new = files.trace c.run.new.files in
-    let told' = g.O.Sink.told c.run.new.out in
-    let line = seen_run c.in-Run.line in
-    let ends = ended_by (Ok c.in-Ok-run.status) in
-    let stopped = stopped_by {A = ℕ} (Ok c.in-Ok-run.status) in
-    passed_so old new (PassesRun m hosts line told told' ends stopped) (PassesWords m hosts words told told' ends stopped)
-    (line_passed m hosts words told told' ends stopped (runs line) (c.in-Ok.ensures.line ∙ ap (λ l. Some (seen_line l)) c.in-Run.is))
-    c.in-Ok-run.ensures.passed
+    words_run g.H.HostModule c.args.hosts.items (texts c.args.words.now) (g.O.Sink.told c.args.out.now) (files.trace c.args.files.now)
+    (files.trace c.run.new.files) (g.O.Sink.told c.run.new.out) (Ok c.in-Ok-run.status) (seen_run c.in-Run.line)
+    (c.in-Ok.ensures.line ∙ ap (λ l. Some (seen_line l)) c.in-Run.is) c.in-Ok-run.ensures.passed
 
 pub returns-in-Run-clause-passed : goal.returns-in-Run-clause-passed
 returns-in-Run-clause-passed g c =
     let files = g.F.Files in
-    let m = g.H.HostModule in
-    let hosts = c.args.hosts.items in
-    let words = texts c.args.words.now in
-    let old = files.trace c.args.files.now in
-    let told = g.O.Sink.told c.args.out.now in
-    let new = files.trace c.run.new.files in
-    let told' = g.O.Sink.told c.run.new.out in
-    let line = seen_run c.in-Run.line in
-    let ends = ended_by (Err c.in-Err.stop) in
-    let stopped = stopped_by {A = ℕ} (Err c.in-Err.stop) in
-    passed_so old new (PassesRun m hosts line told told' ends stopped) (PassesWords m hosts words told told' ends stopped)
-    (line_passed m hosts words told told' ends stopped (runs line) (c.in-Ok.ensures.line ∙ ap (λ l. Some (seen_line l)) c.in-Run.is))
-    c.in-Err.ensures.passed
+    words_run g.H.HostModule c.args.hosts.items (texts c.args.words.now) (g.O.Sink.told c.args.out.now) (files.trace c.args.files.now)
+    (files.trace c.run.new.files) (g.O.Sink.told c.run.new.out) (Err c.in-Err.stop) (seen_run c.in-Run.line)
+    (c.in-Ok.ensures.line ∙ ap (λ l. Some (seen_line l)) c.in-Run.is) c.in-Err.ensures.passed
 
 pub returns-in-Ok-merge-clause-passed : goal.returns-in-Ok-merge-clause-passed
 returns-in-Ok-merge-clause-passed g c =
     let files = g.F.Files in
-    let m = g.H.HostModule in
-    let hosts = c.args.hosts.items in
-    let words = texts c.args.words.now in
-    let old = files.trace c.args.files.now in
-    let told = g.O.Sink.told c.args.out.now in
-    let new = files.trace c.merge.new.files in
-    let line = seen_merge c.in-Merge.line in
-    let ends = ended_by (Ok 0) in
-    let stopped = stopped_by {A = ℕ} (Ok 0) in
-    let done = done_by (Ok tt) in
-    let stopped' = stopped_by {A = Unit {0}} (Ok tt) in
-    let of = IsMerged line (symbols_of (hosts_of m hosts)) in
-    passed_so old new (PassesUnits line.units of done stopped') (PassesWords m hosts words told told ends stopped)
-    (λ events passes. line_passed m hosts words told told ends stopped (merges line)
-    (c.in-Ok.ensures.line ∙ ap (λ l. Some (seen_line l)) c.in-Merge.is) events
-    (line_so m hosts told told done ends stopped' stopped (λ status e. e) (λ why e. e) (merges line) events (refl, passes)))
-    (subst (λ hs. Passes old new (PassesUnits line.units (IsMerged line (symbols_of (hosts_of m hs))) done stopped'))
-    c.as_slice.ensures.value c.in-Ok-merge.ensures.passed)
+    words_merge g.H.HostModule c.args.hosts.items (texts c.args.words.now) (g.O.Sink.told c.args.out.now) (files.trace c.args.files.now)
+    (files.trace c.merge.new.files) (done_by (Ok tt)) (ended_by (Ok 0)) (stopped_by {A = Unit {0}} (Ok tt))
+    (stopped_by {A = ℕ} (Ok 0)) (λ status e. e) (λ why e. e) (seen_merge c.in-Merge.line)
+    (c.in-Ok.ensures.line ∙ ap (λ l. Some (seen_line l)) c.in-Merge.is) _ c.as_slice.ensures.value c.in-Ok-merge.ensures.passed
 
 pub returns-in-Merge-clause-passed : goal.returns-in-Merge-clause-passed
 returns-in-Merge-clause-passed g c =
     let files = g.F.Files in
-    let m = g.H.HostModule in
-    let hosts = c.args.hosts.items in
-    let words = texts c.args.words.now in
-    let old = files.trace c.args.files.now in
-    let told = g.O.Sink.told c.args.out.now in
-    let new = files.trace c.merge.new.files in
-    let line = seen_merge c.in-Merge.line in
-    let ends = ended_by (Err c.in-Err-merge.stop) in
-    let stopped = stopped_by {A = ℕ} (Err c.in-Err-merge.stop) in
-    let done = done_by (Err c.in-Err-merge.stop) in
-    let stopped' = stopped_by {A = Unit {0}} (Err c.in-Err-merge.stop) in
-    let of = IsMerged line (symbols_of (hosts_of m hosts)) in
-    passed_so old new (PassesUnits line.units of done stopped') (PassesWords m hosts words told told ends stopped)
-    (λ events passes. line_passed m hosts words told told ends stopped (merges line)
-    (c.in-Ok.ensures.line ∙ ap (λ l. Some (seen_line l)) c.in-Merge.is) events
-    (line_so m hosts told told done ends stopped' stopped (λ status e. e) (λ why e. e) (merges line) events (refl, passes)))
-    (subst (λ hs. Passes old new (PassesUnits line.units (IsMerged line (symbols_of (hosts_of m hs))) done stopped'))
-    c.as_slice.ensures.value c.in-Err-merge.ensures.passed)
+    words_merge g.H.HostModule c.args.hosts.items (texts c.args.words.now) (g.O.Sink.told c.args.out.now) (files.trace c.args.files.now)
+    (files.trace c.merge.new.files) (done_by (Err c.in-Err-merge.stop)) (ended_by (Err c.in-Err-merge.stop))
+    (stopped_by {A = Unit {0}} (Err c.in-Err-merge.stop)) (stopped_by {A = ℕ} (Err c.in-Err-merge.stop))
+    (λ status e. e) (λ why e. e) (seen_merge c.in-Merge.line)
+    (c.in-Ok.ensures.line ∙ ap (λ l. Some (seen_line l)) c.in-Merge.is) _ c.as_slice.ensures.value c.in-Err-merge.ensures.passed
 
 pub returns-in-Ok-trim_unit-clause-passed : goal.returns-in-Ok-trim_unit-clause-passed
 returns-in-Ok-trim_unit-clause-passed g c =
     let files = g.F.Files in
-    let m = g.H.HostModule in
-    let hosts = c.args.hosts.items in
-    let words = texts c.args.words.now in
-    let old = files.trace c.args.files.now in
-    let told = g.O.Sink.told c.args.out.now in
-    let new = files.trace c.trim_unit.new.files in
-    let line = seen_trim c.in-Trim.line in
-    let ends = ended_by (Ok 0) in
-    let stopped = stopped_by {A = ℕ} (Ok 0) in
-    let done = done_by (Ok tt) in
-    let stopped' = stopped_by {A = Unit {0}} (Ok tt) in
-    passed_so old new (PassesUnits (line.unit ∷ []) (IsTrimmedText line) done stopped') (PassesWords m hosts words told told ends stopped)
-    (λ events passes. line_passed m hosts words told told ends stopped (trims line)
-    (c.in-Ok.ensures.line ∙ ap (λ l. Some (seen_line l)) c.in-Trim.is) events
-    (line_so m hosts told told done ends stopped' stopped (λ status e. e) (λ why e. e) (trims line) events (refl, passes)))
-    c.in-Ok-trim_unit.ensures.passed
+    words_trim g.H.HostModule c.args.hosts.items (texts c.args.words.now) (g.O.Sink.told c.args.out.now) (files.trace c.args.files.now)
+    (files.trace c.trim_unit.new.files) (done_by (Ok tt)) (ended_by (Ok 0)) (stopped_by {A = Unit {0}} (Ok tt))
+    (stopped_by {A = ℕ} (Ok 0)) (λ status e. e) (λ why e. e) (seen_trim c.in-Trim.line)
+    (c.in-Ok.ensures.line ∙ ap (λ l. Some (seen_line l)) c.in-Trim.is) c.in-Ok-trim_unit.ensures.passed
 
 pub returns-clause-passed : goal.returns-clause-passed
 returns-clause-passed g c =
     let files = g.F.Files in
-    let m = g.H.HostModule in
-    let hosts = c.args.hosts.items in
-    let words = texts c.args.words.now in
-    let old = files.trace c.args.files.now in
-    let told = g.O.Sink.told c.args.out.now in
-    let new = files.trace c.trim_unit.new.files in
-    let line = seen_trim c.in-Trim.line in
-    let ends = ended_by (Err c.in-Err-trim_unit.stop) in
-    let stopped = stopped_by {A = ℕ} (Err c.in-Err-trim_unit.stop) in
-    let done = done_by (Err c.in-Err-trim_unit.stop) in
-    let stopped' = stopped_by {A = Unit {0}} (Err c.in-Err-trim_unit.stop) in
-    passed_so old new (PassesUnits (line.unit ∷ []) (IsTrimmedText line) done stopped') (PassesWords m hosts words told told ends stopped)
-    (λ events passes. line_passed m hosts words told told ends stopped (trims line)
-    (c.in-Ok.ensures.line ∙ ap (λ l. Some (seen_line l)) c.in-Trim.is) events
-    (line_so m hosts told told done ends stopped' stopped (λ status e. e) (λ why e. e) (trims line) events (refl, passes)))
-    c.in-Err-trim_unit.ensures.passed
+    words_trim g.H.HostModule c.args.hosts.items (texts c.args.words.now) (g.O.Sink.told c.args.out.now) (files.trace c.args.files.now)
+    (files.trace c.trim_unit.new.files) (done_by (Err c.in-Err-trim_unit.stop)) (ended_by (Err c.in-Err-trim_unit.stop))
+    (stopped_by {A = Unit {0}} (Err c.in-Err-trim_unit.stop)) (stopped_by {A = ℕ} (Err c.in-Err-trim_unit.stop))
+    (λ status e. e) (λ why e. e) (seen_trim c.in-Trim.line)
+    (c.in-Ok.ensures.line ∙ ap (λ l. Some (seen_line l)) c.in-Trim.is) c.in-Err-trim_unit.ensures.passed
 
 pub returns-in-Ok-run-clause-finished : goal.returns-in-Ok-run-clause-finished
 returns-in-Ok-run-clause-finished g c = λ m tells.

@@ -1,4 +1,6 @@
-use Rattle.crun_job.proofs.Common.{◌≡◌, true, List, map, IfSome, IfNone, Some, None, option_map, option_copied, sym, refl, ap, ◌∙◌, subst, rules, number_of, Value, func_type_of, unit_of, fits, signature_of, AreArguments, Call, SaysCall, seen_call, program_of}
+use Rattle.crun_job.proofs.Common.{◌≡◌, true, List, map, IfSome, IfNone, Some, None, option_map, option_copied, sym, refl, ap, ◌∙◌, subst}
+use Rattle.crun_job.proofs.Common.{rules, number_of, Value, func_type_of, unit_of, fits, signature_of, AreArguments, Call, SaysCall}
+use Rattle.crun_job.proofs.Common.{seen_call, program_of}
 use Rattle.c_tree.specs.Tree as tree
 use Rattle.crun_job.proofs.Calls.{has_arguments, has_fit, has_signature, named}
 use Rattle.crun_job.proofs.calls_file.named_call.Goals as goal

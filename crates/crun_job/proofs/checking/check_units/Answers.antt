@@ -1,4 +1,5 @@
-use Rattle.crun_job.proofs.Common.{◌+◌, ◌≤◌, [], ◌∷◌, ◌++◌, map, length, take, sym, subst, take_all, unit_of, RefusesText, AreUnitTexts, IsUnitText, most_unit_bytes}
+use Rattle.crun_job.proofs.Common.{◌+◌, ◌≤◌, [], ◌∷◌, ◌++◌, map, length, take, sym, subst, take_all, unit_of, RefusesText, AreUnitTexts}
+use Rattle.crun_job.proofs.Common.{IsUnitText, most_unit_bytes}
 use Rattle.crun_job.proofs.Each.{each_pushed}
 use Rattle.crun_job.proofs.Taken.{take_next}
 use Rattle.crun_job.proofs.Texts.{first_text, short_at}

@@ -1,4 +1,5 @@
-use Rattle.crun_startup.proofs.Common.{[], ◌++◌, map, flat_map, sym, ap, ◌∙◌, append-nil, numbered_at, seen_at, numbered, unit_of, unit_inits}
+use Rattle.crun_startup.proofs.Common.{[], ◌++◌, map, flat_map, sym, ap, ◌∙◌, append-nil, numbered_at, seen_at, numbered, unit_of}
+use Rattle.crun_startup.proofs.Common.{unit_inits}
 use Rattle.crun_startup.proofs.Collected.{flats, gathered_next}
 use Rattle.crun_startup.proofs.InitsFound.{found_all, found_defined, found_mean}
 use Rattle.crun_startup.proofs.inits.init_functions.Goals as goal

@@ -1,4 +1,5 @@
-use Rattle.crun_startup.proofs.Common.{◌+◌, [], ◌∷◌, ◌++◌, map, take, sym, refl, subst, arith, length-append, seen_at, take_next, unit_of, AreUnits, IsUnit}
+use Rattle.crun_startup.proofs.Common.{◌+◌, [], ◌∷◌, ◌++◌, map, take, sym, refl, subst, arith, length-append, seen_at, take_next, unit_of}
+use Rattle.crun_startup.proofs.Common.{AreUnits, IsUnit}
 use Rattle.crun_startup.proofs.UnitsPush.{units_push}
 use Rattle.crun_startup.proofs.startup.linked_units.Goals as goal
 

@@ -1,4 +1,5 @@
-use Rattle.crun_startup.proofs.Common.{[], ◌++◌, flat_map, sym, ap, ◌∙◌, append-nil, slice_get-get_or, numbered_at, numbered_past, numbered, ids_of}
+use Rattle.crun_startup.proofs.Common.{[], ◌++◌, flat_map, sym, ap, ◌∙◌, append-nil, slice_get-get_or, numbered_at, numbered_past, numbered}
+use Rattle.crun_startup.proofs.Common.{ids_of}
 use Rattle.crun_startup.proofs.Collected.{flats, gathered_all, gathered_next}
 use Rattle.crun_startup.proofs.symbols.host_ids.Goals as goal
 

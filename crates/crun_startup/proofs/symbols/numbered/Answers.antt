@@ -1,4 +1,5 @@
-use Rattle.crun_startup.proofs.Common.{map, slice_get, Some, sym, ap, ◌∙◌, take_all, length-map, slice_get-get_or, seen_at, if_found, named, enters_all, enters_next, number_in, func_in, name_in}
+use Rattle.crun_startup.proofs.Common.{map, slice_get, Some, sym, ap, ◌∙◌, take_all, length-map, slice_get-get_or, seen_at, if_found, named}
+use Rattle.crun_startup.proofs.Common.{enters_all, enters_next, number_in, func_in, name_in}
 use Rattle.c_machine.proofs.Variables.{named-zip}
 use Rattle.crun_startup.proofs.Collected.{taken_next}
 use Rattle.crun_startup.proofs.SymbolsFound.{zipped}

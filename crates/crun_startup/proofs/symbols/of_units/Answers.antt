@@ -1,4 +1,5 @@
-use Rattle.crun_startup.proofs.Common.{◌≡◌, ℕ, ◌≤◌, [], ◌++◌, map, flat_map, sym, ap, ◌∙◌, append-nil, arith, numbered_at, seen_at, numbered, unit_of, entry_of, unit_entries}
+use Rattle.crun_startup.proofs.Common.{◌≡◌, ℕ, ◌≤◌, [], ◌++◌, map, flat_map, sym, ap, ◌∙◌, append-nil, arith, numbered_at, seen_at}
+use Rattle.crun_startup.proofs.Common.{numbered, unit_of, entry_of, unit_entries}
 use Rattle.crun_startup.proofs.Collected.{flats, gathered_next, numbered_end}
 use Rattle.crun_startup.proofs.symbols.of_units.Goals as goal
 

@@ -1,4 +1,5 @@
-use Rattle.crun_state.proofs.Common.{◌+◌, ◌<◌, map, length, take, drop, sym, subst, arith, length-map, entry_of, AreWritten, front_next, front_split, one_more, same_at, stopped_at, cell_lines, entry_at, lines_at}
+use Rattle.crun_state.proofs.Common.{◌+◌, ◌<◌, map, length, take, drop, sym, subst, arith, length-map, entry_of, AreWritten, front_next}
+use Rattle.crun_state.proofs.Common.{front_split, one_more, same_at, stopped_at, cell_lines, entry_at, lines_at}
 use Rattle.crun_state.proofs.memories.show_in_order.Goals as goal
 
 pub returns-in-Err : goal.returns-in-Err

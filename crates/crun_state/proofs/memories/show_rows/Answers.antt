@@ -1,4 +1,5 @@
-use Rattle.crun_state.proofs.Common.{◌+◌, ◌-◌, ◌/◌, length, sym, subst, arith, range_with_len, row_line, AreWritten, one_more, range_next, range_split, stopped_at}
+use Rattle.crun_state.proofs.Common.{◌+◌, ◌-◌, ◌/◌, length, sym, subst, arith, range_with_len, row_line, AreWritten, one_more, range_next}
+use Rattle.crun_state.proofs.Common.{range_split, stopped_at}
 use Rattle.crun_state.proofs.memories.show_rows.Goals as goal
 
 pub returns-in-Err : goal.returns-in-Err

@@ -1,4 +1,5 @@
-use Rattle.crun_state.proofs.Common.{◌++◌, map, Ok, Err, unit_of, hosts_of, names_in, naming_of, then_writes, cell_lines, held_lines, lines_in_order, table_cell_lines}
+use Rattle.crun_state.proofs.Common.{◌++◌, map, Ok, Err, unit_of, hosts_of, names_in, naming_of, then_writes, cell_lines, held_lines}
+use Rattle.crun_state.proofs.Common.{lines_in_order, table_cell_lines}
 use Rattle.crun_startup.specs.declared.names.ObjectKind.TheVariants as kind
 use Rattle.crun_state.proofs.state.show_items.Goals as goal
 

@@ -1,4 +1,5 @@
-use Rattle.crun_state.proofs.Common.{map, Some, None, Ok, option_copied, sym, ap, ◌∙◌, unit_of, hosts_of, writes_text, wrote_nothing, lines_of_objects}
+use Rattle.crun_state.proofs.Common.{map, Some, None, Ok, option_copied, sym, ap, ◌∙◌, unit_of, hosts_of, writes_text, wrote_nothing}
+use Rattle.crun_state.proofs.Common.{lines_of_objects}
 use Rattle.crun_state.proofs.Shown.{items_found}
 use Rattle.crun_state.proofs.state.show_objects.Goals as goal
 

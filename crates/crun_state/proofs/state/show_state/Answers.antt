@@ -1,4 +1,5 @@
-use Rattle.crun_state.proofs.Common.{◌+◌, ◌-◌, map, length, Ok, Err, sym, ap, subst, arith, rules, range_with_len, unit_of, hosts_of, AreWritten, all_written, one_more, range_next, range_split, stopped_at, writes_text, lines_of_unit}
+use Rattle.crun_state.proofs.Common.{◌+◌, ◌-◌, map, length, Ok, Err, sym, ap, subst, arith, rules, range_with_len, unit_of, hosts_of}
+use Rattle.crun_state.proofs.Common.{AreWritten, all_written, one_more, range_next, range_split, stopped_at, writes_text, lines_of_unit}
 use Rattle.crun_state.proofs.Shown.{state_shown}
 use Rattle.crun_state.proofs.state.show_state.Goals as goal
 

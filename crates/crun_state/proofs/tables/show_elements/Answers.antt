@@ -1,4 +1,5 @@
-use Rattle.crun_state.proofs.Common.{◌+◌, ◌-◌, map, length, sym, subst, arith, range_with_len, unit_of, hosts_of, naming_of, AreWritten, one_more, range_next, range_split, stopped_at, lines_at_place}
+use Rattle.crun_state.proofs.Common.{◌+◌, ◌-◌, map, length, sym, subst, arith, range_with_len, unit_of, hosts_of, naming_of, AreWritten}
+use Rattle.crun_state.proofs.Common.{one_more, range_next, range_split, stopped_at, lines_at_place}
 use Rattle.crun_state.proofs.tables.show_elements.Goals as goal
 
 pub returns-in-Err : goal.returns-in-Err

@@ -1,4 +1,6 @@
-use Rattle.crun_state.proofs.Common.{◌+◌, ◌<◌, map, length, take, drop, sym, subst, arith, length-map, unit_of, entry_of, hosts_of, naming_of, AreWritten, front_next, front_split, one_more, same_at, stopped_at, entry_at, lines_at, table_cell_lines}
+use Rattle.crun_state.proofs.Common.{◌+◌, ◌<◌, map, length, take, drop, sym, subst, arith, length-map, unit_of, entry_of, hosts_of}
+use Rattle.crun_state.proofs.Common.{naming_of, AreWritten, front_next, front_split, one_more, same_at, stopped_at, entry_at, lines_at}
+use Rattle.crun_state.proofs.Common.{table_cell_lines}
 use Rattle.crun_state.proofs.tables.show_in_order.Goals as goal
 
 pub returns-in-Err : goal.returns-in-Err

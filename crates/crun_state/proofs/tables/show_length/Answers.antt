@@ -1,4 +1,5 @@
-use Rattle.crun_state.proofs.Common.{map, length, Ok, Err, flat_map, range_with_len, unit_of, length_line, hosts_of, naming_of, stops_writing, then_writes, lines_at_place}
+use Rattle.crun_state.proofs.Common.{map, length, Ok, Err, flat_map, range_with_len, unit_of, length_line, hosts_of, naming_of}
+use Rattle.crun_state.proofs.Common.{stops_writing, then_writes, lines_at_place}
 use Rattle.crun_state.proofs.tables.show_length.Goals as goal
 
 pub returns-in-Ok-show_elements : goal.returns-in-Ok-show_elements

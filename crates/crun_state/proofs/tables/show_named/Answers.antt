@@ -1,4 +1,5 @@
-use Rattle.crun_state.proofs.Common.{map, Ok, option_copied, sym, ap, ◌∙◌, unit_of, hosts_of, naming_of, writes_text, wrote_nothing, length_and_elements, table_cell_lines}
+use Rattle.crun_state.proofs.Common.{map, Ok, option_copied, sym, ap, ◌∙◌, unit_of, hosts_of, naming_of, writes_text, wrote_nothing}
+use Rattle.crun_state.proofs.Common.{length_and_elements, table_cell_lines}
 use Rattle.crun_state.proofs.Numbers.{found_named, table_by_place}
 use Rattle.crun_state.proofs.tables.show_named.Goals as goal
 

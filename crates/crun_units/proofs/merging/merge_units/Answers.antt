@@ -1,4 +1,5 @@
-use Rattle.crun_units.proofs.Common.{Ok, Err, refl, both_passed, passed_so, unit_of, c_symbols, seen_merge, Write, reason_of, files_seen, IsMergeJob, IsMerged, IsUnitsJobOver, PassesUnits, WritesUnit, TriesUnit, done_by, stopped_by}
+use Rattle.crun_units.proofs.Common.{Ok, Err, refl, both_passed, passed_so, unit_of, c_symbols, seen_merge, Write, reason_of, files_seen}
+use Rattle.crun_units.proofs.Common.{IsMergeJob, IsMerged, IsUnitsJobOver, PassesUnits, WritesUnit, TriesUnit, done_by, stopped_by}
 use Rattle.crun_units.proofs.Passing.{unit_refused, unit_written}
 use Rattle.crun_units.proofs.WriteStops.{output_stops}
 use Rattle.crun_units.proofs.merging.merge_units.Goals as goal

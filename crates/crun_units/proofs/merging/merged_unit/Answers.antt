@@ -1,4 +1,7 @@
-use Rattle.crun_units.proofs.Common.{map, sym, ap, subst, inl, passed_so, Passes, Tells, unit_of, c_symbols, AreUnits, StopsUnits, UnitsRead, GivesUnits, TriesUnits, seen_merge, Write, WantOfMemory, AreLinked, RefusesUnits, reason_of, stop_for, StopsUnit, AreUntouched, files_seen, IsMergeJob, IsMerged, IsUnitsJobOver, StopsWrite, TriesUnit}
+use Rattle.crun_units.proofs.Common.{map, sym, ap, subst, inl, passed_so, Passes, Tells, unit_of, c_symbols, AreUnits, StopsUnits}
+use Rattle.crun_units.proofs.Common.{UnitsRead, GivesUnits, TriesUnits, seen_merge, Write, WantOfMemory, AreLinked, RefusesUnits, reason_of}
+use Rattle.crun_units.proofs.Common.{stop_for, StopsUnit, AreUntouched, files_seen, IsMergeJob, IsMerged, IsUnitsJobOver, StopsWrite}
+use Rattle.crun_units.proofs.Common.{TriesUnit}
 use Rattle.w2c_files.specs.Words.{names_of}
 use Rattle.crun_units.proofs.Passing.{reading_tried, refusal_tried, unit_asked, wanting_tried}
 use Rattle.crun_units.proofs.WriteStops.{asked, merge_refused, reading_stops, refusal_stops}

@@ -1,4 +1,5 @@
-use Rattle.crun_units.proofs.Common.{Ok, Err, sym, refl, ap, inl, inr, passed_so, BreaksOff, WritesFile, unit_of, print_of, WritesUnit, reason_for, done_by, stopped_by}
+use Rattle.crun_units.proofs.Common.{Ok, Err, sym, refl, ap, inl, inr, passed_so, BreaksOff, WritesFile, unit_of, print_of, WritesUnit}
+use Rattle.crun_units.proofs.Common.{reason_for, done_by, stopped_by}
 use Rattle.crun_job.specs.declared.stop.Stop.TheVariants as stop
 use Rattle.crun_units.proofs.output.write_output.Goals as goal
 

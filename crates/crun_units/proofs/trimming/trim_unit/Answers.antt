@@ -1,4 +1,5 @@
-use Rattle.crun_units.proofs.Common.{[], ◌∷◌, Ok, Err, refl, both_passed, passed_so, unit_of, seen_trim, Write, reason_of, files_seen, IsTrimJob, IsTrimmedText, IsUnitsJobOver, PassesUnits, WritesUnit, TriesUnit, done_by, stopped_by}
+use Rattle.crun_units.proofs.Common.{[], ◌∷◌, Ok, Err, refl, both_passed, passed_so, unit_of, seen_trim, Write, reason_of, files_seen}
+use Rattle.crun_units.proofs.Common.{IsTrimJob, IsTrimmedText, IsUnitsJobOver, PassesUnits, WritesUnit, TriesUnit, done_by, stopped_by}
 use Rattle.crun_units.proofs.Passing.{unit_refused, unit_written}
 use Rattle.crun_units.proofs.WriteStops.{output_stops}
 use Rattle.crun_units.proofs.trimming.trim_unit.Goals as goal

@@ -1,4 +1,7 @@
-use Rattle.crun_units.proofs.Common.{◌≡◌, ◌<◌, [], ◌∷◌, map, length, get_or, sym, subst, arith, passed_so, Passes, unit_of, UnitsRead, GivesUnits, TriesUnits, seen_trim, Write, WantOfMemory, RefusesTexts, reason_of, stop_for, AreUnitTexts, AreUntouched, files_seen, IsTrimJob, IsTrimmedText, IsUnitsJobOver, StopsWrite, TriesUnit}
+use Rattle.crun_units.proofs.Common.{◌≡◌, ◌<◌, [], ◌∷◌, map, length, get_or, sym, subst, arith, passed_so, Passes, unit_of, UnitsRead}
+use Rattle.crun_units.proofs.Common.{GivesUnits, TriesUnits, seen_trim, Write, WantOfMemory, RefusesTexts, reason_of, stop_for}
+use Rattle.crun_units.proofs.Common.{AreUnitTexts, AreUntouched, files_seen, IsTrimJob, IsTrimmedText, IsUnitsJobOver, StopsWrite}
+use Rattle.crun_units.proofs.Common.{TriesUnit}
 use Rattle.crun_units.proofs.Passing.{reading_tried, refusal_tried, unit_asked, wanting_tried}
 use Rattle.crun_units.proofs.WriteStops.{asked, one_unit, reading_stops, refusal_stops, trim_refused, trimmed_text}
 use Rattle.crun_units.proofs.trimming.trimmed_unit.Goals as goal

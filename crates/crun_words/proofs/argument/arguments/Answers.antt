@@ -1,4 +1,5 @@
-use Rattle.crun_words.proofs.Common.{◌<◌, length, IfNone, slice_index_or, Option, subst, arith, rules, slice_get-get_or, Value, Void, IsArgument}
+use Rattle.crun_words.proofs.Common.{◌<◌, length, IfNone, slice_index_or, Option, subst, arith, rules, slice_get-get_or, Value, Void}
+use Rattle.crun_words.proofs.Common.{IsArgument}
 use Rattle.crun_words.proofs.ArgumentValues.{no_argument, not_each, one_more}
 use Rattle.crun_words.proofs.argument.arguments.Goals as goal
 

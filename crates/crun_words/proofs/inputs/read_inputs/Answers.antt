@@ -1,4 +1,5 @@
-use Rattle.crun_words.proofs.Common.{◌∙◌, subst, both_passed, passed_so, Told, names_of, StopsCalls, UnitsRead, GivesUnits, TriesCalls, TriesInputs, TriesUnits}
+use Rattle.crun_words.proofs.Common.{◌∙◌, subst, both_passed, passed_so, Told, names_of, StopsCalls, UnitsRead, GivesUnits, TriesCalls}
+use Rattle.crun_words.proofs.Common.{TriesInputs, TriesUnits}
 use Rattle.crun_words.proofs.InputStops.{stops_at_calls, stops_at_unit}
 use Rattle.crun_words.proofs.Passing.{calls_tried, units_tried}
 use Rattle.crun_words.proofs.inputs.read_inputs.Goals as goal

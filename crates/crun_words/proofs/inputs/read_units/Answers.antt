@@ -1,4 +1,5 @@
-use Rattle.crun_words.proofs.Common.{◌≡◌, ◌≤◌, length, slice_get, Some, string_bytes, arith, rules, passed_so, some_in_order, ReadsInOrder, ReadsSome, limited, names_of, NoUnit, UnitTooLong, most_unit_bytes, most_units_bytes, GivesUnits}
+use Rattle.crun_words.proofs.Common.{◌≡◌, ◌≤◌, length, slice_get, Some, string_bytes, arith, rules, passed_so, some_in_order, ReadsInOrder}
+use Rattle.crun_words.proofs.Common.{ReadsSome, limited, names_of, NoUnit, UnitTooLong, most_unit_bytes, most_units_bytes, GivesUnits}
 use Rattle.std.proofs.lemmas.Result.{err_from_is_err_and}
 use Rattle.w2c_files.proofs.Loops.{length-names}
 use Rattle.w2c_files.specs.declared.reading.ReadStop.TheVariants as read

@@ -1,4 +1,5 @@
-use Rattle.crun_words.proofs.Common.{◌≡◌, ℕ, List, Some, None, Err, Option, option_map, option_and_then, sym, ap, ◌∙◌, rules, Row, app_of, found_of, is_simple_and_free, rows_of, texts, rows_read, line_of, line_of_values, seen_line}
+use Rattle.crun_words.proofs.Common.{◌≡◌, ℕ, List, Some, None, Err, Option, option_map, option_and_then, sym, ap, ◌∙◌, rules, Row, app_of}
+use Rattle.crun_words.proofs.Common.{found_of, is_simple_and_free, rows_of, texts, rows_read, line_of, line_of_values, seen_line}
 use Rattle.program_words.specs.declared.no_line.NoLine.TheVariants as no_line
 use Rattle.program_words.proofs.Parses.{same_error, told_of_equal}
 use Rattle.crun_words.specs.Command.{crun, values_in, values_of}

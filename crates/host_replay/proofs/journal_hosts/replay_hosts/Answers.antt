@@ -1,4 +1,5 @@
-use Rattle.host_replay.proofs.Common.{List, [], ◌∷◌, ◌++◌, take, sym, ap, ◌∙◌, subst, map-append, Host, Asked, fits, module_of, modules_of, AreReplays, ReplayHost}
+use Rattle.host_replay.proofs.Common.{List, [], ◌∷◌, ◌++◌, take, sym, ap, ◌∙◌, subst, map-append, Host, Asked, fits, module_of, modules_of}
+use Rattle.host_replay.proofs.Common.{AreReplays, ReplayHost}
 use Rattle.host_replay.proofs.Given.{call_more, fits_its_host, module_more, next_item, test_passed}
 use Rattle.host_replay.proofs.journal_hosts.replay_hosts.Goals as goal
 

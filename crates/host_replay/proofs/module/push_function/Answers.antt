@@ -1,4 +1,5 @@
-use Rattle.host_replay.proofs.Common.{◌≡◌, [], ◌∷◌, ◌++◌, map, length, ap, ◌∙◌, rules, map_push, Host, function_of, module_of, named_function, with_function}
+use Rattle.host_replay.proofs.Common.{◌≡◌, [], ◌∷◌, ◌++◌, map, length, ap, ◌∙◌, rules, map_push, Host, function_of, module_of}
+use Rattle.host_replay.proofs.Common.{named_function, with_function}
 use Rattle.host_replay.proofs.Lasts.{last_is, last_set}
 use Rattle.host_replay.proofs.module.push_function.Goals as goal
 

@@ -1,4 +1,5 @@
-use Rattle.host_replay.proofs.Common.{◌≡◌, ℕ, true, List, [], ◌∷◌, ◌++◌, length, sym, ap, ◌∙◌, subst, arith, Bor, length-map, map_push, texts, AllLack, cut, lacks}
+use Rattle.host_replay.proofs.Common.{◌≡◌, ℕ, true, List, [], ◌∷◌, ◌++◌, length, sym, ap, ◌∙◌, subst, arith, Bor, length-map, map_push}
+use Rattle.host_replay.proofs.Common.{texts, AllLack, cut, lacks}
 use Rattle.host_replay.proofs.Lines.{few_parts, last_of, parts_lack}
 use Rattle.host_replay.proofs.read.read_journal.Goals as goal
 

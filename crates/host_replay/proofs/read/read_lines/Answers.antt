@@ -1,4 +1,5 @@
-use Rattle.host_replay.proofs.Common.{◌≡◌, ◌+◌, [], ◌∷◌, ◌++◌, length, sym, ap, ◌∙◌, subst, rules, length-map, texts, IsRefused, Read, empty, ended, recorded}
+use Rattle.host_replay.proofs.Common.{◌≡◌, ◌+◌, [], ◌∷◌, ◌++◌, length, sym, ap, ◌∙◌, subst, rules, length-map, texts, IsRefused, Read}
+use Rattle.host_replay.proofs.Common.{empty, ended, recorded}
 use Rattle.host_replay.proofs.Lines.{ended_any, part_read, refused_part, rest_read, rest_refused, take_all, with_newlines}
 use Rattle.host_replay.proofs.read.read_lines.Goals as goal
 

@@ -1,7 +1,10 @@
-use Rattle.leb_bytes.proofs.Common.{◌≡◌, ℕ, ◌-◌, ◌*◌, ◌%◌, ◌^◌, ◌<◌, ◌≤◌, Bool, true, false, ℤ, pos, ◌-ℤ◌, ◌≤ℤ◌, ◌<ℤ◌, int_lt, int_le, FitsSigned, sym, subst, arith, pow_mono, w64, to_z, of_z, ints, one_shl, w128, SpellsSigned, InRange}
+use Rattle.leb_bytes.proofs.Common.{◌≡◌, ℕ, ◌-◌, ◌*◌, ◌%◌, ◌^◌, ◌<◌, ◌≤◌, Bool, true, false, ℤ, pos, ◌-ℤ◌, ◌≤ℤ◌, ◌<ℤ◌, int_lt, int_le}
+use Rattle.leb_bytes.proofs.Common.{FitsSigned, sym, subst, arith, pow_mono, w64, to_z, of_z, ints, one_shl, w128, SpellsSigned, InRange}
+use Rattle.leb_bytes.proofs.Common.{true≢false}
 use Rattle.leb_bytes.proofs.Windows.{signed-fits, signed-wrong, sum-below}
 use Rattle.leb_bytes.proofs.window.front_signed.Goals as goal
-use Rattle.leb_bytes.proofs.window.front_signed.Goals.{then-number-half-via-then-number-half, then-number-half-via-else-number-half+then-number-half-2}
+use Rattle.leb_bytes.proofs.window.front_signed.Goals.{then-number-half-via-then-number-half}
+use Rattle.leb_bytes.proofs.window.front_signed.Goals.{then-number-half-via-else-number-half+then-number-half-2}
 
 -- the two tests, at half the width's power
 below_half : (n : ℤ) (h m : ℕ) (t : Bool) → m ≡ h → h ≤ 2 ^ 63 → (pos 0 -ℤ pos h) ≤ℤ n → n <ℤ pos h
@@ -18,9 +21,6 @@ half width most = one_shl (width - 1) 128 (omega arith)
 small : (width : ℕ) → width ≤ 64 → 2 ^ (width - 1) ≤ 2 ^ 63
 small width most = pow_mono {i = width - 1} {j = 63} (omega arith)
 
-true_false : true ≡ false → ⊥
-true_false e = cc
-
 pub signed-number-requires-clause-fits : goal.signed-number-requires-clause-fits
 signed-number-requires-clause-fits c =
     let a = c.in_ok-sum.ensures in
@@ -32,9 +32,9 @@ returns-then-number-half c =
     let n = c.signed-number.result in
     let w = c.args.width in
     let out : InRange w n → ⊥ = λ fits. elim c.then-number-half.branch [
-      | then-number-half-via-then-number-half v ↦ true_false (below_half n (2 ^ (w - 1)) _ true (half w c.requires.most)
+      | then-number-half-via-then-number-half v ↦ true≢false (below_half n (2 ^ (w - 1)) _ true (half w c.requires.most)
           (small w c.requires.most) fits.low fits.high v.if-number-half.true)
-      | then-number-half-via-else-number-half+then-number-half-2 v ↦ true_false (from_half n (2 ^ (w - 1)) _ true (half w c.requires.most)
+      | then-number-half-via-else-number-half+then-number-half-2 v ↦ true≢false (from_half n (2 ^ (w - 1)) _ true (half w c.requires.most)
           (small w c.requires.most) fits.low fits.high v.if-number-half-2.true)
     ] in
     record {

@@ -1,4 +1,5 @@
-use Rattle.leb_bytes.proofs.Common.{◌≡◌, suc, ◌+◌, ◌<◌, ◌≤◌, length, get_or, take, subst, arith, length-take-le, take-length, All-more, IsNumberRun, GoOn}
+use Rattle.leb_bytes.proofs.Common.{◌≡◌, suc, ◌+◌, ◌<◌, ◌≤◌, length, get_or, take, subst, arith, length-take-le, take-length, All-more}
+use Rattle.leb_bytes.proofs.Common.{IsNumberRun, GoOn}
 use Rattle.leb_bytes.proofs.Runs.{IsNumberRun-from_go_on}
 use Rattle.leb_bytes.proofs.Shifts.{sum-more, top_bit}
 use Rattle.leb_bytes.proofs.window.run.Goals as goal

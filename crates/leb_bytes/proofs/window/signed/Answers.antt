@@ -1,4 +1,5 @@
-use Rattle.leb_bytes.proofs.Common.{◌≡◌, ℕ, ◌-◌, ◌*◌, ◌^◌, ◌<◌, ◌≤◌, pos, ◌-ℤ◌, sym, ◌∙◌, inl, inr, arith, pow_mono, to_z, of_z, cases_lt, ints, one_shl, w128}
+use Rattle.leb_bytes.proofs.Common.{◌≡◌, ℕ, ◌-◌, ◌*◌, ◌^◌, ◌<◌, ◌≤◌, pos, ◌-ℤ◌, sym, ◌∙◌, inl, inr, arith, pow_mono, to_z, of_z, cases_lt}
+use Rattle.leb_bytes.proofs.Common.{ints, one_shl, w128}
 use Rattle.leb_bytes.proofs.Fits.{below-div_zero, signed_sum-high}
 use Rattle.leb_bytes.proofs.window.signed.Goals as goal
 

@@ -1,4 +1,5 @@
-use Rattle.leb_bytes.proofs.Common.{◌≡◌, suc, ◌+◌, ◌-◌, ◌*◌, ◌/◌, ◌^◌, ◌<◌, take, set, ◌∙◌, subst, arith, length-set, drop-set-lt, shr_below, IsRunOf}
+use Rattle.leb_bytes.proofs.Common.{◌≡◌, suc, ◌+◌, ◌-◌, ◌*◌, ◌/◌, ◌^◌, ◌<◌, take, set, ◌∙◌, subst, arith, length-set, drop-set-lt}
+use Rattle.leb_bytes.proofs.Common.{shr_below, IsRunOf}
 use Rattle.leb_bytes.proofs.Written.{Holds, Holds-last, Holds-more}
 use Rattle.leb_bytes.proofs.write.put.Goals as goal
 

@@ -1,4 +1,5 @@
-use Rattle.lin_mem.proofs.Common.{◌≡◌, ℕ, ◌<◌, ◌++◌, length, drop, replicate, Some, None, All, Option, sym, ap, ◌∙◌, subst, arith, IsFull, somes}
+use Rattle.lin_mem.proofs.Common.{◌≡◌, ℕ, ◌<◌, ◌++◌, length, drop, replicate, Some, None, All, Option, sym, ap, ◌∙◌, subst, arith, IsFull}
+use Rattle.lin_mem.proofs.Common.{somes}
 use Rattle.lin_mem.proofs.Full.{All-zeros, begun-all, begun-more, full-same, length-same}
 use Rattle.lin_mem.proofs.page.zeroed_block.Goals as goal
 

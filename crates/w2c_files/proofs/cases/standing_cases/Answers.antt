@@ -1,4 +1,6 @@
-use Rattle.w2c_files.proofs.Common.{◌≡◌, ℕ, List, [], ◌∷◌, ◌++◌, Some, None, codes, sym, refl, ap, ◌∙◌, inl, inr, arith, get, insert, get_here, get_other, Contents, Name, Told, IsBegun, IsOneOf, file_names, written}
+use Rattle.w2c_files.proofs.Common.{◌≡◌, ℕ, List, [], ◌∷◌, ◌++◌, Some, None, codes, sym, refl, ap, ◌∙◌, inl, inr, arith, get, insert}
+use Rattle.w2c_files.proofs.Common.{get_here, get_other, Contents, Name, IsBegun, IsOneOf, file_names, written}
+use Rattle.std.proofs.lemmas.Option.{none-some, same_Some}
 use Rattle.w2c_files.specs.Samples.{two_files}
 use Rattle.w2c_files.proofs.Standing.{is_one}
 use Rattle.w2c_files.proofs.cases.standing_cases.Goals as goal
@@ -40,14 +42,8 @@ third_of_two (c ∷ done) rest a b file e =
 
 -- ---- what files hold
 
-none_is_some : {A : Type 0} (a : A) → None ≡ Some a → ⊥
-none_is_some a e = absurd cc
-
 same_bytes : (a b : List ℕ) → Some a ≡ Some b → a ≡ b
 same_bytes a b e = cc
-
-same_contents : (m n : Contents) → ◌≡◌ {A = Told} (Some m) (Some n) → m ≡ n
-same_contents m n e = cc
 
 names_differ : codes "a" ≡ codes "b" → ⊥
 names_differ e =
@@ -67,10 +63,10 @@ none_of_two (inr (inr none)) = none
 other_begin : (m : Contents) (text : List ℕ) → get m (codes "a") ≡ None → 1 ∷ 2 ∷ [] ≡ text
     → IsBegun (Some m) (Some (insert m (codes "a") (2 ∷ []))) (codes "a") text → ⊥
 other_begin m text none text_is (inl e) =
-    let same : insert m (codes "a") (2 ∷ []) ≡ m = same_contents _ _ e in
-    none_is_some (2 ∷ []) (sym none ∙ (sym (ap (λ (n : Contents). get n (codes "a")) same) ∙ get_here m (codes "a") (2 ∷ [])))
+    let same : insert m (codes "a") (2 ∷ []) ≡ m = same_Some _ _ e in
+    none-some (2 ∷ []) (sym none ∙ (sym (ap (λ (n : Contents). get n (codes "a")) same) ∙ get_here m (codes "a") (2 ∷ [])))
 other_begin m text none text_is (inr (part, (more, whole), e)) =
-    let same : insert m (codes "a") (2 ∷ []) ≡ insert m (codes "a") part = same_contents _ _ e in
+    let same : insert m (codes "a") (2 ∷ []) ≡ insert m (codes "a") part = same_Some _ _ e in
     let held : Some (2 ∷ []) ≡ Some part =
     sym (get_here m (codes "a") (2 ∷ [])) ∙ (ap (λ (n : Contents). get n (codes "a")) same ∙ get_here m (codes "a") part) in
     let part_is : 2 ∷ [] ≡ part = same_bytes _ _ held in
@@ -94,10 +90,10 @@ first_file (file ∷ files) = file
 held_first : (m new : Contents) (file : Name × List ℕ) (text : List ℕ) → (codes "a", 1 ∷ 2 ∷ []) ≡ file
     → IsBegun (written (Some m) (file ∷ [])) (Some new) (codes "b") text → get new (codes "a") ≡ Some (1 ∷ 2 ∷ [])
 held_first m new file text is (inl e) =
-    ap (λ (n : Contents). get n (codes "a")) (same_contents _ _ e)
+    ap (λ (n : Contents). get n (codes "a")) (same_Some _ _ e)
     ∙ (ap (λ (f : Name × List ℕ). get (insert m f.0 f.1) (codes "a")) (sym is) ∙ get_here m (codes "a") (1 ∷ 2 ∷ []))
 held_first m new file text is (inr (part, whole, e)) =
-    ap (λ (n : Contents). get n (codes "a")) (same_contents _ _ e)
+    ap (λ (n : Contents). get n (codes "a")) (same_Some _ _ e)
     ∙ (get_other (insert m file.0 file.1) (codes "b") part (codes "a") names_differ
     ∙ (ap (λ (f : Name × List ℕ). get (insert m f.0 f.1) (codes "a")) (sym is) ∙ get_here m (codes "a") (1 ∷ 2 ∷ [])))
 
@@ -147,4 +143,4 @@ returns-clause-other_bytes c m none s = other_bytes m s.done s.rest s.text none 
 pub returns-clause-second_alone : goal.returns-clause-second_alone
 returns-clause-second_alone c m none s =
     let stands = first_held m (insert m (codes "b") (3 ∷ [])) s.done s.rest s.text s.split s.begun in
-    none_is_some (1 ∷ 2 ∷ []) (sym none ∙ (sym (get_other m (codes "b") (3 ∷ []) (codes "a") names_differ) ∙ stands))
+    none-some (1 ∷ 2 ∷ []) (sym none ∙ (sym (get_other m (codes "b") (3 ∷ []) (codes "a") names_differ) ∙ stands))

@@ -1,4 +1,5 @@
-use Rattle.w2c_files.proofs.Common.{◌+◌, [], ◌∷◌, ◌++◌, take, drop, sym, refl, subst, arith, take-append-drop, rules, Passes, ReadsSome, StopsFile, names_of}
+use Rattle.w2c_files.proofs.Common.{◌+◌, [], ◌∷◌, ◌++◌, take, drop, sym, refl, subst, arith, take-append-drop, rules, Passes, ReadsSome}
+use Rattle.w2c_files.proofs.Common.{StopsFile, names_of}
 use Rattle.w2c_files.proofs.Loops.{fit_more, length-names, one_more_held, stops_at, total_more}
 use Rattle.w2c_files.proofs.ReadPassed.{one_more_read, next_stops, memory_stops, all_passed, if_memory}
 use Rattle.w2c_files.proofs.reading.read_files.Goals as goal

@@ -1,4 +1,5 @@
-use Rattle.w2c_files.proofs.Common.{◌≡◌, ℕ, List, [], ◌++◌, sym, refl, ap, ◌∙◌, subst, append_assoc, append-nil, take-append-drop, rules, begun_in_vain, Passes}
+use Rattle.w2c_files.proofs.Common.{◌≡◌, ℕ, List, [], ◌++◌, sym, refl, ap, ◌∙◌, subst, append_assoc, append-nil, take-append-drop, rules}
+use Rattle.w2c_files.proofs.Common.{begun_in_vain, Passes}
 use Rattle.std.proofs.lemmas.Result.{err_from_is_err_and}
 use Rattle.w2c_files.proofs.FilePassed.{Began, began, began_more, all_written, not_finished, given_up, nothing_left}
 use Rattle.w2c_files.proofs.Standing.{part_begun, put_more}

@@ -1,4 +1,5 @@
-use Rattle.w2c_sim.proofs.Common.{◌≡◌, OnOk, OnErr, Ok, Err, Result, ◌∙◌, subst, inr, err_from_is_err_and, memory_wanted, vain_passed, whole_passed, AppendsPart, appending, header_text_of}
+use Rattle.w2c_sim.proofs.Common.{◌≡◌, OnOk, OnErr, Ok, Err, Result, ◌∙◌, subst, inr, err_from_is_err_and, memory_wanted, vain_passed}
+use Rattle.w2c_sim.proofs.Common.{whole_passed, AppendsPart, appending, header_text_of}
 use Rattle.w2c_sim.proofs.writing.write_header.Goals as goal
 
 pub returns-clause-written : goal.returns-clause-written

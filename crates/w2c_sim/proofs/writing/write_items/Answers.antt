@@ -1,4 +1,7 @@
-use Rattle.w2c_sim.proofs.Common.{◌≡◌, IsSome, Ok, Err, Option, Result, sym, ap, ◌∙◌, subst, inr, arith, err_from_is_err_and, vain_passed, whole_passed, AppendsPart, appending, item_of, all_written, begun, fails_at_include, fails_between, fails_in, is_contained, one_more, put_all, put_include, put_more, stops_at_include, stops_between, stops_in, print_item_of, left_of}
+use Rattle.w2c_sim.proofs.Common.{◌≡◌, IsSome, Ok, Err, Option, Result, sym, ap, ◌∙◌, subst, inr, arith, err_from_is_err_and, vain_passed}
+use Rattle.w2c_sim.proofs.Common.{whole_passed, AppendsPart, appending, item_of, all_written, begun, fails_at_include, fails_between}
+use Rattle.w2c_sim.proofs.Common.{fails_in, is_contained, one_more, put_all, put_include, put_more, stops_at_include, stops_between}
+use Rattle.w2c_sim.proofs.Common.{stops_in, print_item_of, left_of}
 use Rattle.w2c_io.specs.Contents.{Name}
 use Rattle.w2c_io.specs.declared.answers.WriteAnswer.{WriteAnswer}
 use Rattle.w2c_io.proofs.Causes.{cause_behind, memory_cause, done_cause, named_behind}

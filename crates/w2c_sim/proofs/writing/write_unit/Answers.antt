@@ -1,4 +1,5 @@
-use Rattle.w2c_sim.proofs.Common.{◌≡◌, IfErr, OnOk, OnErr, sym, subst, err_from_is_err_and, memory_wanted, AppendsPart, appending, IsFormed, IsValid, Formed, print_of, text_of}
+use Rattle.w2c_sim.proofs.Common.{◌≡◌, IfErr, OnOk, OnErr, sym, subst, err_from_is_err_and, memory_wanted, AppendsPart, appending}
+use Rattle.w2c_sim.proofs.Common.{WithinLimits, IsValid, Formed, print_of, text_of}
 use Rattle.w2c_io.specs.Passed.{Passes, PutsText, PutsPart}
 use Rattle.wasm_spelling.proofs.ByteLists.{slice_bytes}
 use Rattle.w2c_sim.proofs.Accepting.{named_is_accepted}
@@ -9,7 +10,7 @@ pub write_items-requires-clause-formed : goal.write_items-requires-clause-formed
 write_items-requires-clause-formed g c =
     subst Formed (sym c.in_ok-items.ensures.left) (unit_is_formed (record { name = c.args.name.now; tree = c.args.m.now })
     (named_is_accepted c.args.name.now c.args.m.now
-    (subst IsValid c.module.ensures.same c.module.ensures.valid) (subst IsFormed c.module.ensures.same c.module.ensures.formed)
+    (subst IsValid c.module.ensures.same c.module.ensures.valid) (subst WithinLimits c.module.ensures.same c.module.ensures.within)
     c.requires.named c.requires.short (slice_bytes c.args.name.now c.type_inv.name)))
 
 pub returns-clause-written : goal.returns-clause-written

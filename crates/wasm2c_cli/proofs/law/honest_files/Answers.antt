@@ -1,5 +1,6 @@
 use Rattle.wasm2c_cli.proofs.Common.{refl, Says}
-use Rattle.wasm2c_cli.proofs.HonestTop.{honest_answered, honest_done, honest_missing, honest_refused, honest_stands, honest_untouched, honest_write_fault}
+use Rattle.wasm2c_cli.proofs.HonestTop.{honest_answered, honest_done, honest_missing, honest_refused, honest_stands, honest_untouched}
+use Rattle.wasm2c_cli.proofs.HonestTop.{honest_write_fault}
 use Rattle.wasm2c_cli.proofs.HonestUnits.{honest_linked, honest_units}
 use Rattle.wasm2c_cli.proofs.law.honest_files.Goals as goal
 

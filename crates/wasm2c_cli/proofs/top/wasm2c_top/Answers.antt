@@ -1,6 +1,8 @@
 use Rattle.wasm2c_cli.proofs.Common.{passed_so, Says, texts, PassesWork, TriesWork, PassesFor, PutsLinkedUnits}
 use Rattle.wasm2c_cli.proofs.Passed.{distinct_outputs}
-use Rattle.wasm2c_cli.proofs.TopLaws.{are_linked, finish_complete, finish_done, finish_no_stop, finish_part, finish_silent, finish_stands, finish_summary, finish_units, stop_complete, stop_current, stop_not, stop_part, stop_refused, stop_stands, stop_unread, stop_untouched, stop_unwritten}
+use Rattle.wasm2c_cli.proofs.TopLaws.{are_linked, finish_complete, finish_done, finish_no_stop, finish_part, finish_silent, finish_stands}
+use Rattle.wasm2c_cli.proofs.TopLaws.{finish_summary, finish_units, stop_complete, stop_current, stop_not, stop_part, stop_refused}
+use Rattle.wasm2c_cli.proofs.TopLaws.{stop_stands, stop_unread, stop_untouched, stop_unwritten}
 use Rattle.wasm2c_cli.proofs.PassingTop.{finish_passes, puts_linked, stop_passes}
 use Rattle.wasm2c_cli.proofs.top.wasm2c_top.Goals as goal
 

@@ -1,4 +1,5 @@
-use Rattle.wasm2c_cli.proofs.Common.{◌≡◌, length, IfErr, OnOk, ap, subst, arith, rules, Passes, WritesFiles, written, names_of, files_of, AreTaken, StopsAccepting, StopsWriting, seen_targets, EndsWriting}
+use Rattle.wasm2c_cli.proofs.Common.{◌≡◌, length, IfErr, OnOk, ap, subst, arith, rules, Passes, WritesFiles, written, names_of, files_of}
+use Rattle.wasm2c_cli.proofs.Common.{AreTaken, StopsAccepting, StopsWriting, seen_targets, EndsWriting}
 use Rattle.wasm2c_cli.proofs.LineStops.{all_kept}
 use Rattle.wasm2c_cli.proofs.Taken.{length-taken}
 use Rattle.wasm2c_cli.proofs.Translated.{accepting_stops, reading_stopped, translation_finished, writing_stopped}

@@ -1,4 +1,5 @@
-use Rattle.wasm2c_cli.proofs.Common.{◌≡◌, IfErr, OnOk, subst, Passes, WritesFiles, written, seen_generation, module_files, IsNamed, IsTakenFile, StopsWriting, seen_target, EndsWriting, target}
+use Rattle.wasm2c_cli.proofs.Common.{◌≡◌, IfErr, OnOk, subst, Passes, WritesFiles, written, seen_generation, module_files, IsNamed}
+use Rattle.wasm2c_cli.proofs.Common.{IsTakenFile, StopsWriting, seen_target, EndsWriting, target}
 use Rattle.wasm2c_cli.specs.Plan as plan
 use Rattle.wasm2c_cli.proofs.LineStops.{all_generated, all_kept, all_stopped}
 use Rattle.wasm2c_cli.proofs.PassingLines.{generation_passed, generation_tried}

@@ -1,5 +1,6 @@
 use Rattle.wasm2c_cli.proofs.Common.{◌≡◌, ◌<◌, length, arith, rules, HasName, seen_target, seen_targets}
-use Rattle.wasm2c_cli.proofs.ModuleFiles.{length-targets, module_at, named_more, one_more, stops_all, target_at, target_has, ends_all, one_more_put}
+use Rattle.wasm2c_cli.proofs.ModuleFiles.{length-targets, module_at, named_more, one_more, stops_all, target_at, target_has, ends_all}
+use Rattle.wasm2c_cli.proofs.ModuleFiles.{one_more_put}
 use Rattle.wasm2c_cli.proofs.writing.write_modules.Goals as goal
 
 pub write_module-requires : goal.write_module-requires

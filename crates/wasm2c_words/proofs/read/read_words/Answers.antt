@@ -1,4 +1,5 @@
-use Rattle.wasm2c_words.proofs.Common.{◌≡◌, ℕ, List, Some, None, Err, Option, option_map, option_and_then, sym, ap, ◌∙◌, rules, texts, line_of, line_of_values}
+use Rattle.wasm2c_words.proofs.Common.{◌≡◌, ℕ, List, Some, None, Err, Option, option_map, option_and_then, sym, ap, ◌∙◌, rules, texts}
+use Rattle.wasm2c_words.proofs.Common.{line_of, line_of_values}
 use Rattle.clap.specs.Words.{Row, app_of, found_of, is_simple_and_free, rows_of}
 use Rattle.program_words.specs.declared.no_line.NoLine.TheVariants as no_line
 use Rattle.program_words.specs.Command.{rows_read}

@@ -1,6 +1,8 @@
-use Rattle.wasm_binary.proofs.Common.{◌-◌, Ok, sym, ap, ◌∙◌, subst, arith, err_from_is_err_and, Code, instr_tree, code_at, as_item, as_one, ender_of, head_of_opener, item_of, Gives, at}
+use Rattle.wasm_binary.proofs.Common.{◌-◌, Ok, sym, ap, ◌∙◌, subst, arith, err_from_is_err_and, Code, instr_tree, code_at, as_item, as_one}
+use Rattle.wasm_binary.proofs.Common.{ender_of, head_of_opener, item_of, Gives, at}
 use Rattle.wasm_binary.specs.declared.code.Item.{Item}
-use Rattle.wasm_binary.proofs.Items.{Ahead, at_start, goes_on, stops, is_done, shorter, byte_fails, end_item, else_item, no_room, block_item, plain_item, opens_as, opens_none}
+use Rattle.wasm_binary.proofs.Items.{Ahead, at_start, goes_on, stops, is_done, shorter, byte_fails, end_item, else_item, no_room}
+use Rattle.wasm_binary.proofs.Items.{block_item, plain_item, opens_as, opens_none}
 use Rattle.wasm_binary.proofs.Blocks.{opened_is}
 use Rattle.wasm_binary.proofs.code.+instructions.Goals as goal
 

@@ -1,4 +1,6 @@
-use Rattle.wasm_binary.proofs.Common.{sym, refl, ap, ◌∙◌, subst, rules, form_in, a_sub_opcode, a_type, a_zero, an_i32, an_i64, labels, row_of, BrTable, CallIndirect, I32Const, I64Const, MemoryGrow, MemorySize, kind_tree, as_kind, Fails, at}
+use Rattle.wasm_binary.proofs.Common.{sym, refl, ap, ◌∙◌, subst, rules, form_in, a_sub_opcode, a_type, a_zero, an_i32, an_i64, labels}
+use Rattle.wasm_binary.proofs.Common.{row_of, BrTable, CallIndirect, I32Const, I64Const, MemoryGrow, MemorySize, kind_tree, as_kind, Fails}
+use Rattle.wasm_binary.proofs.Common.{at}
 use Rattle.wasm_spelling.specs.Steps.{reads}
 use Rattle.wasm_spelling.specs.Reading.{form_at}
 use Rattle.wasm_binary.proofs.Instructions.{by_opcode, by_op, plain_is}

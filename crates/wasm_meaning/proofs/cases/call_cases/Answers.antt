@@ -1,4 +1,6 @@
-use Rattle.wasm_meaning.proofs.Common.{◌≡◌, ℕ, List, [], ◌∷◌, Some, None, codes, Option, option_map, refl, ap, ◌∙◌, arith, if_found, params_digits, types_of, FuncType, ValType, Value, FuncAddress, HostFunc, LinkedSet, ModuleFunc, func_type, Fits, ListedCall, called_func, alone, call_of, exports_table, host_ticks, indirect_calls}
+use Rattle.wasm_meaning.proofs.Common.{◌≡◌, ℕ, List, [], ◌∷◌, Some, None, codes, Option, option_map, refl, ap, ◌∙◌, arith, if_found}
+use Rattle.wasm_meaning.proofs.Common.{params_digits, types_of, FuncType, ValType, Value, FuncAddress, HostFunc, LinkedSet, ModuleFunc}
+use Rattle.wasm_meaning.proofs.Common.{func_type, Fits, ListedCall, called_func, alone, call_of, exports_table, host_ticks, indirect_calls}
 use Rattle.w2c_base.specs.declared.value.ValType.TheVariants as type
 use Rattle.w2c_base.specs.declared.value.Value.TheVariants.{I32, I64}
 use Rattle.wasm_meaning.proofs.cases.call_cases.Goals as goal

@@ -1,7 +1,11 @@
-use Rattle.wasm_meaning.proofs.Common.{◌≡◌, ℕ, zero, suc, ◌+◌, ◌<◌, ◌≤◌, true, false, ◌≢◌, List, [], ◌∷◌, ◌++◌, map, length, get_or, Some, None, codes, bytes_eq, sym, refl, ap, ◌∙◌, subst, arith, AllByRecursion, range_with_len, AreDistinct, Host, FuncType, I32, I64, HostFunc, IsLinked, LinkedSet, ModuleFunc, NamedModule, Resolves, module_at, exports_table, host_ticks, imports_func, imports_memory, imports_table}
+use Rattle.wasm_meaning.proofs.Common.{◌≡◌, ℕ, zero, suc, ◌+◌, ◌<◌, ◌≤◌, true, false, ◌≢◌, List, [], ◌∷◌, ◌++◌, map, length, get_or, Some}
+use Rattle.wasm_meaning.proofs.Common.{None, codes, bytes_eq, sym, refl, ap, ◌∙◌, subst, arith, AllByRecursion, range_with_len, AreDistinct}
+use Rattle.wasm_meaning.proofs.Common.{Host, FuncType, I32, I64, HostFunc, IsLinked, LinkedSet, ModuleFunc, NamedModule, Resolves}
+use Rattle.wasm_meaning.proofs.Common.{module_at, exports_table, host_ticks, imports_func, imports_memory, imports_table}
 use Rattle.std.proofs.lemmas.Slice.Eq.{bytes_eq-Decides}
 use Rattle.wasm_tree.specs.declared.tree.Module.{Module}
-use Rattle.wasm_meaning.specs.Samples.{behind_another_host, both, empty_modules, names_up_to, env, no_module, hands_on_tick, func_type, exports_global, imports_global, exports_memory}
+use Rattle.wasm_meaning.specs.Samples.{behind_another_host, both, empty_modules, names_up_to, env, no_module, hands_on_tick, func_type}
+use Rattle.wasm_meaning.specs.Samples.{exports_global, imports_global, exports_memory}
 use Rattle.wasm_meaning.proofs.cases.linking_cases.Goals as goal
 
 some_same : (m n : Module) → Some m ≡ Some n → m ≡ n

@@ -1,4 +1,8 @@
-use Rattle.wasm_meaning.proofs.Common.{◌≡◌, ℕ, ◌+◌, Bool, true, false, List, [], ◌∷◌, if◌then◌else◌, Some, None, codes, Option, sym, refl, ap, ◌∙◌, arith, if_found, sig_number_of, bits, FuncType, ValType, I32, I64, ImportKind, ImportFunc, ImportGlobal, External, FuncAddress, GlobalAddress, IsFunc, IsGlobal, IsLinked, IsMemory, IsTable, LinkedSet, as_func, as_global, func_type, global_type, import_at, module_at, type_at, imports_func, imports_memory, imports_one_global, imports_table}
+use Rattle.wasm_meaning.proofs.Common.{◌≡◌, ℕ, ◌+◌, Bool, true, false, List, [], ◌∷◌, if◌then◌else◌, Some, None, codes, Option, sym, refl}
+use Rattle.wasm_meaning.proofs.Common.{ap, ◌∙◌, arith, if_found, sig_number_of, bits, FuncType, ValType, I32, I64, ImportKind, ImportFunc}
+use Rattle.wasm_meaning.proofs.Common.{ImportGlobal, External, FuncAddress, GlobalAddress, IsFunc, IsGlobal, IsLinked, IsMemory, IsTable}
+use Rattle.wasm_meaning.proofs.Common.{LinkedSet, as_func, as_global, func_type, global_type, import_at, module_at, type_at, imports_func}
+use Rattle.wasm_meaning.proofs.Common.{imports_memory, imports_one_global, imports_table}
 use Rattle.wasm_tree.specs.declared.entries.TypeEntry.{TypeEntry}
 use Rattle.wasm_meaning.specs.Samples as sample
 use Rattle.wasm_meaning.proofs.cases.unlinked_import_cases.Goals as goal

@@ -1,4 +1,4 @@
-use Rattle.wasm_set.proofs.Unequal.{unequal}
+use Rattle.w2c_base.proofs.Types.{unequal}
 use Rattle.wasm_set.proofs.types.same_types.Goals as goal
 
 pub returns-then-left-right : goal.returns-then-left-right

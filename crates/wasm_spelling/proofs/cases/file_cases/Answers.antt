@@ -3,7 +3,9 @@ use Rattle.leb_bytes.specs.Computed.{u32_of}
 use Rattle.wasm_spelling.specs.Steps.{number_at, checked, reads}
 use Rattle.wasm_spelling.specs.Table.{row, after}
 use Rattle.wasm_spelling.specs.Samples.{head, padded, announces_none, copying, copies}
-use Rattle.wasm_spelling.specs.Reading.{no_module, file_at, module_at, magic_at, version_at, exactly_at, sections_at, part_at, content_at, window_at, times_at, type_at, mutability_at, form_at, item_at, items_at, expression_at, data_count_entry_at, global_entry_at}
+use Rattle.wasm_spelling.specs.Reading.{no_module, file_at, module_at, magic_at, version_at, exactly_at, sections_at, part_at, content_at}
+use Rattle.wasm_spelling.specs.Reading.{window_at, times_at, type_at, mutability_at, form_at, item_at, items_at, expression_at}
+use Rattle.wasm_spelling.specs.Reading.{data_count_entry_at, global_entry_at}
 use Rattle.wasm_spelling.proofs.Whole.{file_takes}
 use Rattle.wasm_spelling.proofs.cases.file_cases.Goals as goal
 

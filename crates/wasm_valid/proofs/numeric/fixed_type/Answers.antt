@@ -1,7 +1,7 @@
+use Rattle.wasm_typing.proofs.TableTypes.{index_typing}
 use Rattle.wasm_valid.proofs.Common.{sym, ap, ◌∙◌, kind_tree, needs_of, table_type}
 use Rattle.wasm_tree.specs.declared.operators.Parts.TheVariants as parts
 use Rattle.wasm_valid.proofs.ByParts.{by_parts, index_needs_nothing, numeric_needs_nothing}
-use Rattle.wasm_valid.proofs.TableTypes.{index_typing}
 use Rattle.wasm_valid.proofs.numeric.fixed_type.Goals as goal
 
 pub returns-in-Simple : goal.returns-in-Simple

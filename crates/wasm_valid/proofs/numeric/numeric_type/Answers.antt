@@ -1,5 +1,5 @@
 use Rattle.std.proofs.Common.{sym}
-use Rattle.wasm_valid.proofs.TableTypes.{compare_typing, unary_typing, binary_typing}
+use Rattle.wasm_typing.proofs.TableTypes.{compare_typing, unary_typing, binary_typing}
 use Rattle.wasm_valid.proofs.numeric.numeric_type.Goals as goal
 
 pub returns-in-Compare : goal.returns-in-Compare

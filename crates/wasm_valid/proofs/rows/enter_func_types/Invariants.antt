@@ -1,5 +1,5 @@
+use Rattle.wasm_typing.specs.declared.fault.ValidCause.TheVariants as causes
 use Rattle.wasm_valid.proofs.Common.{◌≡◌, drop, is_none, flat_map, type_in, entered, fault_if}
-use Rattle.wasm_valid.specs.declared.fault.ValidCause.TheVariants as causes
 use Rattle.wasm_valid.proofs.rows.enter_func_types.Given as goal
 
 abbrev pub invariant-loop-func : goal.invariant-loop-func

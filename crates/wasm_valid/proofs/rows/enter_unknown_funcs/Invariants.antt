@@ -1,5 +1,5 @@
+use Rattle.wasm_typing.specs.declared.fault.ValidCause.TheVariants as causes
 use Rattle.wasm_valid.proofs.Common.{◌≡◌, drop, flat_map, entered, fault_if, is_out}
-use Rattle.wasm_valid.specs.declared.fault.ValidCause.TheVariants as causes
 use Rattle.wasm_valid.proofs.rows.enter_unknown_funcs.Given as goal
 
 abbrev pub invariant-loop-func : goal.invariant-loop-func

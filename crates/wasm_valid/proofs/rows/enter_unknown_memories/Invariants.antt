@@ -1,5 +1,5 @@
+use Rattle.wasm_typing.specs.declared.fault.ValidCause.TheVariants as causes
 use Rattle.wasm_valid.proofs.Common.{◌≡◌, drop, flat_map, memory_space, entered, fault_if, is_no_first}
-use Rattle.wasm_valid.specs.declared.fault.ValidCause.TheVariants as causes
 use Rattle.wasm_valid.proofs.rows.enter_unknown_memories.Given as goal
 
 abbrev pub invariant-loop-segment : goal.invariant-loop-segment

@@ -1,4 +1,5 @@
-use Rattle.wasm_valid.proofs.Common.{Option, sym, ap, ◌∙◌, subst, entered, EntersBodies, module_faults, Verdict, bodies_of, outcome_of, Fault}
+use Rattle.wasm_valid.proofs.Common.{Option, sym, ap, ◌∙◌, subst, entered, EntersBodies, module_faults, Verdict, bodies_of, outcome_of}
+use Rattle.wasm_valid.proofs.Common.{Fault}
 use Rattle.wasm_valid.proofs.EnteredBodies.{verdict_found}
 use Rattle.wasm_valid.proofs.valid.refuse_first.Goals as goal
 

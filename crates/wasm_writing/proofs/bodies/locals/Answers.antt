@@ -2,7 +2,8 @@ use Rattle.wasm_writing.proofs.Common.{get_or, arith, read_again, Run}
 use Rattle.w2c_base.specs.declared.value.ValType.TheVariants.{I32}
 use Rattle.wasm_writing.proofs.BodyLemmas.{locals_more, runs_more, runs_refused}
 use Rattle.wasm_writing.proofs.bodies.locals.Goals as goal
-use Rattle.wasm_writing.proofs.bodies.locals.Goals.{then-run-locals-via-then-run-locals, then-run-locals-via-else-run-locals+then-run-before}
+use Rattle.wasm_writing.proofs.bodies.locals.Goals.{then-run-locals-via-then-run-locals}
+use Rattle.wasm_writing.proofs.bodies.locals.Goals.{then-run-locals-via-else-run-locals+then-run-before}
 
 none : Run
 none = record { count = 0; ty = I32 }

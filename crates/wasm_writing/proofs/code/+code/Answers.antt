@@ -2,7 +2,8 @@ use Rattle.wasm_writing.proofs.Common.{Option, sym, ap, ◌∙◌, subst, kind_t
 use Rattle.wasm_tree.specs.declared.code.Kind.{Kind as RustKind}
 use Rattle.wasm_tree.specs.declared.code.Kind.TheVariants as kind
 use Rattle.wasm_tree.specs.declared.code.ElsePart.{ElsePart}
-use Rattle.wasm_writing.proofs.Codes.{instrs_more, puts_access, puts_block, puts_branches, puts_index, puts_no_room, puts_numeric, puts_simple}
+use Rattle.wasm_writing.proofs.Codes.{instrs_more, puts_access, puts_block, puts_branches, puts_index, puts_no_room, puts_numeric}
+use Rattle.wasm_writing.proofs.Codes.{puts_simple}
 use Rattle.wasm_writing.proofs.code.+code.Goals as goal
 
 pub block-returns-then-room-eq0 : goal.block-returns-then-room-eq0

@@ -1,4 +1,5 @@
-use Rattle.wasm_writing.proofs.Common.{◌≡◌, ℕ, ◌≤◌, List, length, get_or, take, ap, ◌∙◌, subst, arith, read_again, each, Puts, part_of, filled}
+use Rattle.wasm_writing.proofs.Common.{◌≡◌, ℕ, ◌≤◌, List, length, get_or, take, ap, ◌∙◌, subst, arith, read_again, each, Puts, part_of}
+use Rattle.wasm_writing.proofs.Common.{filled}
 use Rattle.std.proofs.Math.Seq.{take-length}
 use Rattle.wasm_writing.specs.declared.sections.Part.TheVariants.{Types}
 use Rattle.wasm_writing.specs.declared.sections.Part.{Part}

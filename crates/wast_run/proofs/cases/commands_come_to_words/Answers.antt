@@ -1,4 +1,6 @@
-use Rattle.wast_run.proofs.Common.{◌≡◌, ℕ, List, [], ◌∷◌, ◌++◌, Some, None, Option, sym, refl, ap, ◌∙◌, inl, inr, arith, values_in, Value, I32, I64, LinkedSet, ModuleFunc, Fits, ListedCall, EndsWith, Where, at_first, calls_with, listed, set_at, modules_run, units_run, Word}
+use Rattle.wast_run.proofs.Common.{◌≡◌, ℕ, List, [], ◌∷◌, ◌++◌, Some, None, Option, sym, refl, ap, ◌∙◌, inl, inr, arith, values_in, Value}
+use Rattle.wast_run.proofs.Common.{I32, I64, LinkedSet, ModuleFunc, Fits, ListedCall, EndsWith, Where, at_first, calls_with, listed, set_at}
+use Rattle.wast_run.proofs.Common.{modules_run, units_run, Word, none-some}
 use Rattle.std.specs.Fmt.{digits}
 use Rattle.w2c_base.specs.declared.value.ValType.TheVariants as type
 use Rattle.c_meaning.specs.Run as c
@@ -17,11 +19,8 @@ calls = calls_with with_constants sum_call
 fits : Fits set (listed sum_call)
 fits = (ModuleFunc 0 0, record { params = []; result = Some type.I32 }, refl, refl, refl, tt)
 
-none_is_some : {A : Type 0} (a : A) → None ≡ Some a → ⊥
-none_is_some a e = absurd cc
-
 fits_nothing : Fits (set_at at_first) (listed sum_call) → ⊥
-fits_nothing fit = none_is_some fit.0 fit.2
+fits_nothing fit = none-some fit.0 fit.2
 
 units_end : (units_run set calls 50).outcome ≡ c.Ended
 unfolding digits

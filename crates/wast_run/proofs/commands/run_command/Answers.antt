@@ -1,4 +1,5 @@
-use Rattle.wast_run.proofs.Common.{◌≡◌, string_bytes, Option, sym, refl, subst, Passes, FileVerdict, seen_call, seen_command, ComesOver, Comes, IsFile, holds, is_malformed, setting_of}
+use Rattle.wast_run.proofs.Common.{◌≡◌, string_bytes, Option, sym, refl, subst, Passes, FileVerdict, seen_call, seen_command, ComesOver}
+use Rattle.wast_run.proofs.Common.{Comes, IsFile, holds, is_malformed, setting_of}
 use Rattle.wast_run.proofs.Comings.{malformed_comes}
 use Rattle.wast_run.proofs.Passing.{call_over, trap_over}
 use Rattle.wast_run.proofs.commands.run_command.Goals as goal

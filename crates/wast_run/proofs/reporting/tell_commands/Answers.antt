@@ -1,9 +1,11 @@
-use Rattle.wast_run.proofs.Common.{◌+◌, ◌≤◌, length, take, drop, sym, ◌∙◌, subst, arith, take_all, length-map, Told, Passes, reason_of, seen_command, seen_commands, IsBehindOver, is_ok, HasModuleName, setting_of, IsBehind, StopsTelling}
+use Rattle.wast_run.proofs.Common.{◌+◌, ◌≤◌, length, take, drop, sym, ◌∙◌, subst, arith, take_all, length-map, Told, Passes, reason_of}
+use Rattle.wast_run.proofs.Common.{seen_command, seen_commands, IsBehindOver, is_ok, HasModuleName, setting_of, IsBehind, StopsTelling}
+use Rattle.w2c_base.proofs.Places.{mapped_next}
 use Rattle.wast_run.proofs.WordLines.{counted_few}
 use Rattle.wast_run.proofs.Lists.{all_mapped_at, mapped_front}
 use Rattle.wast_run.proofs.PartLaws.{behind_more}
 use Rattle.wast_run.proofs.ReportStops.{telling_stops}
-use Rattle.program_words.proofs.Loops.{mapped_split, mapped_next}
+use Rattle.program_words.proofs.Loops.{mapped_split}
 use Rattle.wast_run.proofs.Passing.{behind_more_over, stops_in}
 use Rattle.wast_run.proofs.reporting.tell_commands.Goals as goal
 

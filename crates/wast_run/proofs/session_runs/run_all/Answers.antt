@@ -1,4 +1,5 @@
-use Rattle.wast_run.proofs.Common.{◌≡◌, true, List, [], ◌∷◌, ◌++◌, length, IfSome, sym, ◌∙◌, subst, arith, SymbolCall, fits, AllFit, StopsAt, run_of, symbol_of, symbols_in, symbols_of}
+use Rattle.wast_run.proofs.Common.{◌≡◌, true, List, [], ◌∷◌, ◌++◌, length, IfSome, sym, ◌∙◌, subst, arith, SymbolCall, fits, AllFit}
+use Rattle.wast_run.proofs.Common.{StopsAt, run_of, symbol_of, symbols_in, symbols_of}
 use Rattle.crun.specs.Sessions.{program_of}
 use Rattle.wast_run.proofs.Kept.{all_before, all_last}
 use Rattle.wast_run.proofs.Sessions.{last_came, of_first, runs_further, stops_later}

@@ -1,5 +1,7 @@
-use Rattle.wast_run.proofs.Common.{Ok, Err, Says, texts, error_line, reason_of, GivesFirst}
-use Rattle.wast_run.proofs.TopLaws.{gained_before, no_report, none_reported, not_reported, nothing_gained, report_complete, status_small, stop_always, stop_complete, stop_part, stop_refused, stop_silent, stop_unread, stop_unwritten, missing_always, part_gains, report_gains, reported_always, stop_usage}
+use Rattle.wast_run.proofs.Common.{Ok, Err, Says, texts, error_line, reason_of}
+use Rattle.wast_run.proofs.TopLaws.{gained_before, no_report, none_reported, not_reported, nothing_gained, report_complete, status_small}
+use Rattle.wast_run.proofs.TopLaws.{stop_always, stop_complete, stop_part, stop_refused, stop_silent, stop_unread, stop_unwritten}
+use Rattle.wast_run.proofs.TopLaws.{missing_always, part_gains, report_gains, reported_always, stop_usage}
 use Rattle.wast_run.proofs.OnlyReads.{ends_with_reads}
 use Rattle.wast_run.proofs.Passing.{status_passes, stop_passes}
 use Rattle.wast_run.proofs.top.wast_run_top.Goals as goal
@@ -49,61 +51,37 @@ returns-in-Ok-clause-prefix g c = λ m tells.
 
 pub returns-in-Err-clause-complete : goal.returns-in-Err-clause-complete
 returns-in-Err-clause-complete g c =
-    let files = g.F.Files in
-    stop_complete (texts c.args.words.now) (files.told c.args.files.now)
-    (GivesFirst (files.told c.args.files.now) (files.trace c.args.files.now) (files.trace c.work.new.files))
-    (files.read_faults c.args.files.now) (files.read_faults c.work.new.files) (files.fault_name c.work.new.files)
-    (g.O.Sink.told c.args.out.now) (g.O.Sink.told c.work.new.out) (g.O.Sink.faults c.args.out.now) (g.O.Sink.faults c.work.new.out)
+    stop_complete (texts c.args.words.now) g.F.Files g.O.Sink c.args.files.now c.work.new.files c.args.out.now c.work.new.out
     (reason_of c.in-Err.stop) c.report.result c.in-Err.ensures.stop c.report.ensures.status
 
 pub returns-in-Err-clause-refused_always : goal.returns-in-Err-clause-refused_always
 returns-in-Err-clause-refused_always g c =
-    let files = g.F.Files in
-    stop_always (texts c.args.words.now) (files.told c.args.files.now)
-    (GivesFirst (files.told c.args.files.now) (files.trace c.args.files.now) (files.trace c.work.new.files))
-    (files.read_faults c.args.files.now) (files.read_faults c.work.new.files) (files.fault_name c.work.new.files)
-    (g.O.Sink.told c.args.out.now) (g.O.Sink.told c.work.new.out) (g.O.Sink.faults c.args.out.now) (g.O.Sink.faults c.work.new.out)
+    stop_always (texts c.args.words.now) g.F.Files g.O.Sink c.args.files.now c.work.new.files c.args.out.now c.work.new.out
     (reason_of c.in-Err.stop) c.report.result c.in-Err.ensures.stop c.report.ensures.status c.one_reading.ensures.apart
 
 pub returns-in-Err-clause-reported_always : goal.returns-in-Err-clause-reported_always
 returns-in-Err-clause-reported_always g c = λ m tells read write steps commands job there.
-    let files = g.F.Files in
     reported_always c.one_reading.ensures.apart c.one_reading.ensures.script (texts c.args.words.now) m steps commands job
     c.report.result there
-    (stop_complete (texts c.args.words.now) (files.told c.args.files.now)
-    (GivesFirst (files.told c.args.files.now) (files.trace c.args.files.now) (files.trace c.work.new.files))
-    (files.read_faults c.args.files.now) (files.read_faults c.work.new.files) (files.fault_name c.work.new.files)
-    (g.O.Sink.told c.args.out.now) (g.O.Sink.told c.work.new.out) (g.O.Sink.faults c.args.out.now) (g.O.Sink.faults c.work.new.out)
+    (stop_complete (texts c.args.words.now) g.F.Files g.O.Sink c.args.files.now c.work.new.files c.args.out.now c.work.new.out
     (reason_of c.in-Err.stop) c.report.result c.in-Err.ensures.stop c.report.ensures.status m tells read write)
 
 pub returns-in-Err-clause-missing_always : goal.returns-in-Err-clause-missing_always
 returns-in-Err-clause-missing_always g c = λ m tells read write steps commands job file named missing.
-    let files = g.F.Files in
     missing_always c.one_reading.ensures.apart c.one_reading.ensures.script (texts c.args.words.now) m steps commands job
     c.report.result file named missing
-    (stop_complete (texts c.args.words.now) (files.told c.args.files.now)
-    (GivesFirst (files.told c.args.files.now) (files.trace c.args.files.now) (files.trace c.work.new.files))
-    (files.read_faults c.args.files.now) (files.read_faults c.work.new.files) (files.fault_name c.work.new.files)
-    (g.O.Sink.told c.args.out.now) (g.O.Sink.told c.work.new.out) (g.O.Sink.faults c.args.out.now) (g.O.Sink.faults c.work.new.out)
+    (stop_complete (texts c.args.words.now) g.F.Files g.O.Sink c.args.files.now c.work.new.files c.args.out.now c.work.new.out
     (reason_of c.in-Err.stop) c.report.result c.in-Err.ensures.stop c.report.ensures.status m tells read write)
 
 pub returns-in-Err-clause-prefix : goal.returns-in-Err-clause-prefix
 returns-in-Err-clause-prefix g c = λ m tells.
-    let files = g.F.Files in
     part_gains c.one_reading.ensures.script (texts c.args.words.now) m (g.O.Sink.told c.args.out.now) (g.O.Sink.told c.work.new.out)
-    (stop_part (texts c.args.words.now) (files.told c.args.files.now)
-    (GivesFirst (files.told c.args.files.now) (files.trace c.args.files.now) (files.trace c.work.new.files))
-    (files.read_faults c.args.files.now) (files.read_faults c.work.new.files) (files.fault_name c.work.new.files)
-    (g.O.Sink.told c.args.out.now) (g.O.Sink.told c.work.new.out) (g.O.Sink.faults c.args.out.now) (g.O.Sink.faults c.work.new.out)
+    (stop_part (texts c.args.words.now) g.F.Files g.O.Sink c.args.files.now c.work.new.files c.args.out.now c.work.new.out
     (reason_of c.in-Err.stop) c.in-Err.ensures.stop m tells)
 
 pub returns-in-Err-clause-usage_always : goal.returns-in-Err-clause-usage_always
 returns-in-Err-clause-usage_always g c =
-    let files = g.F.Files in
-    stop_usage (texts c.args.words.now) (files.told c.args.files.now)
-    (GivesFirst (files.told c.args.files.now) (files.trace c.args.files.now) (files.trace c.work.new.files))
-    (files.read_faults c.args.files.now) (files.read_faults c.work.new.files) (files.fault_name c.work.new.files)
-    (g.O.Sink.told c.args.out.now) (g.O.Sink.told c.work.new.out) (g.O.Sink.faults c.args.out.now) (g.O.Sink.faults c.work.new.out)
+    stop_usage (texts c.args.words.now) g.F.Files g.O.Sink c.args.files.now c.work.new.files c.args.out.now c.work.new.out
     (reason_of c.in-Err.stop) c.report.result c.in-Err.ensures.stop c.report.ensures.status
 
 pub returns-in-Err-clause-reported : goal.returns-in-Err-clause-reported
@@ -116,78 +94,50 @@ returns-in-Err-clause-silent g c = λ came.
 
 pub returns-in-Err-clause-refused : goal.returns-in-Err-clause-refused
 returns-in-Err-clause-refused g c = λ two.
-    let files = g.F.Files in
     let err = g.E.Sink in
-    stop_refused (texts c.args.words.now) (files.told c.args.files.now)
-    (GivesFirst (files.told c.args.files.now) (files.trace c.args.files.now) (files.trace c.work.new.files))
-    (files.read_faults c.args.files.now) (files.read_faults c.work.new.files) (files.fault_name c.work.new.files)
-    (g.O.Sink.told c.args.out.now) (g.O.Sink.told c.work.new.out) (g.O.Sink.faults c.args.out.now) (g.O.Sink.faults c.work.new.out)
+    stop_refused (texts c.args.words.now) g.F.Files g.O.Sink c.args.files.now c.work.new.files c.args.out.now c.work.new.out
     (reason_of c.in-Err.stop) c.report.result c.in-Err.ensures.stop c.report.ensures.status
     (λ why. Says (err.told c.args.err.now) (err.told c.report.new.err) (err.faults c.args.err.now) (err.faults c.report.new.err)
     (error_line why)) c.report.ensures.says two
 
 pub returns-in-Err-clause-read_fault : goal.returns-in-Err-clause-read_fault
 returns-in-Err-clause-read_fault g c = λ three.
-    let files = g.F.Files in
     let err = g.E.Sink in
-    stop_unread (texts c.args.words.now) (files.told c.args.files.now)
-    (GivesFirst (files.told c.args.files.now) (files.trace c.args.files.now) (files.trace c.work.new.files))
-    (files.read_faults c.args.files.now) (files.read_faults c.work.new.files) (files.fault_name c.work.new.files)
-    (g.O.Sink.told c.args.out.now) (g.O.Sink.told c.work.new.out) (g.O.Sink.faults c.args.out.now) (g.O.Sink.faults c.work.new.out)
+    stop_unread (texts c.args.words.now) g.F.Files g.O.Sink c.args.files.now c.work.new.files c.args.out.now c.work.new.out
     (reason_of c.in-Err.stop) c.report.result c.in-Err.ensures.stop c.report.ensures.status
     (λ why. Says (err.told c.args.err.now) (err.told c.report.new.err) (err.faults c.args.err.now) (err.faults c.report.new.err)
     (error_line why)) c.report.ensures.says three
 
 pub returns-in-Err-clause-write_fault : goal.returns-in-Err-clause-write_fault
 returns-in-Err-clause-write_fault g c = λ four.
-    let files = g.F.Files in
     let err = g.E.Sink in
-    stop_unwritten (texts c.args.words.now) (files.told c.args.files.now)
-    (GivesFirst (files.told c.args.files.now) (files.trace c.args.files.now) (files.trace c.work.new.files))
-    (files.read_faults c.args.files.now) (files.read_faults c.work.new.files) (files.fault_name c.work.new.files)
-    (g.O.Sink.told c.args.out.now) (g.O.Sink.told c.work.new.out) (g.O.Sink.faults c.args.out.now) (g.O.Sink.faults c.work.new.out)
+    stop_unwritten (texts c.args.words.now) g.F.Files g.O.Sink c.args.files.now c.work.new.files c.args.out.now c.work.new.out
     (reason_of c.in-Err.stop) c.report.result c.in-Err.ensures.stop c.report.ensures.status
     (λ why. Says (err.told c.args.err.now) (err.told c.report.new.err) (err.faults c.args.err.now) (err.faults c.report.new.err)
     (error_line why)) c.report.ensures.says four
 
 pub returns-in-Err-clause-nothing_written : goal.returns-in-Err-clause-nothing_written
 returns-in-Err-clause-nothing_written g c =
-    let files = g.F.Files in
-    stop_silent (texts c.args.words.now) (files.told c.args.files.now)
-    (GivesFirst (files.told c.args.files.now) (files.trace c.args.files.now) (files.trace c.work.new.files))
-    (files.read_faults c.args.files.now) (files.read_faults c.work.new.files) (files.fault_name c.work.new.files)
-    (g.O.Sink.told c.args.out.now) (g.O.Sink.told c.work.new.out) (g.O.Sink.faults c.args.out.now) (g.O.Sink.faults c.work.new.out)
+    stop_silent (texts c.args.words.now) g.F.Files g.O.Sink c.args.files.now c.work.new.files c.args.out.now c.work.new.out
     (reason_of c.in-Err.stop) c.report.result c.in-Err.ensures.stop c.report.ensures.status
 
 pub returns-in-Err-clause-nothing_without_script : goal.returns-in-Err-clause-nothing_without_script
 returns-in-Err-clause-nothing_without_script g c = λ m tells why job.
-    let files = g.F.Files in
     nothing_gained (texts c.args.words.now) m (g.O.Sink.told c.args.out.now) (g.O.Sink.told c.work.new.out)
     c.one_reading.ensures.apart why job
-    (stop_part (texts c.args.words.now) (files.told c.args.files.now)
-    (GivesFirst (files.told c.args.files.now) (files.trace c.args.files.now) (files.trace c.work.new.files))
-    (files.read_faults c.args.files.now) (files.read_faults c.work.new.files) (files.fault_name c.work.new.files)
-    (g.O.Sink.told c.args.out.now) (g.O.Sink.told c.work.new.out) (g.O.Sink.faults c.args.out.now) (g.O.Sink.faults c.work.new.out)
+    (stop_part (texts c.args.words.now) g.F.Files g.O.Sink c.args.files.now c.work.new.files c.args.out.now c.work.new.out
     (reason_of c.in-Err.stop) c.in-Err.ensures.stop m tells)
 
 pub returns-in-Err-clause-part : goal.returns-in-Err-clause-part
 returns-in-Err-clause-part g c = λ came.
-    let files = g.F.Files in
-    stop_part (texts c.args.words.now) (files.told c.args.files.now)
-    (GivesFirst (files.told c.args.files.now) (files.trace c.args.files.now) (files.trace c.work.new.files))
-    (files.read_faults c.args.files.now) (files.read_faults c.work.new.files) (files.fault_name c.work.new.files)
-    (g.O.Sink.told c.args.out.now) (g.O.Sink.told c.work.new.out) (g.O.Sink.faults c.args.out.now) (g.O.Sink.faults c.work.new.out)
+    stop_part (texts c.args.words.now) g.F.Files g.O.Sink c.args.files.now c.work.new.files c.args.out.now c.work.new.out
     (reason_of c.in-Err.stop) c.in-Err.ensures.stop
 
 pub returns-in-Err-clause-part_before : goal.returns-in-Err-clause-part_before
 returns-in-Err-clause-part_before g c = λ m tells steps before behind command file job names missing.
-    let files = g.F.Files in
     gained_before (texts c.args.words.now) m (g.O.Sink.told c.args.out.now) (g.O.Sink.told c.work.new.out)
     c.one_reading.ensures.script steps before behind command file job names missing
-    (stop_part (texts c.args.words.now) (files.told c.args.files.now)
-    (GivesFirst (files.told c.args.files.now) (files.trace c.args.files.now) (files.trace c.work.new.files))
-    (files.read_faults c.args.files.now) (files.read_faults c.work.new.files) (files.fault_name c.work.new.files)
-    (g.O.Sink.told c.args.out.now) (g.O.Sink.told c.work.new.out) (g.O.Sink.faults c.args.out.now) (g.O.Sink.faults c.work.new.out)
+    (stop_part (texts c.args.words.now) g.F.Files g.O.Sink c.args.files.now c.work.new.files c.args.out.now c.work.new.out
     (reason_of c.in-Err.stop) c.in-Err.ensures.stop m tells)
 
 pub returns-in-Err-clause-status : goal.returns-in-Err-clause-status

@@ -1,4 +1,5 @@
-use Rattle.wast_run.proofs.Common.{Err, refl, ◌∙◌, subst, Told, Passes, Tells, texts, reason_of, seen_commands, seen_line, seen_script, GivesFirst, IsJob, Reports, StopsIn, HasReportedOver, StopsReport, HasReported}
+use Rattle.wast_run.proofs.Common.{Err, refl, ◌∙◌, subst, Told, Passes, Tells, texts, reason_of, seen_commands, seen_line, seen_script}
+use Rattle.wast_run.proofs.Common.{GivesFirst, IsJob, Reports, StopsIn, HasReportedOver, StopsReport, HasReported}
 use Rattle.wast_run.proofs.WorkLaws.{job_of_text, report_stops, reports, script_stops, words_stop}
 use Rattle.wast_run.proofs.Passing.{commands_end, first_gives, report_ends, script_ends, words_end}
 use Rattle.wast_run.proofs.work.work.Goals as goal

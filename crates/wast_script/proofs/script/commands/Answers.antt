@@ -1,4 +1,5 @@
-use Rattle.wast_script.proofs.Common.{map, option_map, sym, ap, ◌∙◌, view, map_push, position_from, command_of, all_given, is_formless, seen_command, seen_commands}
+use Rattle.wast_script.proofs.Common.{map, option_map, sym, ap, ◌∙◌, view, map_push, position_from, command_of, all_given, is_formless}
+use Rattle.wast_script.proofs.Common.{seen_command, seen_commands}
 use Rattle.wast_script.proofs.Gathered.{first_is_behind, first_is_here, next_here}
 use Rattle.wast_script.proofs.script.commands.Goals as goal
 

@@ -1,4 +1,5 @@
-use Rattle.c_check.proofs.Common.{◌≡◌, List, map, Option, option_map, sym, ap, ◌∙◌, subst, item_of, Item, whole_unit, first_in_items, broken_at}
+use Rattle.c_check.proofs.Common.{◌≡◌, List, map, Option, option_map, sym, ap, ◌∙◌, subst, item_of, Item, whole_unit, first_in_items}
+use Rattle.c_check.proofs.Common.{broken_at}
 use Rattle.c_tree.specs.FirstBroken.{BrokenRule, first_broken}
 use Rattle.c_tree.proofs.FirstBroken.{none_is_broken}
 use Rattle.c_tree.proofs.BrokenInOrder.{is_first}

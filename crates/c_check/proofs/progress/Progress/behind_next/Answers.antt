@@ -1,4 +1,5 @@
-use Rattle.c_check.proofs.Common.{List, map, bytes_eq, sym, ap, ◌∙◌, Bor, list_any, named, item_of, Item, by_name, by_names, defined_name, defined_of, names_of, none_clash, finds_next}
+use Rattle.c_check.proofs.Common.{List, map, bytes_eq, sym, ap, ◌∙◌, Bor, list_any, named, item_of, Item, by_name, by_names, defined_name}
+use Rattle.c_check.proofs.Common.{defined_of, names_of, none_clash, finds_next}
 use Rattle.c_tree.specs.Tree as tree
 use Rattle.c_check.proofs.Behind.{taken, none_clash_next}
 use Rattle.c_check.proofs.Sets.{knows_put}

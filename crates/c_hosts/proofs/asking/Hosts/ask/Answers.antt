@@ -1,7 +1,7 @@
 use Rattle.c_hosts.proofs.Common.{◌≡◌, [], ◌∷◌, ◌++◌, sym, refl, ap, ◌∙◌, subst, types_of, asked}
+use Rattle.w2c_base.proofs.Types.{equal_types-eq}
 use Rattle.c_meaning.specs.declared.reply.HostReply.TheVariants as reply
 use Rattle.c_hosts.specs.Hosts.{IsReply, TakesArgs}
-use Rattle.c_hosts.proofs.Arguments.{types_tell}
 use Rattle.c_hosts.proofs.Called.{function_of_it, host_there, of_function}
 use Rattle.c_hosts.proofs.asking.Hosts.ask.Goals as goal
 
@@ -11,7 +11,7 @@ call-reply-requires-clause-args g c =
     let args = c.last_args.ensures c.args.self.now.journal (asked c.args.call reply.Trap) c.in_ok-open.ensures.ok in
     of_function g.H.HostModule c.args.self.now.list.items c.args.call offer.0 c.index_mut.result.now offer.1.0 c.index_mut.ensures.value
     (λ f. TakesArgs f c.last_args.result.now)
-    (ap types_of args ∙ sym (types_tell offer.0.ty.params (types_of c.args.call.args.items) offer.1.1))
+    (ap types_of args ∙ sym (equal_types-eq offer.0.ty.params (types_of c.args.call.args.items) offer.1.1))
 
 pub returns-clause-asked : goal.returns-clause-asked
 returns-clause-asked g c =

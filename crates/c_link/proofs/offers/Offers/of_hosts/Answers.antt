@@ -1,4 +1,6 @@
-use Rattle.c_link.proofs.Common.{◌≡◌, ◌≤◌, [], ◌∷◌, length, take, slice_get, Some, option_map, sym, ap, ◌∙◌, take_all, length-map, slice_get-map, numbered_at, numbered_many, mapped_at, take_next, numbered, c_symbol, c_symbols, host_offer, host_offers}
+use Rattle.c_link.proofs.Common.{◌≡◌, ◌≤◌, [], ◌∷◌, length, take, slice_get, Some, option_map, sym, ap, ◌∙◌, take_all, length-map}
+use Rattle.c_link.proofs.Common.{slice_get-map, numbered_at, numbered_many, mapped_at, take_next, numbered, c_symbol, c_symbols, host_offer}
+use Rattle.c_link.proofs.Common.{host_offers}
 use Rattle.c_link.specs.declared.offers.Owner.TheVariants as owner
 use Rattle.c_link.proofs.Tables.{adds_said, holds_as, holds_more}
 use Rattle.c_link.proofs.offers.Offers.of_hosts.Goals as goal

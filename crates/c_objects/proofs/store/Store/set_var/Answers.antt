@@ -1,5 +1,5 @@
 use Rattle.c_objects.proofs.Common.{refl, slice_get_read}
-use Rattle.c_objects.proofs.Kept.{set_kept}
+use Rattle.w2c_base.proofs.Places.{set_same}
 use Rattle.c_objects.proofs.Machines.{var_written, var_stored}
 use Rattle.c_objects.proofs.store.Store.set_var.Goals as goal
 
@@ -21,7 +21,7 @@ returns-clause-stored c names are =
 pub returns-in_default-get_mut-2-clause-kept : goal.returns-in_default-get_mut-2-clause-kept
 returns-in_default-get_mut-2-clause-kept c is =
     let units = c.args.self.now.units in
-    set_kept units.items c.args.at.unit c.in-Some.unit.now
+    set_same units.items c.args.at.unit c.in-Some.unit.now
     (slice_get_read units.items units.len c.args.at.unit c.in-Some.unit.now units.ok.0
     (c.in-Some.ensures.variant.0 refl) c.in-Some.ensures.value)
 

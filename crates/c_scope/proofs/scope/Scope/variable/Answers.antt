@@ -1,4 +1,5 @@
-use Rattle.c_scope.proofs.Common.{[], ◌∷◌, codes, ap, ◌∙◌, option_or, named, found_of_four, local_variables, param_variables, body_of, func_of, declared, variables_of}
+use Rattle.c_scope.proofs.Common.{[], ◌∷◌, codes, ap, ◌∙◌, option_or, named, found_of_four, local_variables, param_variables, body_of}
+use Rattle.c_scope.proofs.Common.{func_of, declared, variables_of}
 use Rattle.c_tree.specs.declared.tree.CType.TheVariants.{U32}
 use Rattle.c_scope.proofs.scope.Scope.variable.Goals as goal
 

@@ -1,4 +1,5 @@
-use Rattle.c_thread.proofs.Common.{◌≡◌, ◌<◌, length, slice_get, Some, sym, refl, ap, ◌∙◌, subst, slice_get-get_or, if_found, named, names_at, below_in, items_at, machine_in, running_in}
+use Rattle.c_thread.proofs.Common.{◌≡◌, ◌<◌, length, slice_get, Some, sym, refl, ap, ◌∙◌, subst, slice_get-get_or, if_found, named}
+use Rattle.c_thread.proofs.Common.{names_at, below_in, items_at, machine_in, running_in}
 use Rattle.c_thread.proofs.Assigns.{local_assigned, local_other_type, not_local}
 use Rattle.c_thread.proofs.linked.LinkedThread.assign.Goals as goal
 

@@ -1,4 +1,5 @@
-use Rattle.c_thread.proofs.Common.{◌≡◌, ◌∷◌, sym, ap, ◌∙◌, subst, Stuck, Trapped, Undefined, Stops, take_effect, machine_of, Keeps, effect_of, below_in, machine_in, place_in, waiting_in}
+use Rattle.c_thread.proofs.Common.{◌≡◌, ◌∷◌, sym, ap, ◌∙◌, subst, Stuck, Trapped, Undefined, Stops, take_effect, machine_of, Keeps}
+use Rattle.c_thread.proofs.Common.{effect_of, below_in, machine_in, place_in, waiting_in}
 use Rattle.c_thread.proofs.linked.LinkedThread.call_primitive.Goals as goal
 
 pub returns-in-Gives : goal.returns-in-Gives

@@ -1,4 +1,5 @@
-use Rattle.c_thread.proofs.Common.{[], ◌∷◌, ◌++◌, map, sym, ap, ◌∙◌, begin, next, value_of, begun_in, below_in, machine_in, running_in, waiting_in}
+use Rattle.c_thread.proofs.Common.{[], ◌∷◌, ◌++◌, map, sym, ap, ◌∙◌, begin, next, value_of, begun_in, below_in, machine_in, running_in}
+use Rattle.c_thread.proofs.Common.{waiting_in}
 use Rattle.c_thread.proofs.Returns.{below-push}
 use Rattle.c_thread.proofs.linked.LinkedThread.enter.Goals as goal
 

@@ -1,9 +1,13 @@
-use Rattle.c_thread.proofs.Common.{◌≡◌, ◌-◌, true, false, ◌∷◌, map, drop, slice_get, Some, option_map, sym, ap, ◌∙◌, subst, arg_of, callee_of, expr_of, stmt_of, Is, Step, act, assign, at_rest, call_callee, evaluate_args, jump, label_of, Finds, number_in, names_at, result_at, stmts_at, target_of, assigned_to, below_in, items_at, machine_in, place_in, running_in, waiting_in, all_evaluated}
+use Rattle.c_thread.proofs.Common.{◌≡◌, ◌-◌, true, false, ◌∷◌, map, drop, slice_get, Some, option_map, sym, ap, ◌∙◌, subst, arg_of}
+use Rattle.c_thread.proofs.Common.{callee_of, expr_of, stmt_of, Is, Step, act, assign, at_rest, call_callee, evaluate_args, jump, label_of}
+use Rattle.c_thread.proofs.Common.{Finds, number_in, names_at, result_at, stmts_at, target_of, assigned_to, below_in, items_at, machine_in}
+use Rattle.c_thread.proofs.Common.{place_in, running_in, waiting_in, all_evaluated}
 use Rattle.c_tree.specs.declared.tree.Stmt.{Stmt}
 use Rattle.c_meaning.specs.Step.{value_of}
 use Rattle.c_objects.specs.Views.{value_of as held_of}
 use Rattle.c_thread.proofs.Units.{items_so}
-use Rattle.c_thread.proofs.Acts.{place_is, same_fault, all_fault, acts_set, acts_set_badly, acts_return, acts_return_badly, acts_call, acts_call_badly, acts_switch, acts_switch_badly, acts_star, acts_star_badly, acts_if, acts_if_badly}
+use Rattle.c_thread.proofs.Acts.{same_fault, all_fault, acts_set, acts_set_badly, acts_return, acts_return_badly, acts_call}
+use Rattle.c_thread.proofs.Acts.{acts_call_badly, acts_switch, acts_switch_badly, acts_star, acts_star_badly, acts_if, acts_if_badly}
 use Rattle.c_thread.proofs.linked.LinkedThread.execute.Goals as goal
 
 pub returns-in-Ok : goal.returns-in-Ok
@@ -16,15 +20,11 @@ returns-in-Ok c = record {
       let own = items_so names p c.args.units.now f.unit c.args.own.now are c.requires.unit in
       let objects = are.objects f.unit c.args.own.now c.requires.unit in
       let r = at_rest (running_in names p f) rest in
-      let behind = drop f.at (stmts_at (items_at p f.unit) f.item) in
-      let here = ap (λ its. slice_get (stmts_at its f.item) (f.at - 1)) own ∙ c.requires.here in
-      let place = place_is names p f rest (stmt_of c.args.stmt.now) c.requires.at here in
-      let is : Stmt → Step = λ s. act p m r (stmt_of s ∷ behind) below in
       let sees = c.scope_of-scope.ensures names p trail rest own objects stored in
       let finds = subst (λ its. Finds c.args.function.table.now.locals (λ q. number_in q (names_at its f.item)))
       (sym own) c.requires.function.locals in
-      ap is c.in-Set.is
-      ∙ acts_set p m r behind below (place_in f) place c.in-Set.name (arg_of c.in-Set.arg) (held_of names c.in-Ok.value)
+      acts_set names p trail t rest (stmt_of c.args.stmt.now) c.requires.at _ own c.requires.here
+      c.in-Set.name (arg_of c.in-Set.arg) (held_of names c.in-Ok.value) (ap stmt_of c.in-Set.is)
       (c.in-Ok.ensures names p m r sees)
       ∙ ap (λ n. assign m (running_in names p f) n (held_of names c.in-Ok.value) below) (sym c.as_slice.ensures)
       ∙ c.assign.ensures.step names p trail finds objects stored;
@@ -37,17 +37,11 @@ returns-in-Err c = record {
       let t = c.args.self.now in
       let f = t.top in
       let m = machine_in names trail t in
-      let below = below_in names p t.below.items in
       let own = items_so names p c.args.units.now f.unit c.args.own.now are c.requires.unit in
-      let objects = are.objects f.unit c.args.own.now c.requires.unit in
       let r = at_rest (running_in names p f) rest in
-      let behind = drop f.at (stmts_at (items_at p f.unit) f.item) in
-      let here = ap (λ its. slice_get (stmts_at its f.item) (f.at - 1)) own ∙ c.requires.here in
-      let place = place_is names p f rest (stmt_of c.args.stmt.now) c.requires.at here in
-      let is : Stmt → Step = λ s. act p m r (stmt_of s ∷ behind) below in
-      let sees = c.scope_of-scope.ensures names p trail rest own objects stored in
-      ap is c.in-Set.is
-      ∙ acts_set_badly p m r behind below (place_in f) place c.in-Set.name (arg_of c.in-Set.arg) c.in-Err.fault
+      let sees = c.scope_of-scope.ensures names p trail rest own (are.objects f.unit c.args.own.now c.requires.unit) stored in
+      acts_set_badly names p trail t rest (stmt_of c.args.stmt.now) c.requires.at _ own c.requires.here
+      c.in-Set.name (arg_of c.in-Set.arg) c.in-Err.fault (ap stmt_of c.in-Set.is)
       (same_fault names c.in-Err.fault ∙ c.in-Err.ensures names p m r sees)
       ∙ c.faulted.ensures names p trail t;
   stored = λ names s. s;
@@ -61,15 +55,10 @@ returns-in-Ok-value c = record {
       let m = machine_in names trail t in
       let below = below_in names p t.below.items in
       let own = items_so names p c.args.units.now f.unit c.args.own.now are c.requires.unit in
-      let objects = are.objects f.unit c.args.own.now c.requires.unit in
       let r = at_rest (running_in names p f) rest in
-      let behind = drop f.at (stmts_at (items_at p f.unit) f.item) in
-      let here = ap (λ its. slice_get (stmts_at its f.item) (f.at - 1)) own ∙ c.requires.here in
-      let place = place_is names p f rest (stmt_of c.args.stmt.now) c.requires.at here in
-      let is : Stmt → Step = λ s. act p m r (stmt_of s ∷ behind) below in
-      let sees = c.scope_of-scope.ensures names p trail rest own objects stored in
-      ap is c.in-SetStar.is
-      ∙ acts_star p m r behind below (place_in f) place c.in-SetStar.name (expr_of c.in-SetStar.e) c.in-Ok-value.value
+      let sees = c.scope_of-scope.ensures names p trail rest own (are.objects f.unit c.args.own.now c.requires.unit) stored in
+      acts_star names p trail t rest (stmt_of c.args.stmt.now) c.requires.at _ own c.requires.here
+      c.in-SetStar.name (expr_of c.in-SetStar.e) c.in-Ok-value.value (ap stmt_of c.in-SetStar.is)
       (c.in-Ok-value.ensures names p m r sees)
       ∙ ap (λ n. assigned_to m (running_in names p f) (place_in f) (value_of m r n) c.in-Ok-value.value below)
       (sym c.as_slice-in-Ok-value.ensures)
@@ -85,17 +74,11 @@ returns-in-Err-value c = record {
       let t = c.args.self.now in
       let f = t.top in
       let m = machine_in names trail t in
-      let below = below_in names p t.below.items in
       let own = items_so names p c.args.units.now f.unit c.args.own.now are c.requires.unit in
-      let objects = are.objects f.unit c.args.own.now c.requires.unit in
       let r = at_rest (running_in names p f) rest in
-      let behind = drop f.at (stmts_at (items_at p f.unit) f.item) in
-      let here = ap (λ its. slice_get (stmts_at its f.item) (f.at - 1)) own ∙ c.requires.here in
-      let place = place_is names p f rest (stmt_of c.args.stmt.now) c.requires.at here in
-      let is : Stmt → Step = λ s. act p m r (stmt_of s ∷ behind) below in
-      let sees = c.scope_of-scope.ensures names p trail rest own objects stored in
-      ap is c.in-SetStar.is
-      ∙ acts_star_badly p m r behind below (place_in f) place c.in-SetStar.name (expr_of c.in-SetStar.e) c.in-Err-value.fault
+      let sees = c.scope_of-scope.ensures names p trail rest own (are.objects f.unit c.args.own.now c.requires.unit) stored in
+      acts_star_badly names p trail t rest (stmt_of c.args.stmt.now) c.requires.at _ own c.requires.here
+      c.in-SetStar.name (expr_of c.in-SetStar.e) c.in-Err-value.fault (ap stmt_of c.in-SetStar.is)
       (c.in-Err-value.ensures names p m r sees)
       ∙ c.faulted-in-Err-value.ensures names p trail t;
   stored = λ names s. s;
@@ -111,10 +94,7 @@ returns-in_ok-call-in-Ok-2 c = record {
       let own = items_so names p c.args.units.now f.unit c.args.own.now are c.requires.unit in
       let objects = are.objects f.unit c.args.own.now c.requires.unit in
       let r = at_rest (running_in names p f) rest in
-      let behind = drop f.at (stmts_at (items_at p f.unit) f.item) in
       let here = ap (λ its. slice_get (stmts_at its f.item) (f.at - 1)) own ∙ c.requires.here in
-      let place = place_is names p f rest (stmt_of c.args.stmt.now) c.requires.at here in
-      let is : Stmt → Step = λ s. act p m r (stmt_of s ∷ behind) below in
       let sees = c.scope_of-scope.ensures names p trail rest own objects stored in
       let evaluated = subst (λ args. evaluate_args p m r (map arg_of args) ≡ all_evaluated names
       (λ vs. vs.items) c.in_ok-values-in-Call.field-0) c.as_slice-in-Call.ensures
@@ -122,8 +102,8 @@ returns-in_ok-call-in-Ok-2 c = record {
       let values = map (held_of names) c.in-Ok-2.values.items in
       let callee = callee_of c.in-Call.callee in
       let target = ap target_of (here ∙ ap (λ s. Some (stmt_of s)) c.in-Call.is) in
-      ap is c.in-Call.is
-      ∙ acts_call p m r behind below (place_in f) place c.in-Call.field-0 callee (map arg_of c.in-Call.args) values
+      acts_call names p trail t rest (stmt_of c.args.stmt.now) c.requires.at _ own c.requires.here
+      c.in-Call.field-0 callee (map arg_of c.in-Call.args) values (ap stmt_of c.in-Call.is)
       (evaluated ∙ ap (all_evaluated names (λ vs. vs.items)) c.in-Ok-2.is)
       ∙ ap (λ tg. call_callee p callee (place_in f) m r values (record { target = tg; running = running_in names p f } ∷ below))
       (sym target)
@@ -138,21 +118,14 @@ returns-in-Err-2 c = record {
       let t = c.args.self.now in
       let f = t.top in
       let m = machine_in names trail t in
-      let below = below_in names p t.below.items in
       let own = items_so names p c.args.units.now f.unit c.args.own.now are c.requires.unit in
-      let objects = are.objects f.unit c.args.own.now c.requires.unit in
       let r = at_rest (running_in names p f) rest in
-      let behind = drop f.at (stmts_at (items_at p f.unit) f.item) in
-      let here = ap (λ its. slice_get (stmts_at its f.item) (f.at - 1)) own ∙ c.requires.here in
-      let place = place_is names p f rest (stmt_of c.args.stmt.now) c.requires.at here in
-      let is : Stmt → Step = λ s. act p m r (stmt_of s ∷ behind) below in
-      let sees = c.scope_of-scope.ensures names p trail rest own objects stored in
+      let sees = c.scope_of-scope.ensures names p trail rest own (are.objects f.unit c.args.own.now c.requires.unit) stored in
       let evaluated = subst (λ args. evaluate_args p m r (map arg_of args) ≡ all_evaluated names
       (λ vs. vs.items) c.in_ok-values-in-Call.field-0) c.as_slice-in-Call.ensures
       (c.in_ok-values-in-Call.ensures names p m r sees) in
-      ap is c.in-Call.is
-      ∙ acts_call_badly p m r behind below (place_in f) place c.in-Call.field-0 (callee_of c.in-Call.callee)
-      (map arg_of c.in-Call.args) c.in-Err-2.fault
+      acts_call_badly names p trail t rest (stmt_of c.args.stmt.now) c.requires.at _ own c.requires.here
+      c.in-Call.field-0 (callee_of c.in-Call.callee) (map arg_of c.in-Call.args) c.in-Err-2.fault (ap stmt_of c.in-Call.is)
       (evaluated ∙ all_fault names (λ vs. vs.items) c.in_ok-values-in-Call.field-0 c.in-Err-2.fault c.in-Err-2.is)
       ∙ c.faulted-in-Err-2.ensures names p trail t;
   stored = λ names s. s;
@@ -166,11 +139,8 @@ returns-in-Goto c = record {
       let m = machine_in names trail t in
       let below = below_in names p t.below.items in
       let own = items_so names p c.args.units.now f.unit c.args.own.now are c.requires.unit in
-      let objects = are.objects f.unit c.args.own.now c.requires.unit in
       let r = at_rest (running_in names p f) rest in
       let behind = drop f.at (stmts_at (items_at p f.unit) f.item) in
-      let here = ap (λ its. slice_get (stmts_at its f.item) (f.at - 1)) own ∙ c.requires.here in
-      let place = place_is names p f rest (stmt_of c.args.stmt.now) c.requires.at here in
       let is : Stmt → Step = λ s. act p m r (stmt_of s ∷ behind) below in
       let stmts = ap (λ its. stmts_at its f.item) own ∙ c.requires.function.stmts_are in
       ap is c.in-Goto.is
@@ -187,16 +157,11 @@ returns-in-Ok-true c = record {
       let m = machine_in names trail t in
       let below = below_in names p t.below.items in
       let own = items_so names p c.args.units.now f.unit c.args.own.now are c.requires.unit in
-      let objects = are.objects f.unit c.args.own.now c.requires.unit in
       let r = at_rest (running_in names p f) rest in
-      let behind = drop f.at (stmts_at (items_at p f.unit) f.item) in
-      let here = ap (λ its. slice_get (stmts_at its f.item) (f.at - 1)) own ∙ c.requires.here in
-      let place = place_is names p f rest (stmt_of c.args.stmt.now) c.requires.at here in
-      let is : Stmt → Step = λ s. act p m r (stmt_of s ∷ behind) below in
-      let sees = c.scope_of-scope.ensures names p trail rest own objects stored in
+      let sees = c.scope_of-scope.ensures names p trail rest own (are.objects f.unit c.args.own.now c.requires.unit) stored in
       let stmts = ap (λ its. stmts_at its f.item) own ∙ c.requires.function.stmts_are in
-      ap is c.in-If.is
-      ∙ acts_if p m r behind below (place_in f) place c.in-If.op (expr_of c.in-If.left) (expr_of c.in-If.right) c.in-If.name true
+      acts_if names p trail t rest (stmt_of c.args.stmt.now) c.requires.at _ own c.requires.here
+      c.in-If.op (expr_of c.in-If.left) (expr_of c.in-If.right) c.in-If.name true (ap stmt_of c.in-If.is)
       (ap Is (sym c.in-Ok-true.field-0-test) ∙ c.in-Ok-true.ensures names p m r sees)
       ∙ ap (λ n. jump m (running_in names p f) n below) (sym c.as_slice-in-Ok-true.ensures)
       ∙ c.go_to-in-Ok-true.ensures.step names p trail stmts;
@@ -209,17 +174,11 @@ returns-in-Ok-false c = record {
       let t = c.args.self.now in
       let f = t.top in
       let m = machine_in names trail t in
-      let below = below_in names p t.below.items in
       let own = items_so names p c.args.units.now f.unit c.args.own.now are c.requires.unit in
-      let objects = are.objects f.unit c.args.own.now c.requires.unit in
       let r = at_rest (running_in names p f) rest in
-      let behind = drop f.at (stmts_at (items_at p f.unit) f.item) in
-      let here = ap (λ its. slice_get (stmts_at its f.item) (f.at - 1)) own ∙ c.requires.here in
-      let place = place_is names p f rest (stmt_of c.args.stmt.now) c.requires.at here in
-      let is : Stmt → Step = λ s. act p m r (stmt_of s ∷ behind) below in
-      let sees = c.scope_of-scope.ensures names p trail rest own objects stored in
-      ap is c.in-If.is
-      ∙ acts_if p m r behind below (place_in f) place c.in-If.op (expr_of c.in-If.left) (expr_of c.in-If.right) c.in-If.name false
+      let sees = c.scope_of-scope.ensures names p trail rest own (are.objects f.unit c.args.own.now c.requires.unit) stored in
+      acts_if names p trail t rest (stmt_of c.args.stmt.now) c.requires.at _ own c.requires.here
+      c.in-If.op (expr_of c.in-If.left) (expr_of c.in-If.right) c.in-If.name false (ap stmt_of c.in-If.is)
       (ap Is (sym c.in-Ok-false.field-0-test) ∙ c.in-Ok-false.ensures names p m r sees);
   stored = λ names s. s;
 }
@@ -230,18 +189,12 @@ returns-in-Err-holds c = record {
       let t = c.args.self.now in
       let f = t.top in
       let m = machine_in names trail t in
-      let below = below_in names p t.below.items in
       let own = items_so names p c.args.units.now f.unit c.args.own.now are c.requires.unit in
-      let objects = are.objects f.unit c.args.own.now c.requires.unit in
       let r = at_rest (running_in names p f) rest in
-      let behind = drop f.at (stmts_at (items_at p f.unit) f.item) in
-      let here = ap (λ its. slice_get (stmts_at its f.item) (f.at - 1)) own ∙ c.requires.here in
-      let place = place_is names p f rest (stmt_of c.args.stmt.now) c.requires.at here in
-      let is : Stmt → Step = λ s. act p m r (stmt_of s ∷ behind) below in
-      let sees = c.scope_of-scope.ensures names p trail rest own objects stored in
-      ap is c.in-If.is
-      ∙ acts_if_badly p m r behind below (place_in f) place c.in-If.op (expr_of c.in-If.left)
-      (expr_of c.in-If.right) c.in-If.name c.in-Err-holds.fault (c.in-Err-holds.ensures names p m r sees)
+      let sees = c.scope_of-scope.ensures names p trail rest own (are.objects f.unit c.args.own.now c.requires.unit) stored in
+      acts_if_badly names p trail t rest (stmt_of c.args.stmt.now) c.requires.at _ own c.requires.here
+      c.in-If.op (expr_of c.in-If.left) (expr_of c.in-If.right) c.in-If.name c.in-Err-holds.fault (ap stmt_of c.in-If.is)
+      (c.in-Err-holds.ensures names p m r sees)
       ∙ c.faulted-in-Err-holds.ensures names p trail t;
   stored = λ names s. s;
 }
@@ -254,17 +207,11 @@ returns-in-Ok-value-2 c = record {
       let m = machine_in names trail t in
       let below = below_in names p t.below.items in
       let own = items_so names p c.args.units.now f.unit c.args.own.now are c.requires.unit in
-      let objects = are.objects f.unit c.args.own.now c.requires.unit in
       let r = at_rest (running_in names p f) rest in
-      let behind = drop f.at (stmts_at (items_at p f.unit) f.item) in
-      let here = ap (λ its. slice_get (stmts_at its f.item) (f.at - 1)) own ∙ c.requires.here in
-      let place = place_is names p f rest (stmt_of c.args.stmt.now) c.requires.at here in
-      let is : Stmt → Step = λ s. act p m r (stmt_of s ∷ behind) below in
-      let sees = c.scope_of-scope.ensures names p trail rest own objects stored in
+      let sees = c.scope_of-scope.ensures names p trail rest own (are.objects f.unit c.args.own.now c.requires.unit) stored in
       let stmts = ap (λ its. stmts_at its f.item) own ∙ c.requires.function.stmts_are in
-      ap is c.in-Switch.is
-      ∙ acts_switch p m r behind below (place_in f) place
-      (expr_of c.in-Switch.e) c.in-Switch.cases c.in-Switch.default c.in-Ok-value-2.value
+      acts_switch names p trail t rest (stmt_of c.args.stmt.now) c.requires.at _ own c.requires.here
+      (expr_of c.in-Switch.e) c.in-Switch.cases c.in-Switch.default c.in-Ok-value-2.value (ap stmt_of c.in-Switch.is)
       (c.in-Ok-value-2.ensures names p m r sees)
       ∙ ap (λ n. jump m (running_in names p f) n below)
       (sym (c.label_for-name.ensures ∙ ap
@@ -280,18 +227,11 @@ returns-in-Err-value-2 c = record {
       let t = c.args.self.now in
       let f = t.top in
       let m = machine_in names trail t in
-      let below = below_in names p t.below.items in
       let own = items_so names p c.args.units.now f.unit c.args.own.now are c.requires.unit in
-      let objects = are.objects f.unit c.args.own.now c.requires.unit in
       let r = at_rest (running_in names p f) rest in
-      let behind = drop f.at (stmts_at (items_at p f.unit) f.item) in
-      let here = ap (λ its. slice_get (stmts_at its f.item) (f.at - 1)) own ∙ c.requires.here in
-      let place = place_is names p f rest (stmt_of c.args.stmt.now) c.requires.at here in
-      let is : Stmt → Step = λ s. act p m r (stmt_of s ∷ behind) below in
-      let sees = c.scope_of-scope.ensures names p trail rest own objects stored in
-      ap is c.in-Switch.is
-      ∙ acts_switch_badly p m r behind below (place_in f) place
-      (expr_of c.in-Switch.e) c.in-Switch.cases c.in-Switch.default c.in-Err-value-2.fault
+      let sees = c.scope_of-scope.ensures names p trail rest own (are.objects f.unit c.args.own.now c.requires.unit) stored in
+      acts_switch_badly names p trail t rest (stmt_of c.args.stmt.now) c.requires.at _ own c.requires.here
+      (expr_of c.in-Switch.e) c.in-Switch.cases c.in-Switch.default c.in-Err-value-2.fault (ap stmt_of c.in-Switch.is)
       (c.in-Err-value-2.ensures names p m r sees)
       ∙ c.faulted-in-Err-value-2.ensures names p trail t;
   stored = λ names s. s;
@@ -303,18 +243,12 @@ returns-in-Ok-held_by c = record {
       let t = c.args.self.now in
       let f = t.top in
       let m = machine_in names trail t in
-      let below = below_in names p t.below.items in
       let own = items_so names p c.args.units.now f.unit c.args.own.now are c.requires.unit in
-      let objects = are.objects f.unit c.args.own.now c.requires.unit in
       let r = at_rest (running_in names p f) rest in
-      let behind = drop f.at (stmts_at (items_at p f.unit) f.item) in
-      let here = ap (λ its. slice_get (stmts_at its f.item) (f.at - 1)) own ∙ c.requires.here in
-      let place = place_is names p f rest (stmt_of c.args.stmt.now) c.requires.at here in
-      let is : Stmt → Step = λ s. act p m r (stmt_of s ∷ behind) below in
-      let sees = c.scope_of-scope.ensures names p trail rest own objects stored in
+      let sees = c.scope_of-scope.ensures names p trail rest own (are.objects f.unit c.args.own.now c.requires.unit) stored in
       let result = ap (λ its. result_at its f.item) own ∙ c.requires.function.result_is in
-      ap is c.in-Return.is
-      ∙ acts_return p m r behind below (place_in f) place (arg_of c.in-Return.arg) (held_of names c.in-Ok-held_by.value)
+      acts_return names p trail t rest (stmt_of c.args.stmt.now) c.requires.at _ own c.requires.here
+      (arg_of c.in-Return.arg) (held_of names c.in-Ok-held_by.value) (ap stmt_of c.in-Return.is)
       (c.in-Ok-held_by.ensures names p m r sees)
       ∙ c.give_back-in-Ok-held_by.ensures.step names p trail r result are stored;
   stored = c.give_back-in-Ok-held_by.ensures.stored;
@@ -342,17 +276,11 @@ returns-in-Err-held_by c = record {
       let t = c.args.self.now in
       let f = t.top in
       let m = machine_in names trail t in
-      let below = below_in names p t.below.items in
       let own = items_so names p c.args.units.now f.unit c.args.own.now are c.requires.unit in
-      let objects = are.objects f.unit c.args.own.now c.requires.unit in
       let r = at_rest (running_in names p f) rest in
-      let behind = drop f.at (stmts_at (items_at p f.unit) f.item) in
-      let here = ap (λ its. slice_get (stmts_at its f.item) (f.at - 1)) own ∙ c.requires.here in
-      let place = place_is names p f rest (stmt_of c.args.stmt.now) c.requires.at here in
-      let is : Stmt → Step = λ s. act p m r (stmt_of s ∷ behind) below in
-      let sees = c.scope_of-scope.ensures names p trail rest own objects stored in
-      ap is c.in-Return.is
-      ∙ acts_return_badly p m r behind below (place_in f) place (arg_of c.in-Return.arg) c.in-Err-held_by.fault
+      let sees = c.scope_of-scope.ensures names p trail rest own (are.objects f.unit c.args.own.now c.requires.unit) stored in
+      acts_return_badly names p trail t rest (stmt_of c.args.stmt.now) c.requires.at _ own c.requires.here
+      (arg_of c.in-Return.arg) c.in-Err-held_by.fault (ap stmt_of c.in-Return.is)
       (same_fault names c.in-Err-held_by.fault ∙ c.in-Err-held_by.ensures names p m r sees)
       ∙ c.faulted-in-Err-held_by.ensures names p trail t;
   stored = λ names s. s;

@@ -1,4 +1,6 @@
-use Rattle.c_thread.proofs.Common.{◌≡◌, ◌+◌, map, drop, Some, None, Option, option_map, sym, ap, ◌∙◌, arith, length-map, stmt_of, Stuck, Stops, at_rest, next, after_label-drop, entry_within, label_in, label_name, stmts_at, below_in, items_at, machine_in, running_in}
+use Rattle.c_thread.proofs.Common.{◌≡◌, ◌+◌, map, drop, Some, None, Option, option_map, sym, ap, ◌∙◌, arith, length-map, stmt_of, Stuck}
+use Rattle.c_thread.proofs.Common.{Stops, at_rest, next, after_label-drop, entry_within, label_in, label_name, stmts_at, below_in, items_at}
+use Rattle.c_thread.proofs.Common.{machine_in, running_in}
 use Rattle.c_thread.proofs.linked.LinkedThread.go_to.Goals as goal
 
 pub overflow_add-self : goal.overflow_add-self

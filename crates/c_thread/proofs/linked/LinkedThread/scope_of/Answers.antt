@@ -1,4 +1,5 @@
-use Rattle.c_thread.proofs.Common.{sym, refl, ap, ◌∙◌, subst, unit_of, at_rest, Finds, number_in, names_at, held_vars, items_at, running_in, UnitScope}
+use Rattle.c_thread.proofs.Common.{sym, refl, ap, ◌∙◌, subst, unit_of, at_rest, Finds, number_in, names_at, held_vars, items_at, running_in}
+use Rattle.c_thread.proofs.Common.{UnitScope}
 use Rattle.c_thread.proofs.Sights.{sees}
 use Rattle.c_thread.proofs.linked.LinkedThread.scope_of.Goals as goal
 

@@ -1,4 +1,5 @@
-use Rattle.c_thread.proofs.Common.{◌≡◌, map, drop, slice_get, sym, ap, ◌∙◌, subst, arith, length-map, slice_get_within, stmt_of, behind_labels, IsNext, stmts_at, items_at}
+use Rattle.c_thread.proofs.Common.{◌≡◌, map, drop, slice_get, sym, ap, ◌∙◌, subst, arith, length-map, slice_get_within, stmt_of}
+use Rattle.c_thread.proofs.Common.{behind_labels, IsNext, stmts_at, items_at}
 use Rattle.c_thread.proofs.Units.{items_so, no_items}
 use Rattle.c_thread.proofs.Acts.{ends, goes, no_item, nothing}
 use Rattle.c_thread.proofs.linked.LinkedThread.step.Goals as goal

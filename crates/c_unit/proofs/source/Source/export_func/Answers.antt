@@ -1,4 +1,5 @@
-use Rattle.c_unit.proofs.Common.{◌≡◌, IfOk, ap, ◌∙◌, subst, NamedModule, global_name, memory_name, table_name, named_of, pair_of, export_symbol, export_type, global_imports, memory_imports, table_imports, module_of}
+use Rattle.c_unit.proofs.Common.{◌≡◌, IfOk, ap, ◌∙◌, subst, NamedModule, global_name, memory_name, table_name, named_of, pair_of}
+use Rattle.c_unit.proofs.Common.{export_symbol, export_type, global_imports, memory_imports, table_imports, module_of}
 use Rattle.c_tree.specs.Tree as tree
 use Rattle.c_tree.specs.View.{func_of}
 use Rattle.c_unit.proofs.Accesses.{given_at, table_export, memory_export, global_export}

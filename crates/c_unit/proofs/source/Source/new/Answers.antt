@@ -7,7 +7,7 @@ under name m = record { name = name; tree = m }
 
 pub invariant_of-result-clause-few_entries : goal.invariant_of-result-clause-few_entries
 invariant_of-result-clause-few_entries c =
-    few_entries c.module-tree.result.now c.module-tree.ensures.valid c.module-tree.ensures.formed
+    few_entries c.module-tree.result.now c.module-tree.ensures.valid c.module-tree.ensures.within
 
 pub invariant_of-result-clause-spaces_are : goal.invariant_of-result-clause-spaces_are
 invariant_of-result-clause-spaces_are c = c.in_ok-spaces.ensures ∙ ap (under c.args.name.now) (sym c.module-tree.ensures.same)

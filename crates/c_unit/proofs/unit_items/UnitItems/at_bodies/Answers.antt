@@ -1,4 +1,5 @@
-use Rattle.c_unit.proofs.Common.{◌≡◌, ◌-◌, ◌<◌, ◌≤◌, length, IfOk, slice_get, option_map, ap, ◌∙◌, subst, arith, Function, item_of, module_of, from_exports}
+use Rattle.c_unit.proofs.Common.{◌≡◌, ◌-◌, ◌<◌, ◌≤◌, length, IfOk, slice_get, option_map, ap, ◌∙◌, subst, arith, Function, item_of}
+use Rattle.c_unit.proofs.Common.{module_of, from_exports}
 use Rattle.c_unit.proofs.Standing.{body_there, body_past}
 use Rattle.c_unit.proofs.unit_items.UnitItems.at_bodies.Goals as goal
 

@@ -1,4 +1,5 @@
-use Rattle.c_unit.proofs.Common.{◌≡◌, ◌-◌, ◌<◌, ◌≤◌, length, IfOk, slice_get, option_map, ap, ◌∙◌, subst, arith, item_of, module_of, from_helpers}
+use Rattle.c_unit.proofs.Common.{◌≡◌, ◌-◌, ◌<◌, ◌≤◌, length, IfOk, slice_get, option_map, ap, ◌∙◌, subst, arith, item_of, module_of}
+use Rattle.c_unit.proofs.Common.{from_helpers}
 use Rattle.c_unit.proofs.Standing.{prototype_there, prototype_past}
 use Rattle.c_unit.proofs.unit_items.UnitItems.at_prototypes.Goals as goal
 

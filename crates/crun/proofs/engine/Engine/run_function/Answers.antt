@@ -1,13 +1,15 @@
-use Rattle.crun.proofs.Common.{◌-◌, [], Some, sym, refl, ap, ◌∙◌, subst, Call, AreStored, HaveUnitTables, LinkedThread, trail_before, trail_behind, IsReady, naming_in, program_in, Engine}
+use Rattle.crun.proofs.Common.{◌-◌, [], Some, sym, refl, ap, ◌∙◌, subst, Call, AreStored, HaveUnitTables, LinkedThread, trail_before}
+use Rattle.crun.proofs.Common.{trail_behind, IsReady, naming_in, program_in}
 use Rattle.crun.proofs.Functions.{
   alone_in,
   asks_none,
   came_part,
   came_there,
+  engine_behind,
   has_outcome,
   if_ended,
   outcome_came,
-  same_hosts,
+  same_behind,
   still_ready,
   told_nothing,
   typed_behind,
@@ -43,29 +45,8 @@ returns-in-Err-came-clause-wanting g c =
 
 pub returns-in-Err-came-clause-same : goal.returns-in-Err-came-clause-same
 returns-in-Err-came-clause-same g c =
-    let behind : Engine g.row.H.Denot = record {
-      linked = c.args.self.now.linked;
-      startup = record {
-        units = c.args.self.now.startup.units;
-        symbols = c.args.self.now.startup.symbols;
-        types = c.args.self.now.startup.types;
-        store = c.run-came.new.thread.store;
-      };
-      depth = c.run-came.new.thread.depth;
-      hosts = c.run-came.new.hosts;
-      left = c.run-came.new.steps;
-      not_made = c.args.self.now.not_made;
-    } in
     let ran = c.in-Err-came.ensures.wanting in
-    record {
-      linked = refl;
-      units = refl;
-      types = refl;
-      symbols = refl;
-      not_made = refl;
-      hosts = same_hosts g.H.HostModule c.args.self.now
-          behind ran.0 ran.1;
-    }
+    same_behind g.H.HostModule c.args.self.now c.run-came.new.thread c.run-came.new.hosts c.run-came.new.steps ran.0 ran.1
 
 pub unreachable-requires : goal.unreachable-requires
 unreachable-requires g c =
@@ -97,30 +78,11 @@ returns-clause-came g c =
 pub returns-clause-ready : goal.returns-clause-ready
 returns-clause-ready g c =
     let t : LinkedThread = record { depth = c.args.self.now.depth; store = c.replace.result; top = c.in-Ok.top; below = c.new-2.result } in
-    let behind : Engine g.row.H.Denot = record {
-      linked = c.args.self.now.linked;
-      startup = record {
-        units = c.args.self.now.startup.units;
-        symbols = c.args.self.now.startup.symbols;
-        types = c.args.self.now.startup.types;
-        store = c.run-came.new.thread.store;
-      };
-      depth = c.run-came.new.thread.depth;
-      hosts = c.run-came.new.hosts;
-      left = c.run-came.new.steps;
-      not_made = c.args.self.now.not_made;
-    } in
+    let behind = engine_behind c.args.self.now c.run-came.new.thread c.run-came.new.hosts c.run-came.new.steps in
     let ran = c.in-Ok-came.ensures.ran in
     if_ended c.in-Some.outcome (IsReady g.H.HostModule behind) (λ value is. still_ready g.H.HostModule c.args.self.now behind
-    (record {
-      linked = refl;
-      units = refl;
-      types = refl;
-      symbols = refl;
-      not_made = refl;
-      hosts = same_hosts g.H.HostModule
-          c.args.self.now behind ran.0 ran.1;
-    }) c.requires.ready
+    (same_behind g.H.HostModule c.args.self.now c.run-came.new.thread c.run-came.new.hosts c.run-came.new.steps ran.0 ran.1)
+    c.requires.ready
     (c.in-Ok-came.ensures.stored (naming_in c.args.self.now) (subst (λ s. AreStored (naming_in c.args.self.now) s.units.items)
     (sym c.replace.ensures.value) c.requires.ready.stored))
     (typed_behind g.H.HostModule c.args.self.now c.args.unit c.args.item c.args.args.now c.requires.ready c.requires.begins
@@ -138,26 +100,5 @@ returns-clause-stored g c =
 
 pub returns-clause-same : goal.returns-clause-same
 returns-clause-same g c =
-    let behind : Engine g.row.H.Denot = record {
-      linked = c.args.self.now.linked;
-      startup = record {
-        units = c.args.self.now.startup.units;
-        symbols = c.args.self.now.startup.symbols;
-        types = c.args.self.now.startup.types;
-        store = c.run-came.new.thread.store;
-      };
-      depth = c.run-came.new.thread.depth;
-      hosts = c.run-came.new.hosts;
-      left = c.run-came.new.steps;
-      not_made = c.args.self.now.not_made;
-    } in
     let ran = c.in-Ok-came.ensures.ran in
-    record {
-      linked = refl;
-      units = refl;
-      types = refl;
-      symbols = refl;
-      not_made = refl;
-      hosts = same_hosts g.H.HostModule c.args.self.now
-          behind ran.0 ran.1;
-    }
+    same_behind g.H.HostModule c.args.self.now c.run-came.new.thread c.run-came.new.hosts c.run-came.new.steps ran.0 ran.1

@@ -1,4 +1,6 @@
-use Rattle.crun.proofs.Common.{◌≡◌, ℕ, ◌+◌, ◌-◌, ◌≤◌, [], map, length, slice_index_or, None, sym, refl, ◌∙◌, subst, arith, Init, unit_of, c_run, entries_of, AreStored, events_in, replies_in, naming_of, FunctionCame, IfEnded, IsReady, naming_in, program_in, units_at, BehindAt, IsOutcome}
+use Rattle.crun.proofs.Common.{◌≡◌, ℕ, ◌+◌, ◌-◌, ◌≤◌, [], map, length, slice_index_or, None, sym, refl, ◌∙◌, subst, arith, Init, unit_of}
+use Rattle.crun.proofs.Common.{c_run, entries_of, AreStored, events_in, replies_in, naming_of, FunctionCame, IfEnded, IsReady, naming_in}
+use Rattle.crun.proofs.Common.{program_in, units_at, BehindAt, IsOutcome}
 use Rattle.crun.specs.declared.outcome.Outcome.TheVariants as outcome
 use Rattle.crun.proofs.Functions.{asks_none, if_ended}
 use Rattle.crun.proofs.InitsBehind.{

@@ -1,4 +1,5 @@
-use Rattle.crun.proofs.Common.{◌≡◌, List, ◌∷◌, ◌++◌, map, length, sym, refl, ap, ◌∙◌, subst, arith, Ask, Call, asks_in, unit_of, c_run, AreStored, hosts_of, ask_of, replies_in, Asks, naming_of, units_at, IsOutcome, Stands, program_of, told_by}
+use Rattle.crun.proofs.Common.{◌≡◌, List, ◌∷◌, ◌++◌, map, length, sym, refl, ap, ◌∙◌, subst, arith, Ask, Call, asks_in, unit_of, c_run}
+use Rattle.crun.proofs.Common.{AreStored, hosts_of, ask_of, replies_in, Asks, naming_of, units_at, IsOutcome, Stands, program_of, told_by}
 use Rattle.crun.specs.declared.outcome.Kept.TheVariants as kept
 use Rattle.crun.proofs.CallsBehind.{call_asked, call_ran, call_stands}
 use Rattle.crun.proofs.Functions.{still_started}

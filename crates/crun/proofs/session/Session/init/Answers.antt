@@ -1,4 +1,6 @@
-use Rattle.crun.proofs.Common.{◌≡◌, ◌-◌, ◌≤◌, List, [], ◌++◌, map, length, sym, refl, ap, ◌∙◌, subst, arith, Ask, Init, asks_in, c_run, entries_of, ask_of, events_in, replies_in, address_in, machine_with, naming_in, program_in, units_at, BehindAt, init_count, phase_of, program_of, trail_of}
+use Rattle.crun.proofs.Common.{◌≡◌, ◌-◌, ◌≤◌, List, [], ◌++◌, map, length, sym, refl, ap, ◌∙◌, subst, arith, Ask, Init, asks_in, c_run}
+use Rattle.crun.proofs.Common.{entries_of, ask_of, events_in, replies_in, address_in, machine_with, naming_in, program_in, units_at}
+use Rattle.crun.proofs.Common.{BehindAt, init_count, phase_of, program_of, trail_of}
 use Rattle.crun.specs.declared.outcome.Kept.TheVariants as kept
 use Rattle.crun.proofs.Functions.{same_program, still_started}
 use Rattle.crun.proofs.History.{no_values_told}

@@ -1,4 +1,5 @@
-use Rattle.crun_job.proofs.Common.{map, length, sym, refl, ap, ◌∙◌, subst, unit_of, c_symbols, call_lines_of, seen_run, AreCalls, IsFirstRefusedLine, AreLinked, IsWithin, RefusesUnits, calls_seen, reason_of, StopsUnit}
+use Rattle.crun_job.proofs.Common.{map, length, sym, refl, ap, ◌∙◌, subst, unit_of, c_symbols, call_lines_of, seen_run, AreCalls}
+use Rattle.crun_job.proofs.Common.{IsFirstRefusedLine, AreLinked, IsWithin, RefusesUnits, calls_seen, reason_of, StopsUnit}
 use Rattle.w2c_files.specs.Words.{names_of}
 use Rattle.crun_job.proofs.Tasks.{unit_stops}
 use Rattle.crun_job.proofs.task.Task.of_inputs.Goals as goal

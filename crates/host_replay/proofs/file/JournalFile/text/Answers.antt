@@ -1,4 +1,5 @@
-use Rattle.host_replay.proofs.Common.{◌≡◌, ◌≤◌, List, ◌++◌, length, flat_map, ap, ◌∙◌, subst, take_all, rules, AllByRecursion, Asked, modules_of, recorded, entry_text, journal_text, module_text, HasNumbers}
+use Rattle.host_replay.proofs.Common.{◌≡◌, ◌≤◌, List, ◌++◌, length, flat_map, ap, ◌∙◌, subst, take_all, rules, AllByRecursion, Asked}
+use Rattle.host_replay.proofs.Common.{modules_of, recorded, entry_text, journal_text, module_text, HasNumbers}
 use Rattle.host_replay.proofs.Spelled.{read_back}
 use Rattle.host_replay.proofs.file.JournalFile.text.Goals as goal
 

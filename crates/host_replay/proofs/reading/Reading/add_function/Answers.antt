@@ -1,5 +1,6 @@
-use Rattle.host_replay.proofs.Common.{◌≡◌, true, false, List, [], length, is_some, subst, rules, named, modules_of, IsNewIn, recorded, JournalModule}
-use Rattle.host_replay.proofs.Known.{added, at_some, known_already, known_more, no_items}
+use Rattle.host_replay.proofs.Common.{◌≡◌, true, false, List, [], length, is_some, subst, rules, named, modules_of, IsNewIn, recorded}
+use Rattle.host_replay.proofs.Common.{JournalModule, nil_from_length}
+use Rattle.host_replay.proofs.Known.{added, at_some, known_already, known_more}
 use Rattle.host_replay.proofs.reading.Reading.add_function.Goals as goal
 
 pub returns-then-has-clause-no : goal.returns-then-has-clause-no
@@ -27,7 +28,7 @@ returns-clause-yes c = λ _.
     (at_some _ _ c.in-Some.new c.in-Some.is c.in_ok-new.ensures.some) in
     let none : is_some (named c.in-Some.new.symbol c.args.self.now.places) ≡ false = search rules in
     let none_there : length c.args.self.now.file.entries.items ≡ 0 = search rules in
-    let empty : c.args.self.now.file.entries.items ≡ [] = no_items c.args.self.now.file.entries.items none_there in
+    let empty : c.args.self.now.file.entries.items ≡ [] = nil_from_length c.args.self.now.file.entries.items none_there in
     added (recorded c.args.self.now.file) c.args.f c.in-Some.new is c.args.self.now.places c.requires none empty
     (recorded c.push_function.new.self)
     c.in_ok-push_function.ensures

@@ -1,4 +1,5 @@
-use Rattle.host_replay.proofs.Common.{◌≡◌, true, List, map, slice_get, Some, sym, refl, ap, ◌∙◌, subst, list_all, function_of, Asked, modules_of, calls_of, fits_own}
+use Rattle.host_replay.proofs.Common.{◌≡◌, true, List, map, slice_get, Some, sym, refl, ap, ◌∙◌, subst, list_all, function_of, Asked}
+use Rattle.host_replay.proofs.Common.{modules_of, calls_of, fits_own}
 use Rattle.host_replay.proofs.Replays.{calls_fit, module_at}
 use Rattle.host_replay.proofs.replay.ReplayHost.new.Goals as goal
 

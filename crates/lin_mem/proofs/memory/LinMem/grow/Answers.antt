@@ -1,4 +1,5 @@
-use Rattle.lin_mem.proofs.Common.{◌≡◌, ℕ, ◌*◌, List, ◌++◌, length, replicate, All, ap, ◌∙◌, arith, length-append, All-append, All-same, All-weaker, concat}
+use Rattle.lin_mem.proofs.Common.{◌≡◌, ℕ, ◌*◌, List, ◌++◌, length, replicate, All, ap, ◌∙◌, arith, length-append, All-append, All-same}
+use Rattle.lin_mem.proofs.Common.{All-weaker, concat}
 use Rattle.lin_mem.proofs.Pages.{concat-append, concat-zeros, length-concat}
 use Rattle.lin_mem.proofs.memory.LinMem.grow.Goals as goal
 

@@ -1,4 +1,5 @@
-use Rattle.lin_mem.proofs.Common.{◌≡◌, ◌+◌, ◌-◌, ◌*◌, ◌/◌, ◌%◌, ◌<◌, length, take, drop, ap, ◌∙◌, arith, length-drop, take-append-drop, length-take-le, take_all, with_bytes}
+use Rattle.lin_mem.proofs.Common.{◌≡◌, ◌+◌, ◌-◌, ◌*◌, ◌/◌, ◌%◌, ◌<◌, length, take, drop, ap, ◌∙◌, arith, length-drop, take-append-drop}
+use Rattle.lin_mem.proofs.Common.{length-take-le, take_all, with_bytes}
 use Rattle.lin_mem.proofs.Pages.{with_bytes-twice}
 use Rattle.lin_mem.proofs.memory.LinMem.put.Goals as goal
 

@@ -1,5 +1,6 @@
 use Rattle.lin_mem.proofs.Common.{◌≡◌, ◌+◌, ◌-◌, ◌*◌, ◌<◌, [], length, get_or, take, drop, sym, ap, ◌∙◌, arith, concat}
-use Rattle.lin_mem.proofs.Pages.{get_or-any, length-concat, slice-concat}
+use Rattle.w2c_base.proofs.Places.{same_at}
+use Rattle.lin_mem.proofs.Pages.{length-concat, slice-concat}
 use Rattle.lin_mem.proofs.memory.LinMem.read_page.Goals as goal
 
 pub index-requires : goal.index-requires
@@ -22,7 +23,7 @@ returns c =
     let ps = c.self.inside.pages.items in let i = c.args.page in let j = c.args.offset in let n = length c.args.out.now in
     let e : length (concat ps) ≡ length c.args.self.now.bytes = ap (λ m. length m.bytes) c.self.view_is in
     let lt : i < length ps = omega (arith, length-concat 65536 ps c.self.invariant.0, e) in
-    let is : c.bytes.result.now ≡ get_or ps i [] = c.bytes.ensures ∙ c.index.ensures ∙ get_or-any ps i c.index.result.now [] lt in
+    let is : c.bytes.result.now ≡ get_or ps i [] = c.bytes.ensures ∙ c.index.ensures ∙ same_at ps i c.index.result.now [] lt in
     let count : j + n - j ≡ n = omega arith in
     let back : n ≡ 65536 * i + j + n - (65536 * i + j) = omega arith in
     c.copy_from_slice.ensures.after

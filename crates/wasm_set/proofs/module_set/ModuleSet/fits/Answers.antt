@@ -1,4 +1,5 @@
-use Rattle.wasm_set.proofs.Common.{◌≡◌, true, false, List, sym, ap, ◌∙◌, subst, false≢true, IsLinked, module_named, module_takes, set_of, SetModule}
+use Rattle.wasm_set.proofs.Common.{◌≡◌, true, false, List, sym, ap, ◌∙◌, subst, false≢true, IsLinked, module_named, module_takes, set_of}
+use Rattle.wasm_set.proofs.Common.{SetModule}
 use Rattle.wasm_set.proofs.Calls.{taken_fits, fits_is_taken}
 use Rattle.wasm_set.proofs.module_set.ModuleSet.fits.Goals as goal
 

@@ -1,4 +1,5 @@
-use Rattle.wasm_set.proofs.Common.{◌≡◌, List, [], ◌∷◌, ◌++◌, sym, ap, ◌∙◌, subst, false≢true, named, Module, IsLinked, offers, set_of, AreTables, OfferTable, SetModule}
+use Rattle.wasm_set.proofs.Common.{◌≡◌, List, [], ◌∷◌, ◌++◌, sym, ap, ◌∙◌, subst, false≢true, named, Module, IsLinked, offers, set_of}
+use Rattle.wasm_set.proofs.Common.{AreTables, OfferTable, SetModule}
 use Rattle.wasm_set.proofs.Joins.{place_told, joined_is_linked, linked_is_joined}
 use Rattle.wasm_set.proofs.Found.{table_more}
 use Rattle.wasm_set.proofs.module_set.ModuleSet.join.Goals as goal

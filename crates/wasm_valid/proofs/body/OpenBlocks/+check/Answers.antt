@@ -1,7 +1,12 @@
-use Rattle.wasm_valid.proofs.Common.{◌≡◌, ℕ, ◌+◌, ◌≤◌, List, reverse, OnOk, Ok, Err, Option, Result, sym, refl, ap, ◌∙◌, subst, rules, ValType, Code, If, code_size, kind_size, otherwise_size, code_tree, kind_tree, otherwise_tree, ElsePart, RustKind, cause_of, nothing, run, run_kind, step, Labels, Does, Plain, RanTo, Stays, labels_of, run_block, run_nested, seen, shown, ValidRefusal}
+use Rattle.wasm_tree.proofs.CodeSizes.{instr_smaller}
+use Rattle.wasm_valid.proofs.Common.{◌≡◌, ℕ, ◌+◌, ◌≤◌, List, reverse, OnOk, Ok, Err, Option, Result, sym, refl, ap, ◌∙◌, subst, rules}
+use Rattle.wasm_valid.proofs.Common.{ValType, Code, If, code_size, kind_size, otherwise_size, code_tree, kind_tree, otherwise_tree}
+use Rattle.wasm_valid.proofs.Common.{ElsePart, RustKind, cause_of, nothing, run, run_kind, step, Labels, Does, Plain, RanTo, Stays}
+use Rattle.wasm_valid.proofs.Common.{labels_of, run_block, run_nested, seen, shown, ValidRefusal}
 use Rattle.std.proofs.lemmas.Result.{err_from_is_err_and}
 use Rattle.wasm_valid.specs.declared.body.Block.{Block}
-use Rattle.wasm_valid.proofs.CodeSizes.{instr_smaller, code_below_block, block_below_nested, first_below_branches, second_below_branches, inside_below_instr, branches_below_instr, instr_below_code}
+use Rattle.wasm_valid.proofs.CodeSizes.{code_below_block, block_below_nested, first_below_branches, second_below_branches}
+use Rattle.wasm_valid.proofs.CodeSizes.{inside_below_instr, branches_below_instr, instr_below_code}
 use Rattle.wasm_valid.proofs.RunLists.{later_none, run_more, list_refused, run_all}
 use Rattle.wasm_valid.proofs.RunBlocks.{plain_ran, placed_kept, no_else_refused, else_ran}
 use Rattle.wasm_valid.proofs.body.OpenBlocks.+check.Goals as goal

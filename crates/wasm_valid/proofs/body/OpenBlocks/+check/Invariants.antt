@@ -1,4 +1,5 @@
-use Rattle.wasm_valid.proofs.Common.{◌≡◌, ℕ, ◌+◌, ◌*◌, drop, code_size, kind_size, otherwise_size, code_tree, kind_tree, otherwise_tree, later, run, Stays, labels_of, seen, shown}
+use Rattle.wasm_valid.proofs.Common.{◌≡◌, ℕ, ◌+◌, ◌*◌, drop, code_size, kind_size, otherwise_size, code_tree, kind_tree, otherwise_tree}
+use Rattle.wasm_valid.proofs.Common.{later, run, Stays, labels_of, seen, shown}
 use Rattle.wasm_valid.proofs.body.OpenBlocks.+check.Given as goal
 
 abbrev pub decreases-code : goal.decreases-code

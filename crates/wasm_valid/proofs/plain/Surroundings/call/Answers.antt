@@ -1,4 +1,5 @@
-use Rattle.wasm_valid.proofs.Common.{◌≡◌, map, reverse, slice_get, Some, option_map, option_copied, sym, ap, ◌∙◌, slice_get-map, seen, type_seen, shown}
+use Rattle.wasm_valid.proofs.Common.{◌≡◌, map, reverse, slice_get, Some, option_map, option_copied, sym, ap, ◌∙◌, slice_get-map, seen}
+use Rattle.wasm_valid.proofs.Common.{type_seen, shown}
 use Rattle.wasm_valid.proofs.Steps.{called}
 use Rattle.wasm_valid.proofs.plain.Surroundings.call.Goals as goal
 

@@ -1,4 +1,5 @@
-use Rattle.wasm_valid.proofs.Common.{◌≡◌, ◌<◌, map, reverse, length, slice_get, Some, option_copied, sym, ap, ◌∙◌, arith, slice_get-map, some_first, seen, shown}
+use Rattle.wasm_valid.proofs.Common.{◌≡◌, ◌<◌, map, reverse, length, slice_get, Some, option_copied, sym, ap, ◌∙◌, arith, slice_get-map}
+use Rattle.wasm_valid.proofs.Common.{some_first, seen, shown}
 use Rattle.wasm_valid.proofs.Steps.{called_by_index}
 use Rattle.wasm_valid.proofs.plain.Surroundings.call_indirect.Goals as goal
 

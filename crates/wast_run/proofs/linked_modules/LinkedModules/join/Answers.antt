@@ -1,4 +1,5 @@
-use Rattle.wast_run.proofs.Common.{◌≡◌, ℕ, List, [], ◌∷◌, ◌++◌, sym, ap, ◌∙◌, subst, unit_of, set_of, SetModule, items, IsAccepted, IsAcceptedSet, program_of, units_in}
+use Rattle.wast_run.proofs.Common.{◌≡◌, ℕ, List, [], ◌∷◌, ◌++◌, sym, ap, ◌∙◌, subst, unit_of, set_of, SetModule, items, IsAccepted}
+use Rattle.wast_run.proofs.Common.{IsAcceptedSet, program_of, units_in}
 use Rattle.wast_run.proofs.JoinedUnits.{links_more, set_more, units_more}
 use Rattle.wast_run.proofs.linked_modules.LinkedModules.join.Goals as goal
 

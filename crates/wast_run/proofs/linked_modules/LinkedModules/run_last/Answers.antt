@@ -1,4 +1,5 @@
-use Rattle.wast_run.proofs.Common.{[], ◌∷◌, ◌++◌, length, sym, ap, ◌∙◌, subst, Fits, set_of, AllFit, program_of, HasNoHosts, units_in, alone, symbols_of, listed_call, listed_calls}
+use Rattle.wast_run.proofs.Common.{[], ◌∷◌, ◌++◌, length, sym, ap, ◌∙◌, subst, Fits, set_of, AllFit, program_of, HasNoHosts, units_in}
+use Rattle.wast_run.proofs.Common.{alone, symbols_of, listed_call, listed_calls}
 use Rattle.w2c_sim.proofs.Wiring.{calls_fit}
 use Rattle.wast_run.proofs.Comes.{all_fit, came_to_something, count_is, has_come, is_long, ran_by_set, symbols_are}
 use Rattle.wast_run.proofs.JoinedUnits.{none_fits}
