@@ -10,7 +10,7 @@ here=$(cd "$(dirname "$0")" && pwd)
 top=$here/../..
 work=$(mktemp -d)
 trap 'rm -rf "$work"' EXIT
-names='w2c_base w2c_mangle wasm_tree wasm_meaning c_tree c_print c_meaning c_prelude'
+names='w2c_base w2c_mangle wasm_tree wasm_meaning c_tree c_print c_helpers c_meaning c_prelude'
 sh "$here/../copy_crates.sh" "$work" $names
 mkdir -p "$work/crates/c_prelude_bench/src"
 cp "$here/main.rt.txt" "$work/crates/c_prelude_bench/src/main.rt"

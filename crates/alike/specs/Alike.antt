@@ -1,8 +1,8 @@
 -- When the run of a linked set and the run of its modules' units, in the same order, end alike
 -- (WebAssembly Core 1.0, 4.2; C11, 5.1.2.3): equal to everybody who calls exports, answers for
 -- hosts, and looks at memories, tables and globals.
-use Rattle.std.specs.Prelude.{◌≡◌, ℕ, suc, ◌⊎◌, ◌==◌, ◌&&◌, ◌||◌, not, nat_lt, Bool, true, false, IsTrue, List, [], ◌∷◌, ◌++◌, codes}
-use Rattle.std.specs.Prelude.{decimal, slice_get, Option, Some, None, ⊤}
+use Rattle.std.specs.Prelude.{◌≡◌, ℕ, suc, ◌⊎◌, ◌==◌, ◌&&◌, ◌||◌, not, nat_lt, Bool, true, false, IsTrue, List, [], ◌∷◌, slice_get, Option}
+use Rattle.std.specs.Prelude.{Some, None, ⊤}
 use Rattle.w2c_base.specs.declared.value.Value.{Value}
 use Rattle.w2c_base.specs.declared.signature.FuncType.{FuncType}
 use Rattle.w2c_base.specs.declared.trap.TrapKind.TheVariants as trap
@@ -12,26 +12,13 @@ use Rattle.w2c_base.specs.Signature.{sig_number_of}
 use Rattle.w2c_mangle.specs.declared.symbol.SymbolKind.TheVariants as symbol
 use Rattle.w2c_mangle.specs.Symbols.{export_symbol_of}
 use Rattle.wasm_tree.specs.IndexSpaces.{imported_globals}
+use Rattle.c_tree.specs.DefinedNames.{memory_name, table_name, func_name, global_name}
 use Rattle.wasm_meaning.specs.LinkedSet as link
 use Rattle.wasm_meaning.specs.Store as store
 use Rattle.wasm_meaning.specs.Execution as exec
 use Rattle.wasm_meaning.specs.Run as wasm
 use Rattle.c_meaning.specs.State as state
 use Rattle.c_meaning.specs.Run as c
-
--- the names in a unit of its memory, its table, and the functions and globals that it defines,
--- numbered as in the module, imports first
-abbrev pub memory_name : List ℕ
-memory_name = codes "m0"
-
-abbrev pub table_name : List ℕ
-table_name = codes "t0"
-
-abbrev pub func_name : ℕ → List ℕ
-func_name k = codes "f" ++ decimal k
-
-abbrev pub global_name : ℕ → List ℕ
-global_name k = codes "g" ++ decimal k
 
 abbrev pub OutcomesAlike : wasm.Outcome → c.Outcome → Type 0
 OutcomesAlike wasm.Ended c.Ended = ⊤

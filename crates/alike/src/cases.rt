@@ -2,7 +2,8 @@
 ghost use Rattle.std.specs.Prelude.{◌≡◌, true, false, [], ◌∷◌, codes, None};
 ghost use Rattle.w2c_base.specs.declared.trap.TrapKind.TheVariants.{Unreachable, MemoryOut};
 ghost use Rattle.w2c_base.specs.declared.value.Value.TheVariants.{I32, I64};
-ghost use Rattle.alike.specs.Alike.{Alike, global_name, got_past_limits};
+ghost use Rattle.c_tree.specs.DefinedNames.{global_name};
+ghost use Rattle.alike.specs.Alike.{Alike, got_past_limits};
 ghost use Rattle.alike.specs.Samples.{linked, run_unit, module_run, unit_run, module_memory, unit_memory, own, static_func, exported_func};
 ghost use Rattle.wasm_meaning.specs.Samples as wasm;
 ghost use Rattle.wasm_meaning.specs.Execution as exec;

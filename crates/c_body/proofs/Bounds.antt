@@ -1,10 +1,10 @@
 -- What a module within the limits has at most, as its unit counts: labels, operands, numbers.
-use Rattle.c_body.proofs.Common.{◌≡◌, ◌+◌, ◌≤◌, Bool, true, false, not, ◌&&◌, ◌||◌, [], refl, arith, Block, BrIf, BrTable, Code, If, Kind}
-use Rattle.c_body.proofs.Common.{Loop, Otherwise, Select, else_code, end_code, no_else, then_code, code_size, kind_size, otherwise_size}
-use Rattle.c_body.proofs.Common.{BodyEntry, Module, BodyIsWithin, WithinLimits, least_bytes, least_bytes_of, least_bytes_of_else, some_in}
-use Rattle.c_body.proofs.Common.{some_in_else, some_inside, any_in, any_in_else, any_inside, labels_in, labels_in_else, labels_of}
-use Rattle.c_body.proofs.Common.{BodyHasLimits, HasLimits, ends, true≢false}
-use Rattle.c_body.proofs.Lists.{all_weaker}
+use Rattle.c_body.proofs.Common.{◌≡◌, ℕ, ◌^◌, ◌<◌, Bool, true, false, not, nat_lt, refl, arith, nat_tests, ◌+◌, ◌≤◌, ◌&&◌, ◌||◌, [], Block}
+use Rattle.c_body.proofs.Common.{BrIf, BrTable, Code, If, Kind, Loop, Otherwise, Select, else_code, end_code, no_else, then_code, code_size}
+use Rattle.c_body.proofs.Common.{kind_size, otherwise_size, BodyEntry, Module, BodyIsWithin, WithinLimits, least_bytes, least_bytes_of}
+use Rattle.c_body.proofs.Common.{least_bytes_of_else, some_in, some_in_else, some_inside, any_in, any_in_else, any_inside, labels_in}
+use Rattle.c_body.proofs.Common.{labels_in_else, labels_of, BodyHasLimits, HasLimits, ends, true≢false}
+use Rattle.w2c_base.proofs.Lists.{all_weaker}
 use Rattle.c_body.proofs.Peaks.{peak_few}
 
 mutual
@@ -104,3 +104,10 @@ within_of m h =
       elements = all_weaker _ _ m.elements (λ e n. omega (arith, n)) h.elements;
       bodies = all_weaker BodyIsWithin BodyHasLimits m.bodies body_limits h.bodies;
     }
+
+pub not_wide : (n : ℕ) → not (nat_lt n 4294967296) ≡ false → n < 2 ^ 32
+not_wide n e = go (nat_lt n 4294967296) refl e
+  where
+    go : (b : Bool) → nat_lt n 4294967296 ≡ b → not b ≡ false → n < 2 ^ 32
+    go true is e = grind (arith, nat_tests, is)
+    go false is e = absurd cc

@@ -8,18 +8,18 @@ use Rattle.c_body.proofs.Common.{compare_typing, eqz_typing, extend_typing, load
 use Rattle.c_body.proofs.Common.{context_of, ElseHasType, HasType, KindHasType, Stack, TurnsAsTabled, table_type, values, IsValid}
 use Rattle.c_body.proofs.Common.{bodies_of, begun, Inside, any_in, any_in_else, any_inside, labels_in, labels_in_else, labels_of}
 use Rattle.c_body.proofs.Common.{BodyHasLimits, Made, in_first, in_second, popped, ran, ran_instr, ran_kind, unless_dead, with_labels}
-use Rattle.c_body.proofs.Common.{made_by, Covered, Setting, BodyIsReady, CodeIsReady, HasOperands, HaveFewParams, InsideIsReady, IsReached}
-use Rattle.c_body.proofs.Common.{KindIsReached, KindIsReady, PlainIsReady, operands_in, takes, Keeps, after, ends, stands, step_of, taken}
-use Rattle.c_body.proofs.Common.{Mark, Operands, or_parts, WithinLimits}
+use Rattle.c_body.proofs.Common.{made_by, Covered, Setting, BodyIsReady, CodeIsReady, HasOperands, InsideIsReady, IsReached, KindIsReached}
+use Rattle.c_body.proofs.Common.{KindIsReady, PlainIsReady, operands_in, takes, Keeps, after, ends, stands, step_of, taken, Mark, Operands}
+use Rattle.c_body.proofs.Common.{or_parts, WithinLimits}
 use Rattle.wasm_tree.specs.Instructions as wasm
-use Rattle.c_body.specs.declared.steps.Step.{Step}
-use Rattle.c_body.specs.declared.emitter.Emitter.{Emitter}
-use Rattle.c_body.specs.Shown.{types_of}
-use Rattle.c_body.proofs.Own.{typed_body, few_params}
+use Rattle.c_helpers.specs.declared.steps.Step.{Step}
+use Rattle.c_helpers.proofs.CodeLists.{code_more}
+use Rattle.body_emitter.specs.declared.emitter.Emitter.{Emitter}
+use Rattle.body_emitter.specs.Shown.{types_of}
+use Rattle.c_body.proofs.TypedBodies.{typed_body}
 use Rattle.c_body.proofs.Zipped.{pair_at}
 use Rattle.c_body.proofs.Bounds.{within_of}
 use Rattle.c_body.proofs.Heights.{after_typed}
-use Rattle.c_body.proofs.CodeLists.{code_more}
 use Rattle.c_body.proofs.Marked.{covered_drop}
 use Rattle.c_body.proofs.Went.{Went, Goes}
 use Rattle.c_body.proofs.WentBlocks.{second_ready}
@@ -359,10 +359,6 @@ defined_ready m index func body ty valid within f b is =
             → (i : ℕ) × (slice_get xs i ≡ Some x)
         go true e = absurd cc
         go false e = (index - imported_funcs m, e)
-
-pub few_params_of : (m : Module) → WithinLimits m → HaveFewParams m
-few_params_of m within = λ t ty is.
-    few_params m t ty (within_of m within) (sym (slice_get-map (λ (t : TypeEntry). t.ty) m.types t) ∙ sym is)
 
 -- what holds of a module that was checked holds of the same module
 pub valid_alike : (a b c : Module) → a ≡ b → b ≡ c → IsValid a → IsValid c

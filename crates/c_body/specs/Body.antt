@@ -1,7 +1,7 @@
 -- The static function of a module's function (WebAssembly Core 1.0, 2.5.3 functions and 4.4.7.1
 -- invocation): a test of the depth of calls, the code, and one exit, which counts the depth down.
-use Rattle.std.specs.Prelude.{filter, ℕ, suc, ◌||◌, max, Bool, true, false, if◌then◌else◌, List, [], ◌∷◌, ◌++◌, map, length, Option, Some}
-use Rattle.std.specs.Prelude.{None, option_map, unwrap_or}
+use Rattle.std.specs.Prelude.{filter, ℕ, ◌||◌, max, Bool, true, false, if◌then◌else◌, List, [], ◌∷◌, ◌++◌, map, length, Option, Some, None}
+use Rattle.std.specs.Prelude.{option_map, unwrap_or}
 use Rattle.std.specs.List.{range_with_len}
 use Rattle.w2c_base.specs.declared.value.ValType.{ValType}
 use Rattle.w2c_base.specs.declared.value.ValType.TheVariants as type
@@ -13,49 +13,29 @@ use Rattle.wasm_tree.specs.declared.entries.FuncEntry.{FuncEntry}
 use Rattle.wasm_tree.specs.declared.entries.BodyEntry.{BodyEntry}
 use Rattle.wasm_tree.specs.IndexSpaces.{type_in, declared_locals, at_defined}
 use Rattle.wasm_tree.specs.Instructions.{Code, Kind, Return, CallIndirect}
-use Rattle.wasm_meaning.specs.LinkedSet.{NamedModule}
+use Rattle.wasm_tree.specs.NamedModule.{NamedModule}
 use Rattle.wasm_typing.specs.Context.{Context, context_of}
 use Rattle.wasm_typing.specs.Typing.{values}
 use Rattle.wasm_typing.specs.Verdict.{bodies_of}
 use Rattle.c_tree.specs.declared.tree.CType.TheVariants as c_type
-use Rattle.c_tree.specs.declared.tree.Num.{Num}
-use Rattle.c_tree.specs.declared.tree.Num.TheVariants.{N32, N64, Plain}
-use Rattle.c_tree.specs.declared.tree.COp.{COp}
+use Rattle.c_tree.specs.declared.tree.Num.TheVariants.{N32, Plain}
 use Rattle.c_tree.specs.declared.tree.COp.TheVariants as op
 use Rattle.c_tree.specs.Tree as tree
-use Rattle.c_tree.specs.Scope.{Name}
-use Rattle.c_tree.specs.TypesInC.{c_type_of, c_result_of}
-use Rattle.c_meaning.specs.Step.{depth_name}
+use Rattle.c_tree.specs.TypesInC.{c_result_of}
 use Rattle.c_tree.specs.Makers as makers
-use Rattle.alike.specs.Alike.{func_name}
-use Rattle.c_body.specs.Names.{slot, local_name, label_name, element_name}
+use Rattle.c_tree.specs.DefinedNames.{func_name, label_name}
+use Rattle.c_tree.specs.Runtime.{depth_name}
+use Rattle.c_helpers.specs.Translated.{any_in}
+use Rattle.body_emitter.specs.Variables.{params_of, zero_local, locals_from}
+use Rattle.body_emitter.specs.Frame.{give_back, change_depth}
+use Rattle.body_emitter.specs.Names.{slot, element_name}
+use Rattle.body_emitter.specs.Branches.{exit_of, entry_label, exit_label, first_label, label_if}
 use Rattle.c_body.specs.Stack.{stands, occurs, peak}
-use Rattle.c_body.specs.Labels.{targets, any_in}
-use Rattle.c_body.specs.Plain.{Setting, operand}
-use Rattle.c_body.specs.Code.{exit_of, entry_label, exit_label, first_label, label_if, emit}
+use Rattle.c_body.specs.Labels.{targets}
+use Rattle.c_body.specs.Plain.{Setting}
+use Rattle.c_body.specs.Code.{emit}
 
 -- ---- parameters and local variables
-
-abbrev pub params_from : ℕ → List ValType → List tree.Param
-params_from k [] = []
-params_from k (t ∷ types) = (c_type_of t, Some (local_name k)) ∷ params_from (suc k) types
-
--- no parameters are the one parameter `void`
-abbrev pub params_of : List ValType → List tree.Param
-params_of [] = (c_type.Void, None) ∷ []
-params_of (t ∷ types) = params_from 0 (t ∷ types)
-
-abbrev pub zero_number : ValType → Num
-zero_number type.I32 = N32 0
-zero_number type.I64 = N64 0
-
--- a local variable that is 0 at first
-abbrev pub zero_local : ValType → Name → tree.Local
-zero_local t name = (c_type_of t, name, zero_number t)
-
-abbrev pub locals_from : ℕ → List ValType → List tree.Local
-locals_from k [] = []
-locals_from k (t ∷ types) = zero_local t (local_name k) ∷ locals_from (suc k) types
 
 -- a value of this type stands at this height somewhere in the code, or is the function's result
 abbrev pub has_slot : ValType → Context → Code → ℕ → Bool
@@ -88,14 +68,6 @@ is_return _ = false
 -- a branch or a return goes to the function's exit
 abbrev pub names_exit : Code → Bool
 names_exit code = targets 0 code || any_in is_return code
-
--- the value of a function stands in the lowest slot
-abbrev pub give_back : Option ValType → tree.Stmt
-give_back None = tree.ReturnNone
-give_back (Some t) = tree.Return (tree.Value (operand t 0))
-
-abbrev pub change_depth : COp → tree.Stmt
-change_depth o = tree.Set depth_name (tree.Value (tree.Op o (tree.Name depth_name) (tree.Number (N32 1))))
 
 abbrev pub code_stmts : Setting → Code → List tree.Stmt
 code_stmts c code = emit c (exit_of c.context.result ∷ []) [] first_label code

@@ -8,8 +8,9 @@ use Rattle.wasm_tree.specs.IndexSpaces.{table_space, memory_space, declared_loca
 use Rattle.wasm_tree.specs.Bytes.{AreBytes}
 use Rattle.wasm_tree.specs.Within.{has_wide, IsMaximum}
 use Rattle.wasm_typing.specs.Context.{Context}
+use Rattle.c_helpers.specs.Translated.{any_in}
 use Rattle.c_body.specs.Stack.{peak}
-use Rattle.c_body.specs.Labels.{labels_in, any_in}
+use Rattle.c_body.specs.Labels.{labels_in}
 
 pub record BodyHasLimits (b : BodyEntry) : Type 0 where
   pub locals : length (declared_locals b.runs) < 2 ^ 32

@@ -1,25 +1,27 @@
 -- What the translation of code rests on at a place: its labels can be counted; and where the place is reached, the code
 -- is typed on the operands of its block (WebAssembly Core 1.0, 3.3.6), and no number in it has more than 32 bits.
-use Rattle.std.specs.Prelude.{◌≡◌, ℕ, suc, ◌<◌, ◌≤◌, ◌+◌, ◌^◌, ◌||◌, false, [], ◌++◌, length, vec_len, map, Option, Some, None}
+use Rattle.std.specs.Prelude.{◌≡◌, ℕ, ◌≤◌, true, List, length, suc, ◌<◌, ◌+◌, ◌^◌, ◌||◌, false, [], ◌++◌, Option, Some, None, slice_get}
+use Rattle.w2c_base.specs.declared.value.ValType.{ValType}
 use Rattle.w2c_base.specs.declared.signature.FuncType.{FuncType}
 use Rattle.w2c_base.specs.Lookup.{at_index}
-use Rattle.wasm_tree.specs.declared.tree.Module.{Module}
 use Rattle.wasm_tree.specs.Instructions.{Code, Kind, Otherwise, else_code, Drop, Select, Block, Loop, If, Br, BrIf, BrTable, Call}
 use Rattle.wasm_tree.specs.Instructions.{CallIndirect, LocalGet, LocalSet, LocalTee, GlobalGet, GlobalSet, Unreachable, Return}
 use Rattle.wasm_tree.specs.InstructionTable.{Typing, of_types, by_rule}
-use Rattle.wasm_typing.specs.Context.{Context, Labels}
-use Rattle.wasm_typing.specs.Typing.{Stack, HasType, KindHasType, BodyHasType, table_type}
-use Rattle.std.specs.Prelude.{slice_get}
-use Rattle.c_body.specs.declared.stack.Operands.{Operands}
-use Rattle.c_body.specs.declared.emitter.Emitter.{Emitter}
-use Rattle.c_body.specs.Labels.{labels_in, labels_in_else, labels_of, any_in, any_in_else, any_inside}
 use Rattle.wasm_tree.specs.Within.{has_wide}
-use Rattle.c_body.specs.Marks.{Covered}
-use Rattle.c_body.specs.Shown.{types_of}
+use Rattle.wasm_typing.specs.Typing.{Stack, HasType, KindHasType, BodyHasType, table_type}
+use Rattle.wasm_typing.specs.Context.{Context, Labels}
+use Rattle.c_helpers.specs.Translated.{any_in, any_in_else, any_inside}
+use Rattle.body_emitter.specs.Marks.{is_marked}
+use Rattle.body_emitter.specs.Shown.{HasOperands, types_of}
+use Rattle.body_emitter.specs.declared.mark.Mark.{Mark}
+use Rattle.body_emitter.specs.declared.emitter.Emitter.{Emitter}
+use Rattle.c_body.specs.Stack.{stands}
+use Rattle.c_body.specs.Labels.{labels_in, labels_in_else, labels_of}
 
--- so many operands stand above those of the blocks around
-abbrev pub HasOperands : ℕ → Operands → Type 0
-HasOperands count o = count + o.floor ≤ vec_len o.types
+-- every operand on the stack is marked
+pub record Covered (types : Stack) (marks : List Mark) : Type 0 where
+  pub found : (t : ValType) (h : ℕ) → stands t h types ≡ true → is_marked t h marks ≡ true
+  pub height : length types ≤ length marks
 
 -- ---- how many operands an instruction takes off
 
@@ -110,7 +112,3 @@ pub record BodyIsReady (c : Context) (code : Code) : Type 0 where
   pub labels : labels_in code + 2 < 2 ^ 64
   pub numbers : any_in has_wide code ≡ false
   pub typed : BodyHasType c code
-
--- a signature number has room for the parameters of each type
-abbrev pub HaveFewParams : Module → Type 0
-HaveFewParams m = (t : ℕ) (ty : FuncType) → Some ty ≡ slice_get (map (λ t. t.ty) m.types) t → length ty.params ≤ 60

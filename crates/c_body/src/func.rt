@@ -1,26 +1,24 @@
 // The function of a body.
-ghost use Rattle.std.specs.Prelude.{◌≡◌, ◌<◌, ◌-◌, ◌^◌, ◌++◌, length, replicate, IfOk, OnOk};
+ghost use Rattle.std.specs.Prelude.{◌≡◌, ◌<◌, ◌^◌, ◌++◌, length, replicate, IfOk, OnOk};
 ghost use Rattle.std.specs.Option.{option_copied};
 ghost use Rattle.w2c_base.specs.Lookup.{if_found};
-ghost use Rattle.wasm_tree.specs.IndexSpaces.{declared_locals, at_defined, type_in};
+ghost use Rattle.w2c_base.specs.declared.value.ValType.TheVariants as type;
+ghost use Rattle.wasm_tree.specs.IndexSpaces.{declared_locals, type_in};
 ghost use Rattle.wasm_typing.specs.Context.{context_of};
 ghost use Rattle.c_tree.specs.View.{body_of as body_seen, func_of as func_seen};
-ghost use Rattle.w2c_base.specs.declared.value.ValType.TheVariants as type;
-ghost use Rattle.c_body.specs.Around.{named_of, setting_of};
+ghost use Rattle.c_symbols.specs.Spaces.{named_of};
+ghost use Rattle.body_emitter.specs.Variables as variables;
+ghost use Rattle.c_body.specs.Around.{setting_of};
 ghost use Rattle.c_body.specs.Body as function;
-ghost use Rattle.c_body.specs.Finished as finished;
 ghost use Rattle.c_body.specs.Ready.{BodyIsReady};
 
 use crate::around::Around;
-use crate::content::{declared, params, put_element, put_slots};
-use crate::emitter::Emitter;
-use crate::index_spaces::IndexSpaces;
-use crate::mark::Mark;
-use crate::naming::func_name;
-use c_tree::{Body, CType, Func, Locals, Name, Params, Stmts, c_result};
+use body_emitter::{Emitter, Mark, declared, params, put_element, put_slots, statements};
+use c_symbols::{IndexSpaces, func_name};
+use c_tree::{Body, CType, Func, Locals, Name, Params, c_result};
 use std::alloc::Global;
 use w2c_base::{FuncType, Memory, ValType};
-use wasm_tree::{BodyEntry, Code, FuncEntry, Run};
+use wasm_tree::{BodyEntry, Code, Run};
 use wasm_typing::ValidModule;
 
 // Locals of one type.
@@ -53,13 +51,6 @@ fn all_types(alloc: Global, ty: &FuncType, own: &[ValType]) -> Result<Vec<ValTyp
     Ok(types)
 }
 
-fn statements(emitter: Emitter) -> Stmts
-    ensures { result ≡ emitter.stmts.items }
-{
-    let Emitter { stmts, .. } = emitter;
-    Stmts::from_vec(stmts)
-}
-
 // The declared locals, and behind them the variables for slots and for an element.
 fn all_locals(
     alloc: Global,
@@ -69,10 +60,10 @@ fn all_locals(
     is_indirect: bool,
 ) -> Result<Locals, Memory>
     requires { first < 2 ^ 63 }
-    ensures { IfOk result (λ locals. locals ≡ ((function.locals_from first own.now
-        ++ finished.slots_from type.I32 0 marks.now)
-        ++ finished.slots_from type.I64 0 marks.now)
-        ++ finished.element_if is_indirect) }
+    ensures { IfOk result (λ locals. locals ≡ ((variables.locals_from first own.now
+        ++ variables.slots_from type.I32 0 marks.now)
+        ++ variables.slots_from type.I64 0 marks.now)
+        ++ variables.element_if is_indirect) }
 {
     let mut locals = declared(alloc, first, own)?;
     put_slots(alloc, &mut locals, ValType::I32, marks)?;
@@ -86,7 +77,7 @@ fn whole_body(around: &Around, first: usize, own: &[ValType], code: &Code) -> Re
     requires first { first < 2 ^ 63 }
     requires ready { BodyIsReady (setting_of around.now).context code.now }
     ensures { IfOk result (λ b. body_seen b ≡ record {
-      locals = function.locals_from first own.now
+      locals = variables.locals_from first own.now
           ++ (function.slots_of type.I32 (setting_of around.now).context code.now
           ++ (function.slots_of type.I64 (setting_of around.now).context code.now
           ++ function.element_local code.now));
@@ -94,7 +85,7 @@ fn whole_body(around: &Around, first: usize, own: &[ValType], code: &Code) -> Re
     }) }
 {
     let mut emitter = Emitter::empty(around.alloc);
-    emitter.body(around, code)?;
+    around.body(&mut emitter, code)?;
     let marks = emitter.operands.marks.as_slice();
     let made = all_locals(around.alloc, first, own, marks, emitter.is_indirect);
     let stmts = statements(emitter);
@@ -102,109 +93,93 @@ fn whole_body(around: &Around, first: usize, own: &[ValType], code: &Code) -> Re
     Ok(Body { locals, stmts })
 }
 
-impl<'a> IndexSpaces<'a> {
-    // The variables and the statements of a function of this type and this body.
-    fn content(&self, alloc: Global, ty: &FuncType, body: &BodyEntry) -> Result<Body, Memory>
-        requires { BodyIsReady (context_of self.now.tree.now ty.now body.now) body.now.code }
-        ensures { IfOk result (λ b. body_seen b ≡ record {
-          locals = function.locals_from (length ty.now.params) (declared_locals body.now.runs)
-              ++ (function.slots_of type.I32 (context_of self.now.tree.now ty.now body.now) body.now.code
-              ++ (function.slots_of type.I64 (context_of self.now.tree.now ty.now body.now) body.now.code
-              ++ function.element_local body.now.code));
-          stmts = function.stmts_of (record { named = named_of self.now; context = context_of self.now.tree.now ty.now body.now }) body.now.code;
-        }) }
-    {
-        let own = declared_types(alloc, body)?;
-        let all = all_types(alloc, ty, own.as_slice())?;
-        let around = Around {
-            alloc,
-            spaces: self,
-            locals: all.as_slice(),
-            result: ty.result,
-        };
-        whole_body(&around, ty.params.len(), own.as_slice(), &body.code)
-    }
+// The variables and the statements of a function of this type and this body.
+fn content(
+    alloc: Global,
+    spaces: &IndexSpaces,
+    ty: &FuncType,
+    body: &BodyEntry,
+) -> Result<Body, Memory>
+    requires { BodyIsReady (context_of spaces.now.tree.now ty.now body.now) body.now.code }
+    ensures { IfOk result (λ b. body_seen b ≡ record {
+      locals = variables.locals_from (length ty.now.params) (declared_locals body.now.runs)
+          ++ (function.slots_of type.I32 (context_of spaces.now.tree.now ty.now body.now) body.now.code
+          ++ (function.slots_of type.I64 (context_of spaces.now.tree.now ty.now body.now) body.now.code
+          ++ function.element_local body.now.code));
+      stmts = function.stmts_of (record { named = named_of spaces.now; context = context_of spaces.now.tree.now ty.now body.now }) body.now.code;
+    }) }
+{
+    let own = declared_types(alloc, body)?;
+    let all = all_types(alloc, ty, own.as_slice())?;
+    let around = Around {
+        alloc,
+        spaces,
+        locals: all.as_slice(),
+        result: ty.result,
+    };
+    whole_body(&around, ty.params.len(), own.as_slice(), &body.code)
+}
 
-    // The function with an index, of this type and this body.
-    fn defined(
-        &self,
-        alloc: Global,
-        index: u32,
-        ty: &FuncType,
-        body: &BodyEntry,
-    ) -> Result<Func, Memory>
-        requires { BodyIsReady (context_of self.now.tree.now ty.now body.now) body.now.code }
-        ensures { IfOk result (λ f. func_seen f ≡ function.func_of (named_of self.now) index ty.now body.now) }
-    {
-        let params = params(alloc, ty.params.as_slice())?;
-        let name = func_name(alloc, index)?;
-        let content = self.content(alloc, ty, body)?;
-        Ok(Func {
-            is_static: true,
-            result: c_result(ty.result),
-            name,
-            params,
-            body: Some(content),
-        })
-    }
+// The function with an index, of this type and this body.
+fn defined(
+    alloc: Global,
+    spaces: &IndexSpaces,
+    index: u32,
+    ty: &FuncType,
+    body: &BodyEntry,
+) -> Result<Func, Memory>
+    requires { BodyIsReady (context_of spaces.now.tree.now ty.now body.now) body.now.code }
+    ensures { IfOk result (λ f. func_seen f ≡ function.func_of (named_of spaces.now) index ty.now body.now) }
+{
+    let params = params(alloc, ty.params.as_slice())?;
+    let name = func_name(alloc, index)?;
+    let content = content(alloc, spaces, ty, body)?;
+    Ok(Func {
+        is_static: true,
+        result: c_result(ty.result),
+        name,
+        params,
+        body: Some(content),
+    })
+}
 
-    fn func_at(&self, index: u32) -> Option<&'a FuncEntry>
-        ensures { option_copied result ≡ at_defined self.now.tree.now self.now.tree.now.funcs index }
-    {
-        self.at_defined(self.tree.funcs.as_slice(), index)
-    }
-
-    fn body_at(&self, index: u32) -> Option<&'a BodyEntry>
-        ensures { option_copied result ≡ at_defined self.now.tree.now self.now.tree.now.bodies index }
-    {
-        self.at_defined(self.tree.bodies.as_slice(), index)
-    }
-
-    // What a list has for the function that the module defines with an index.
-    fn at_defined<T>(&self, list: &'a [T], index: u32) -> Option<&'a T>
-        ensures { option_copied result ≡ at_defined self.now.tree.now list.now index }
-    {
-        let index = index as usize;
-        let imported = self.imported_funcs();
-        if index < imported {
-            None
-        } else {
-            list.get(index - imported)
-        }
-    }
-
-    /// The type of the function that the module defines with an index.
-    #[tactic(auto, using(crate::proofs::Zipped::no_func_type, crate::proofs::Zipped::no_body_type, crate::proofs::Zipped::type_of_both))]
-    pub fn defined_type(&self, index: u32) -> Option<&'a FuncType>
-        ensures { option_copied result ≡ if_found (function.defined_at self.now.tree.now index) (λ d. type_in self.now.tree.now d.0.type_index) }
-    {
-        match self.func_at(index) {
+/// The type of the function that the module defines with an index.
+#[tactic(auto, using(crate::proofs::Zipped::no_func_type, crate::proofs::Zipped::no_body_type, crate::proofs::Zipped::type_of_both))]
+pub fn defined_type<'a>(spaces: &IndexSpaces<'a>, index: u32) -> Option<&'a FuncType>
+    ensures { option_copied result ≡ if_found (function.defined_at spaces.now.tree.now index) (λ d. type_in spaces.now.tree.now d.0.type_index) }
+{
+    match spaces.func_at(index) {
+        None => None,
+        Some(func) => match spaces.body_at(index) {
             None => None,
-            Some(func) => match self.body_at(index) {
-                None => None,
-                Some(_) => self.ty(func.type_index),
-            },
-        }
+            Some(_) => spaces.ty(func.type_index),
+        },
     }
+}
 
-    /// The function with an index. It is the translation of the function that the module defines with it.
-    pub fn function(&self, alloc: Global, index: u32) -> Result<Func, Memory>
-        ensures { IfOk result (λ f. func_seen f ≡ function.body_of self.now.tree.now self.now.name.now index) }
-    {
-        match self.func_at(index) {
+/// The function with an index, by the module's index spaces. It is the translation of the function that the module defines with it.
+pub fn function(
+    alloc: Global,
+    m: &ValidModule,
+    spaces: &IndexSpaces,
+    index: u32,
+) -> Result<Func, Memory>
+    requires { m.now ≡ spaces.now.tree.now }
+    ensures { IfOk result (λ f. func_seen f ≡ function.body_of spaces.now.tree.now spaces.now.name.now index) }
+{
+    match spaces.func_at(index) {
+        None => no_func(alloc),
+        Some(func) => match spaces.body_at(index) {
             None => no_func(alloc),
-            Some(func) => match self.body_at(index) {
+            Some(body) => match spaces.ty(func.type_index) {
                 None => no_func(alloc),
-                Some(body) => match self.ty(func.type_index) {
-                    None => no_func(alloc),
-                    Some(ty) => {
-                        // What the check found of the module comes with it.
-                        self.checked.module();
-                        self.defined(alloc, index, ty, body)
-                    }
-                },
+                Some(ty) => {
+                    // What the check found of the module comes with it.
+                    m.module();
+                    defined(alloc, spaces, index, ty, body)
+                }
             },
-        }
+        },
     }
 }
 
@@ -223,9 +198,11 @@ fn no_func(alloc: Global) -> Result<Func, Memory>
 
 /// The function that the function of a module with an index is translated to, under the module's name. Of many
 /// functions of one module it is better to make `IndexSpaces` once.
+#[tactic(auto, using(c_symbols::proofs::FewParams::few_params_of))]
 pub fn body(alloc: Global, m: &ValidModule, name: &[u8], index: u32) -> Result<Func, Memory>
     ensures { IfOk result (λ f. func_seen f ≡ function.body_of m.now name.now index) }
 {
-    let spaces = IndexSpaces::new(alloc, m, name)?;
-    spaces.function(alloc, index)
+    let tree = m.module();
+    let spaces = IndexSpaces::new(alloc, tree, name)?;
+    function(alloc, m, &spaces, index)
 }

@@ -5,15 +5,7 @@ use Rattle.c_tree.specs.Rules.{StmtPlace, if_any, is_own_name, label_is_free, la
 
 free_of : (s : tree.Stmt) → elim s [ tree.Label name ↦ is_own_name name | _ ↦ true ] ≡ if_any (label_of s) is_own_name
 free_of (tree.Label name) = refl
-free_of tree.Null = refl
-free_of (tree.Set name arg) = refl
-free_of (tree.SetStar name e) = refl
-free_of (tree.Call to callee args) = refl
-free_of (tree.Goto name) = refl
-free_of (tree.If op left right name) = refl
-free_of (tree.Switch e cases name) = refl
-free_of tree.ReturnNone = refl
-free_of (tree.Return arg) = refl
+free_of _ = refl
 
 pub free_by_label : (p : StmtPlace) → label_is_free p ≡ if_any (label_of p.stmt) is_own_name
 free_by_label p = free_of p.stmt

@@ -1,6 +1,6 @@
 -- The host that a call names.
-use Rattle.c_hosts.proofs.Common.{◌≡◌, List, IfSome, slice_get, slice_index_or, Some, None, Option, MatchOption, unwrap_or, sym, refl, ap}
-use Rattle.c_hosts.proofs.Common.{◌∙◌, subst, unwrap_or-slice_get, if_found, HostCall, offered, HostFunction, HostModule}
+use Rattle.c_hosts.proofs.Common.{◌≡◌, List, IfSome, slice_get, slice_index_or, Some, None, Option, unwrap_or, sym, refl, ap, ◌∙◌, subst}
+use Rattle.c_hosts.proofs.Common.{unwrap_or-slice_get, if_found, HostCall, offered, HostFunction, HostModule}
 
 module _ {H : Type 0} (m : HostModule H) (hosts : List H) (call : HostCall) (f : HostFunction) (r : H)
     (found : offered m hosts call ≡ Some f) (at : r ≡ slice_index_or hosts call.host r) where
@@ -20,10 +20,3 @@ module _ {H : Type 0} (m : HostModule H) (hosts : List H) (call : HostCall) (f :
 
   pub function_of_it : (P : HostFunction → Type 0) → IfSome (slice_get (m.functions_of r) call.function) P → P f
   function_of_it P holds = subst (λ o. IfSome o P) host_there.1 holds
-
--- what holds of an option that is known
-pub when_none : {A P : Type 0} (Q : A → Type 0) (o : Option A) → o ≡ None → MatchOption o P Q → P
-when_none {A} {P} Q o is holds = subst (λ o. MatchOption o P Q) is holds
-
-pub when_some : {A : Type 0} (P : Type 0) (Q : A → Type 0) (o : Option A) (x : A) → o ≡ Some x → MatchOption o P Q → Q x
-when_some P Q o x is holds = subst (λ o. MatchOption o P Q) is holds

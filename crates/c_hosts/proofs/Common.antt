@@ -1,6 +1,6 @@
 -- What proofs of this crate cite of std, of the crates below and of specs/, passed on from one place. Declares nothing.
 pub use Rattle.std.proofs.Common.{◌≡◌, ℕ, ◌+◌, ◌-◌, ◌<◌, ◌≤◌, Bool, true, false, List, [], ◌∷◌, ◌++◌, map, length, get_or, is_some, IfSome}
-pub use Rattle.std.proofs.Common.{if◌then◌else◌, slice_get, slice_index_or, slice_set, Some, None, Option, MatchOption, option_map}
+pub use Rattle.std.proofs.Common.{if◌then◌else◌, slice_get, slice_index_or, slice_set, Some, None, Option, option_map}
 pub use Rattle.std.proofs.Common.{bytes_eq, unwrap_or, sym, refl, ap, ◌∙◌, subst, append_assoc, append-nil, arith, length-append}
 pub use Rattle.std.proofs.Math.Seq.{get_or-append_seam, map-set_same, set-append_seam}
 pub use Rattle.std.proofs.lemmas.Option.{slice_get-map, unwrap_or-slice_get}

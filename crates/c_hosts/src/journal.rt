@@ -1,6 +1,5 @@
 // What hosts were asked and replied.
-ghost use Rattle.std.specs.Prelude.{◌≡◌, ◌<◌, ◌∷◌, ◌++◌, [], length, slice_index_or, OnErr, OnOk};
-ghost use Rattle.std.specs.Prelude.{List};
+ghost use Rattle.std.specs.Prelude.{◌≡◌, ◌<◌, ◌∷◌, ◌++◌, [], length, slice_index_or, OnErr, OnOk, List};
 ghost use Rattle.c_meaning.specs.declared.reply.HostReply.TheVariants as reply;
 ghost use Rattle.c_hosts.specs.declared.journal.Asked.{Asked};
 ghost use Rattle.c_hosts.specs.Journals.{asked, with_reply};

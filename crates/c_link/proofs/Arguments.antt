@@ -17,14 +17,13 @@ Agree i params args =
 pub unequal : (params : List CType) (args : List Value) → (length params ≡ length args → ⊥)
     → false ≡ same_types params (map c_type_of (types_of args))
 unequal [] [] not = absurd (not refl)
-unequal [] (v ∷ args) not = refl
-unequal (p ∷ params) [] not = refl
 unequal (p ∷ params) (v ∷ args) not = go (same_type p (c_type_of (type_of v))) (unequal params args (λ e. not (ap suc e)))
   where
     go : (b : Bool) → false ≡ same_types params (map c_type_of (types_of args))
         → false ≡ (b && same_types params (map c_type_of (types_of args)))
     go true e = e
     go false e = refl
+unequal _ _ not = refl
 
 -- ---- no arguments
 

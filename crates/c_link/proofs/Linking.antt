@@ -24,8 +24,7 @@ module _ (read units : List (List Item)) (same : read ≡ units) (hosts : List H
     (first : IsRefusal r (first_twice (map unit_of read) (c_symbols hosts))) where
   pub early_first : IsRefusal r (first_refusal (map unit_of units) (c_symbols hosts))
   early_first =
-      refused r (first_twice (map unit_of units) (c_symbols hosts)) _ _ refl
-      (subst (λ us. IsRefusal r (first_twice (map unit_of us) (c_symbols hosts))) same first)
+      refused r (first_twice (map unit_of units) (c_symbols hosts)) _ _ refl (rw same at first)
 
   pub early_refused : (p : Program) → IsProgramOf p (map unit_of units) hosts → IsRefusal r (link_refusal p)
   early_refused p is = there (λ us ss. IsRefusal r (first_refusal us ss)) (map unit_of units) hosts p is early_first

@@ -16,6 +16,7 @@ use Rattle.c_link.proofs.FirstRefusal.{in_items, twice_in, twice_units, unresolv
 use Rattle.c_link.proofs.Rules.{clash_none, none_under}
 use Rattle.c_link.proofs.Tables.{unit_added}
 use Rattle.c_link.proofs.Walks.{first_of}
+use Rattle.std.proofs.lemmas.Bool.{or_from}
 
 abbrev names : List (Name × Offered) → List Name
 names entries = map (λ (e : Name × Offered). e.0) entries
@@ -31,17 +32,13 @@ among_named q (e ∷ entries) = ap (λ b. b || is_among q (names entries)) (byte
     go true h = refl
     go false h = h
 
-or_false : (a b : Bool) → a ≡ false → b ≡ false → (a || b) ≡ false
-or_false false b e f = f
-or_false true b e f = cc
-
 -- names of two lists, none of which is in both
 distinct_append : (xs ys : List Name) → are_distinct xs ≡ true → are_distinct ys ≡ true
     → ((q : Name) → is_among q xs ≡ true → is_among q ys ≡ false) → are_distinct (xs ++ ys) ≡ true
 distinct_append [] ys e f apart = f
 distinct_append (x ∷ xs) ys e f apart =
     and_from (not (is_among x (xs ++ ys))) (are_distinct (xs ++ ys))
-    (ap not (among-append x xs ys ∙ or_false (is_among x xs) (is_among x ys)
+    (ap not (among-append x xs ys ∙ or_from (is_among x xs) (is_among x ys)
     (not-true (is_among x xs) (left_holds (not (is_among x xs)) _ e)) (apart x (ap (λ b. b || is_among x xs) (bytes_equal x)))))
     (distinct_append xs ys (right_holds (not (is_among x xs)) _ e) f (λ q there. apart q (or_right (bytes_eq q x) (is_among q xs) there)))
 

@@ -93,11 +93,10 @@ module _ {A : Type 0} where
       let same_unit : unit ≡ items = cc in
       subst (λ t. Knows t items) same (subst (Knows new) same_unit knows)
   each_push [] [] new unit many each knows (suc u) table items at at_unit = absurd cc
-  each_push [] (y ∷ units) new unit many each knows u table items at at_unit = absurd (omega arith)
-  each_push (t ∷ tables) [] new unit many each knows u table items at at_unit = absurd (omega arith)
   each_push (t ∷ tables) (y ∷ units) new unit many each knows zero table items at at_unit = each zero table items at at_unit
   each_push (t ∷ tables) (y ∷ units) new unit many each knows (suc u) table items at at_unit =
       each_push tables units new unit (omega arith) (λ v. each (suc v)) knows u table items at at_unit
+  each_push _ _ new unit many each knows u table items at at_unit = absurd (omega arith)
 
   pub own_push : (tables : List (List (Name × A))) (units : List (List tree.Item)) (i : ℕ) (new : List (Name × A))
       (unit : List tree.Item) → slice_get units i ≡ Some unit

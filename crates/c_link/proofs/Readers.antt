@@ -39,8 +39,7 @@ module _ (units : List (List Item)) (hosts : List HostSymbol) (table : List (Nam
   address_is o e p there =
       let twice_now = subst (λ (seen : Seen). first_twice (map unit_of seen.0) (c_symbols seen.1) ≡ None) is once in
       let twice_there : first_twice p.units (symbols_of p.hosts)
-      ≡ None = subst (λ us. first_twice us (symbols_of p.hosts) ≡ None) (sym there.units_are)
-      (subst (λ ss. first_twice (map unit_of now.0) ss ≡ None) (sym there.symbols_are) twice_now) in
+      ≡ None = subst (λ us. first_twice us (symbols_of p.hosts) ≡ None) (sym there.units_are) (rw there.symbols_are twice_now) in
       let owner_there : owner_of (map unit_of now.0) (c_symbols now.1) q
       ≡ owner_of p.units (symbols_of p.hosts) q = ap (λ ss. owner_of (map unit_of now.0) ss q) (sym there.symbols_are)
       ∙ ap (λ us. owner_of us (symbols_of p.hosts) q) (sym there.units_are) in

@@ -79,5 +79,4 @@ adds_as before after entries others same adds q = adds q ∙ ap (λ es. option_o
 -- an entry by an equal name and an equal type
 pub adds_said : (before after : List (Name × Offer)) (name others : Name) (o : Owner) (ty tys : tree.FuncType) → name ≡ others → ty ≡ tys
     → Adds before after ((name, (o, ty)) ∷ []) → Adds before after ((others, (o, tys)) ∷ [])
-adds_said before after name others o ty tys e f adds =
-    subst (λ t. Adds before after ((others, (o, t)) ∷ [])) f (subst (λ n. Adds before after ((n, (o, ty)) ∷ [])) e adds)
+adds_said before after name others o ty tys e f adds = rw f at (subst (λ n. Adds before after ((n, (o, ty)) ∷ [])) e adds)

@@ -43,14 +43,13 @@ defines items i d e = go (slice_get items i) refl e
 -- arguments of the types of the parameters are as many
 count_fits : (types : List CType) (values : List CValue) → are_of_types types values ≡ true → length types ≡ length values
 count_fits [] [] fit = refl
-count_fits [] (v ∷ values) fit = absurd cc
-count_fits (ty ∷ types) [] fit = absurd cc
 count_fits (ty ∷ types) (v ∷ values) fit = go (count_fits types values) (of_type ty v) fit
   where
     go : (are_of_types types values ≡ true → length types ≡ length values) → (b : Bool) → (b && are_of_types types values) ≡ true
         → length (ty ∷ types) ≡ length (v ∷ values)
     go behind true fit = ap suc (behind fit)
     go behind false fit = absurd cc
+count_fits _ _ fit = absurd cc
 
 named_types : (params : List tree.Param) → length (param_types params) ≡ length (param_names params)
 named_types [] = refl

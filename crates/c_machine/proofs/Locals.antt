@@ -1,10 +1,11 @@
 -- Locals behind parameters, one by one.
-use Rattle.c_machine.proofs.Common.{◌≡◌, ℕ, zero, suc, ◌+◌, ◌≤◌, List, [], ◌∷◌, ◌++◌, map, length, take, drop, slice_get, Some, None}
-use Rattle.c_machine.proofs.Common.{Option, option_map, zip, sym, refl, ap, ◌∙◌, append_assoc, append-nil, arith, take_all, drop_all}
-use Rattle.c_machine.proofs.Common.{length-map, length_push, map_push, drop_front, if_found, initial_of, CValue, Name, Vars, bind}
-use Rattle.c_machine.proofs.Common.{locals_of, local_name, WithLocals}
+use Rattle.c_machine.proofs.Common.{◌≡◌, ℕ, ◌+◌, ◌≤◌, List, [], ◌∷◌, ◌++◌, map, length, take, drop, slice_get, Some, None, Option}
+use Rattle.c_machine.proofs.Common.{option_map, zip, sym, refl, ap, ◌∙◌, append_assoc, append-nil, arith, take_all, drop_all, length-map}
+use Rattle.c_machine.proofs.Common.{length_push, map_push, drop_front, if_found, initial_of, CValue, Name, Vars, bind, locals_of}
+use Rattle.c_machine.proofs.Common.{local_name, WithLocals}
 use Rattle.c_tree.specs.Tree as tree
 use Rattle.c_machine.proofs.Variables.{zip-push}
+use Rattle.w2c_base.proofs.Places.{take_next}
 
 abbrev vars_in : {V : Type 0} → (V → CValue) → List Name → List V → Vars
 vars_in view names values = zip names (map view values)
@@ -15,13 +16,6 @@ pub record Grows {V : Type 0} (view : V → CValue) (params : List Name) (values
   pub count : length (params ++ map local_name (take i locals)) ≡ length so_far
   pub same : option_map (λ ls. vars_in view params values ++ ls) (locals_of locals)
       ≡ option_map (λ ls. vars_in view (params ++ map local_name (take i locals)) so_far ++ ls) (locals_of (drop i locals))
-
-take_push : (locals : List tree.Local) (i : ℕ) (l : tree.Local) → slice_get locals i ≡ Some l
-    → take (i + 1) locals ≡ take i locals ++ l ∷ []
-take_push [] i l at = absurd cc
-take_push (x ∷ locals) zero l at = let e : x ≡ l = cc in ap (λ y. y ∷ []) e
-take_push (x ∷ locals) (suc i) l at = let one : suc i + 1 ≡ suc (i + 1) = omega arith in ap (λ n. take n (x ∷ locals)) one
-    ∙ ap (λ ls. x ∷ ls) (take_push locals i l at)
 
 more : (before : Vars) (l : tree.Local) (v : CValue) (rest : Option Vars)
     → option_map (λ ls. before ++ ls) (option_map (λ vars. (l.1, v) ∷ vars) rest)
@@ -36,7 +30,7 @@ pub grows_next : {V : Type 0} (view : V → CValue) (params : List Name) (values
 grows_next view params values locals i so_far l v at is g =
     let names = params ++ map local_name (take i locals) in
     let more_names : params ++ map local_name (take (i + 1) locals) ≡ names ++ local_name l ∷ [] =
-    ap (λ ls. params ++ map local_name ls) (take_push locals i l at)
+    ap (λ ls. params ++ map local_name ls) (take_next locals i l at)
     ∙ ap (λ ns. params ++ ns) (map_push local_name (take i locals) l)
     ∙ sym (append_assoc params (map local_name (take i locals)) (local_name l ∷ [])) in
     let numbers : length names ≡ length (map view so_far) = g.count ∙ sym (length-map so_far view) in
@@ -78,7 +72,6 @@ grows_all view params values locals i so_far past g =
 pub bind_all : {V : Type 0} (view : V → CValue) (names : List Name) (values : List V) → length names ≡ length values
     → bind names (map view values) ≡ Some (vars_in view names values)
 bind_all view [] [] e = refl
-bind_all view [] (v ∷ values) e = absurd (omega (arith, e))
-bind_all view (n ∷ names) [] e = absurd (omega (arith, e))
 bind_all view (n ∷ names) (v ∷ values) e =
     ap (λ (o : Option Vars). option_map (λ vars. (n, view v) ∷ vars) o) (bind_all view names values (omega (arith, e)))
+bind_all view _ _ e = absurd (omega (arith, e))

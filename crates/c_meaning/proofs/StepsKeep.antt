@@ -14,6 +14,7 @@ use Rattle.w2c_base.specs.declared.value.ValType.{ValType}
 use Rattle.w2c_base.specs.declared.value.ValType.TheVariants as type
 use Rattle.w2c_base.specs.Trap.{code_of}
 use Rattle.c_tree.specs.Tree as tree
+use Rattle.c_tree.specs.Runtime.{depth_name}
 use Rattle.c_meaning.specs.Primitives as prim
 use Rattle.c_meaning.specs.Step as step
 
@@ -304,7 +305,7 @@ module _ {P : Machine → Type 0} (kept : KeptByObjects P) (m : Machine) where
 
   pub assign_keeps : (r : Running) (name : Name) (v : CValue) (below : List Frame) → P m → StepHas P (step.assign m r name v below)
   assign_keeps r name v below has =
-      either_way (StepHas P) (bytes_eq name step.depth_name) (assign_depth_keeps r v below has)
+      either_way (StepHas P) (bytes_eq name depth_name) (assign_depth_keeps r v below has)
       (either_way (StepHas P) (is_some (named name r.vars)) (put_keeps (named name r.vars) v _ has (λ old there same. has))
       (put_var_keeps (step.in_unit r name) v r below has))
 

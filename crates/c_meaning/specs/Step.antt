@@ -2,7 +2,7 @@
 -- is evaluated first, arguments from left to right, the right side of `*p = e` before p, and a
 -- pointer that is called is looked at after the arguments. Labels and declarations cost nothing.
 use Rattle.std.specs.Prelude.{ℕ, ◌-◌, ◌%◌, ◌^◌, ◌==◌, ◌&&◌, Bool, true, false, if◌then◌else◌, List, [], ◌∷◌, ◌++◌, length, filter_map}
-use Rattle.std.specs.Prelude.{bytes_eq, codes, slice_get, is_some, Option, Some, None, option_map}
+use Rattle.std.specs.Prelude.{bytes_eq, slice_get, is_some, Option, Some, None, option_map}
 use Rattle.std.specs.Option.{option_or}
 use Rattle.w2c_base.specs.declared.value.Value.{Value}
 use Rattle.w2c_base.specs.declared.value.Value.TheVariants.{I32, I64}
@@ -16,6 +16,7 @@ use Rattle.c_tree.specs.declared.tree.CType.TheVariants.{Void}
 use Rattle.c_tree.specs.declared.tree.Num.{Num}
 use Rattle.c_tree.specs.declared.tree.Num.TheVariants.{N32, N64, Plain}
 use Rattle.c_tree.specs.Tree as tree
+pub use Rattle.c_tree.specs.Runtime.{depth_name}
 use Rattle.c_meaning.specs.State.{Name, FuncAddress, UnitFunc, HostFunc, ObjectAddress, CValue, Number, Pointer, FuncPointer, Vars, Machine}
 use Rattle.c_meaning.specs.State.{Running, Frame, State, Place, Stop, Trapped, Undefined, Asks, Stuck, Evaluated, Is, Bad, NoRule}
 use Rattle.c_meaning.specs.State.{then_evaluate, found, of_one_type}
@@ -32,9 +33,6 @@ pub data Step : Type 0 where
   Stops : (machine : Machine) → (why : Stop) → Step
 
 -- expressions (6.5)
-abbrev pub depth_name : Name
-depth_name = codes "w2c_depth"
-
 abbrev pub in_unit : Running → Name → ObjectAddress
 in_unit r name = record { unit = r.unit; name = name }
 

@@ -24,7 +24,7 @@ pub use Rattle.c_tree.specs.Rules.{label_is_free, label_of, labels_are_there, la
 pub use Rattle.c_tree.specs.Rules.{locals_have_values, locals_suit, may_be_assigned, may_be_called, may_both_stand, number_suits}
 pub use Rattle.c_tree.specs.Rules.{own_names_are_distinct, params_are_named, proper_params, proper_types, stmt_is_typed, stmt_rules}
 pub use Rattle.c_tree.specs.Rules.{stmt_suits, stmt_uses, target_suits, target_uses, types_are_proper, written_type_is_proper}
-pub use Rattle.c_tree.specs.Runtime.{primitives, same_func_type, same_type}
+pub use Rattle.c_tree.specs.Runtime.{depth_name, primitives, same_func_type, same_type}
 pub use Rattle.c_tree.specs.Scope.{HasType, IsElement, Scope, array_of, arrays, common_type, file_functions, file_variables, func_type_of}
 pub use Rattle.c_tree.specs.Scope.{function_of, functions, is_among, is_comparison, is_number_type, is_object_type, local_variables}
 pub use Rattle.c_tree.specs.Scope.{may_be_narrowed, name_of, name_typing, number_type, op_typing, param_variables, pointed_by, type_of}
@@ -37,7 +37,6 @@ pub use Rattle.c_meaning.specs.Linking.{Definition, LinkRefusal, NotDefined, Pro
 pub use Rattle.c_meaning.specs.Linking.{definition_at, definitions, external_func, external_functions, first, first_refusal, func_type}
 pub use Rattle.c_meaning.specs.Linking.{is_external, link_refusal, symbols_of, twice, type_found, unresolved}
 pub use Rattle.c_meaning.specs.State.{Name}
-pub use Rattle.c_meaning.specs.Step.{depth_name}
 pub use Rattle.c_sound.proofs.Choices.{by_option}
 pub use Rattle.c_sound.proofs.Defined.{any_from, defined_names, is_listed, passes_at, static_defined}
 pub use Rattle.c_sound.proofs.Kept.{free_names, stmt_kept}

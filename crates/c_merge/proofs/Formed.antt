@@ -153,13 +153,12 @@ module _ (p : Program) (u : ℕ) where
 
   expr_fits : (d : ℕ) (e : tree.Expr) → FitsExpr d e → FitsExpr d (renamed.expr ρ u e)
   expr_fits zero e is = absurd is
-  expr_fits (suc d) (tree.Name n) is = tt
   expr_fits (suc d) (tree.At n i) is = expr_fits d i is
   expr_fits (suc d) (tree.Number n) is = is
   expr_fits (suc d) (tree.To32 e) is = expr_fits d e is
   expr_fits (suc d) (tree.To64 e) is = expr_fits d e is
-  expr_fits (suc d) (tree.Star n) is = tt
   expr_fits (suc d) (tree.Op o a b) is = (expr_fits d a is.0, expr_fits d b is.1)
+  expr_fits _ _ is = tt
 
   arg_fits : (d : ℕ) (a : tree.Arg) → FitsArg d a → FitsArg d (renamed.arg ρ u a)
   arg_fits d (tree.Value e) is = expr_fits d e is

@@ -1,6 +1,6 @@
 -- Units that link fit together, whatever symbols the hosts have.
 use Rattle.c_merge.proofs.Common.{◌≡◌, ℕ, zero, suc, ◌<◌, Bool, true, false, not, ◌&&◌, List, [], ◌∷◌, take, is_some, if◌then◌else◌}
-use Rattle.c_merge.proofs.Common.{slice_get, Some, None, Option, option_map, flat_map, filter_map, sym, refl, ap, ◌∙◌, subst, false≢true}
+use Rattle.c_merge.proofs.Common.{slice_get, Some, None, Option, option_map, flat_map, filter_map, sym, refl, ap, ◌∙◌, false≢true}
 use Rattle.c_merge.proofs.Common.{same_Some, cons_option, option_or, numbered_at, by_test, named, numbered, KeepsRules, same_func_type}
 use Rattle.c_merge.proofs.Common.{func_type_of, Definition, LinkRefusal, NotDefined, Program, Twice, TypeDiffers, defined_for_all}
 use Rattle.c_merge.proofs.Common.{external_functions, first, first_refusal, symbols_of, twice, type_found, unresolved, Name, by_option}
@@ -74,9 +74,7 @@ module _ (units : List (List tree.Item)) (symbols : List (Name × tree.FuncType)
       → f.name ≡ g.name
       → ⊥
   not_two u v less f g a b has_f has_g same =
-      let there : is_some (defined_for_all a.items g.name) ≡ true =
-      subst (λ (n : Name). is_some (defined_for_all a.items n) ≡ true) same
-      (defined_shown units u f a (kept u a.items a.there) has_f) in
+      let there : is_some (defined_for_all a.items g.name) ≡ true = rw same at (defined_shown units u f a (kept u a.items a.there) has_f) in
       let earlier : is_some (signature_of (take v units) g.name) ≡ true =
       signature_there g.name (take v units) u a.items (take_has v units u a.items less a.there) there in
       cons_not_none (Twice v g.name) []

@@ -17,7 +17,8 @@ use Rattle.c_merge.proofs.NewNames.{new, new_var, own_new, own_var, SameNew, new
 use Rattle.c_merge.proofs.NewStatements.{all_map, or_gives}
 use Rattle.c_merge.proofs.Places.{Before, Placed, from_map, placed_at}
 use Rattle.c_merge.proofs.Rules.{Keeps}
-use Rattle.c_merge.proofs.Units.{any_at}
+use Rattle.std.proofs.lemmas.Map.Keys.{any_passes_from_place}
+use Rattle.std.proofs.lemmas.Option.{same_Some}
 use Rattle.c_merge.proofs.NewScope.{vars_keep}
 
 module _ (p : Program) (are : FitTogether p.units) (u : ℕ) (items : List tree.Item) (at_u : slice_get p.units u ≡ Some items) where
@@ -136,15 +137,12 @@ module _ (p : Program) (are : FitTogether p.units) (u : ℕ) (items : List tree.
           → slice_get others k ≡ Some a → new u (name_of a) ≡ new u n
           → is_among n (map name_of items) ≡ true
       here others there k a at same =
-          let one : others ≡ items = same_list (sym there ∙ at_u) in
+          let one : others ≡ items = same_Some others items (sym there ∙ at_u) in
           let at' : slice_get items k ≡ Some a = subst (λ (l : List tree.Item). slice_get l k ≡ Some a) one at in
           let equal : bytes_eq n (name_of a) ≡ true =
           sym (new_keeps u n (name_of a)) ∙ ap (bytes_eq (new u n)) same ∙ bytes_equal (new u n) in
-          any_at (bytes_eq n) (map name_of items) k (name_of a) (mapped items k at') equal
+          any_passes_from_place (bytes_eq n) (map name_of items) k (name_of a) (mapped items k at') equal
         where
-          same_list : {xs ys : List tree.Item} → Some xs ≡ Some ys → xs ≡ ys
-          same_list e = cc
-
           mapped : (xs : List tree.Item) (k : ℕ) → slice_get xs k ≡ Some a → slice_get (map name_of xs) k ≡ Some (name_of a)
           mapped [] k at = absurd cc
           mapped (x ∷ xs) zero at = let e : x ≡ a = cc in ap (λ z. Some (name_of z)) e
@@ -159,8 +157,7 @@ module _ (p : Program) (are : FitTogether p.units) (u : ℕ) (items : List tree.
           → slice_get others k ≡ Some a → new w (name_of a) ≡ new u n
           → is_among n (map name_of items) ≡ true
       by_unit w others there k a at same = elim (cases_order w u) [
-        | inl equal ↦ here others (subst (λ v. slice_get p.units v ≡ Some others) equal there) k a at
-            (subst (λ v. new v (name_of a) ≡ new u n) equal same)
+        | inl equal ↦ here others (subst (λ v. slice_get p.units v ≡ Some others) equal there) k a at (rw equal at same)
         | inr (inl less) ↦ absurd (elsewhere w (λ e. omega (arith, less, e)) a same)
         | inr (inr more) ↦ absurd (elsewhere w (λ e. omega (arith, more, e)) a same)
       ]
@@ -205,9 +202,7 @@ module _ (p : Program) (are : FitTogether p.units) (u : ℕ) (items : List tree.
       let names = ap (list_all is_own_name) (own_names p are u items at_u x) ∙ locals_free p are u items at_u (local_names x) frees.1 in
       let free' : (file_name_is_free (renamed.item ρ u x) && list_all is_own_name (local_names (renamed.item ρ u x))) ≡ true =
       λ j. name_free p are u items at_u x frees.0 j && names j in
-      let proper = types_same items (merged p.units) k i x ∙ h.1.1.0 in
       let first = first_same items (merged p.units) k i x ∙ h.1.1.1.0 in
-      let static = static_defined k i x h.1.1.1.1.0 in
       let own = names_distinct k i x frees.1 h.1.1.1.1.1.0 in
       let filled = filled_same items (merged p.units) k i x ∙ h.1.1.1.1.1.1.0 in
-      (once, (free', (proper, (first, (static, (own, (filled, tt)))))))
+      (once, (free', (types_same items (merged p.units) k i x ∙ h.1.1.0, (first, (static_defined k i x h.1.1.1.1.0, (own, (filled, tt)))))))

@@ -15,6 +15,7 @@ use Rattle.c_merge.proofs.NewNames.{new, new_var, outside_stays, own_new, own_va
 use Rattle.c_merge.proofs.NewStatements.{all_gives}
 use Rattle.c_merge.proofs.Places.{Before, from_map}
 use Rattle.c_merge.proofs.Units.{func_seen, defined_once}
+use Rattle.std.proofs.lemmas.Bool.{not-false}
 
 -- ---- lists and tests
 
@@ -197,11 +198,7 @@ module _ (p : Program) (are : FitTogether p.units) (u : ℕ) (items : List tree.
       symbol_outside symbol = by_test (is_outside f.name) (λ out. out) (λ inn. absurd (clash (is_own f.name inn)))
         where
           is_own : (n : Name) → is_outside n ≡ false → is_own_name n ≡ true
-          is_own n inn = go (is_own_name n) inn
-            where
-              go : (b : Bool) → not b ≡ false → b ≡ true
-              go true e = refl
-              go false e = absurd (false≢true (sym e))
+          is_own n inn = not-false (is_own_name n) inn
 
           clash : is_own_name f.name ≡ true → ⊥
           clash own = false≢true (sym (ap not symbol) ∙ (and_parts _ (not (is_symbol f.name)) own).1)

@@ -1,5 +1,5 @@
 -- What names stand for in the scope of a function of the one unit, and the types of expressions there.
-use Rattle.c_merge.proofs.Common.{◌≡◌, ℕ, ◌<◌, Bool, true, false, ◌||◌, ◌≢◌, List, [], ◌∷◌, ◌++◌, map, take, is_some, if◌then◌else◌}
+use Rattle.c_merge.proofs.Common.{if◌then◌else◌, ◌≡◌, ℕ, ◌<◌, Bool, true, false, ◌||◌, ◌≢◌, List, [], ◌∷◌, ◌++◌, map, take, is_some}
 use Rattle.c_merge.proofs.Common.{slice_get, Some, None, Option, option_map, filter_map, bytes_eq, sym, refl, ap, ◌∙◌, subst, arith}
 use Rattle.c_merge.proofs.Common.{both_ways, same_Some, bytes_eq-Decides, cons_option, option_or, or_assoc, by_test, if_found, named}
 use Rattle.c_merge.proofs.Common.{primitives, HasType, IsElement, Scope, array_of, arrays, common_type, file_functions, file_variables}
@@ -8,6 +8,7 @@ use Rattle.c_merge.proofs.Common.{number_type, op_typing, param_variables, point
 use Rattle.c_merge.proofs.Common.{variables, CType, Program, Name, depth_name, by_option, free_names, named_from, take_keeps, each_at}
 use Rattle.c_merge.proofs.Common.{merging_names, Each, is_outside, name_in, Renaming, may_name, merge_names}
 use Rattle.std.proofs.lemmas.List.Elements.{filter_map-append}
+use Rattle.std.proofs.lemmas.Option.{none-some}
 use Rattle.c_tree.specs.declared.tree.CType.TheVariants as type
 use Rattle.c_tree.specs.Tree as tree
 use Rattle.c_renaming.specs.Renamed as renamed
@@ -18,9 +19,6 @@ use Rattle.c_merge.proofs.NewNames.{new, new_var, outside_stays, inside_new, var
 use Rattle.c_merge.proofs.NewNames.{one_type, among_map}
 use Rattle.c_merge.proofs.Places.{Before}
 use Rattle.c_merge.proofs.Units.{func_not_runtime, variable_free, runtime_reserved}
-
-no_some : {A : Type 0} {a : A} → None ≡ Some a → ⊥
-no_some e = cc
 
 -- ---- look-ups in lists whose names are new
 
@@ -67,7 +65,7 @@ module _ (p : Program) (are : FitTogether p.units) (u : ℕ) (items : List tree.
       let shown : option_map (λ e. (new_var w e.0, e.1)) (variable_of from.item)
       ≡ Some e = sym (ap variable_of from.is ∙ variable_item p w from.item) ∙ is in
       by_option (variable_of from.item)
-      (λ none. absurd (no_some (sym (ap (option_map (λ e. (new_var w e.0, e.1))) none) ∙ shown)))
+      (λ none. absurd (none-some _ (sym (ap (option_map (λ e. (new_var w e.0, e.1))) none) ∙ shown)))
       (λ d there.
       let same : (new_var w d.0, d.1)
       ≡ e = same_Some (new_var w d.0, d.1) e (sym (ap (option_map (λ e. (new_var w e.0, e.1))) there) ∙ shown) in
@@ -97,7 +95,7 @@ module _ (p : Program) (are : FitTogether p.units) (u : ℕ) (items : List tree.
           (λ yes_. absurd (both_ways (bytes_eq (new_var b.unit x) (new_var u n)) apart
           ((bytes_eq-Decides (new_var b.unit x) (new_var u n)).1 (same ∙ sym ((bytes_eq-Decides (new_var u n) m).0 yes_)))))
           (λ no_. no_)
-      go _ at is = absurd (no_some is)
+      go _ at is = absurd (none-some _ is)
 
   arrays_other : (n : Name) (others : List tree.Item) → Front others → is_among (new_var u n) (filter_map array_of others) ≡ false
   arrays_other n [] front = refl
@@ -145,7 +143,7 @@ module _ (p : Program) (are : FitTogether p.units) (u : ℕ) (items : List tree.
                 type_is = ap (λ (z : Name × tree.FuncType). z.1) same;
                 outside = name.outside;
               }
-          go _ at is = absurd (no_some is)
+          go _ at is = absurd (none-some _ is)
 
   -- ---- a function's scope
 
@@ -183,8 +181,7 @@ module _ (p : Program) (are : FitTogether p.units) (u : ℕ) (items : List tree.
     runtime_same n = ap (λ b. if b then Some type.U32 else None) (depth_same n)
       where
         depth_same : (n : Name) → bytes_eq depth_name (new_var u n) ≡ bytes_eq depth_name n
-        depth_same n = subst (λ (d : Name). bytes_eq d (new_var u n) ≡ bytes_eq depth_name n)
-            ((merging_names name_in new_names p is_outside (may_name p)).depth u) (vars_keep depth_name n)
+        depth_same n = rw ((merging_names name_in new_names p is_outside (may_name p)).depth u) at (vars_keep depth_name n)
 
     pub variables_same : (n : Name) → named (new_var u n) (variables now) ≡ named n (variables old)
     variables_same n =
@@ -287,8 +284,7 @@ module _ (p : Program) (are : FitTogether p.units) (u : ℕ) (items : List tree.
         clash : named n primitives ≡ Some t → ⊥
         clash there =
             let none : named n primitives
-            ≡ None = subst (λ (x : Name). named x primitives ≡ None) o.name_is
-            (func_not_runtime o.others (are.kept o.unit o.others o.there) o.number o.func o.at) in
+            ≡ None = rw o.name_is at (func_not_runtime o.others (are.kept o.unit o.others o.there) o.number o.func o.at) in
             both_options (sym none ∙ there)
           where
             both_options : None ≡ Some t → ⊥
@@ -296,8 +292,8 @@ module _ (p : Program) (are : FitTogether p.units) (u : ℕ) (items : List tree.
 
         of_item : {t2 : tree.FuncType} (k : ℕ) (item : tree.Item) → slice_get items k ≡ Some item
             → function_of item ≡ Some (n, t2) → func_type_of o.func ≡ t2
-        of_item k (tree.Array x count bytes) at e = absurd (no_some e)
-        of_item k (tree.Var ty x number) at e = absurd (no_some e)
+        of_item k (tree.Array x count bytes) at e = absurd (none-some _ e)
+        of_item k (tree.Var ty x number) at e = absurd (none-some _ e)
         of_item {t2} k (tree.Function g) at e =
             let same : (g.name, func_type_of g) ≡ (n, t2) = same_Some (g.name, func_type_of g) (n, t2) e in
             let name : g.name ≡ n = ap (λ (z : Name × tree.FuncType). z.0) same in

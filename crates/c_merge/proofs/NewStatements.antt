@@ -18,8 +18,9 @@ use Rattle.c_merge.proofs.Together.{FitTogether}
 use Rattle.c_merge.proofs.NewNames.{new, new_var, outside_stays, among_map}
 use Rattle.c_merge.proofs.NewScope.{old, now, variables_same, file_variables_same, arrays_same, function_same, file_functions_there}
 use Rattle.c_merge.proofs.NewScope.{typing_same}
-use Rattle.c_merge.proofs.Places.{Before, take_map}
+use Rattle.c_merge.proofs.Places.{Before}
 use Rattle.c_merge.proofs.Rules.{Keeps}
+use Rattle.std.proofs.lemmas.List.{take-map}
 
 -- ---- lists
 
@@ -89,7 +90,6 @@ module _ (p : Program) (are : FitTogether p.units) (u : ℕ) (items : List tree.
   ends (tree.Call target (tree.Called n) args) is =
       let same : n ≡ codes "w2c_trap" = (bytes_eq-Decides n (codes "w2c_trap")).0 is in
       ap (λ x. bytes_eq x (codes "w2c_trap")) (outside_stays u n (ap is_outside same)) ∙ is
-  ends (tree.Call target (tree.Through t n) args) is = is
   ends (tree.Goto n) is = refl
   ends (tree.Switch e cases n) is = refl
   ends tree.ReturnNone is = refl
@@ -119,8 +119,6 @@ module _ (p : Program) (are : FitTogether p.units) (u : ℕ) (items : List tree.
   cases_new (c ∷ cases) = ap (λ l. name_in u c.1 ∷ l) (cases_new cases)
 
   named_new : (stmt : tree.Stmt) → labels_named (renamed.stmt ρ u stmt) ≡ map (name_in u) (labels_named stmt)
-  named_new (tree.Goto n) = refl
-  named_new (tree.If o x y n) = refl
   named_new (tree.Switch e cases n) =
       ap (λ l. l ++ name_in u n ∷ []) (cases_new cases) ∙ sym (map-append (name_in u) (map (λ (c : tree.Case). c.1) cases) (n ∷ []))
   named_new _ = refl
@@ -131,7 +129,7 @@ module _ (p : Program) (are : FitTogether p.units) (u : ℕ) (items : List tree.
   labels_same number stmt = λ i. own i && there i
     where
       earlier : labels_of (take (number - 1) (map (renamed.stmt ρ u) b.stmts)) ≡ map (name_in u) (labels_of (take (number - 1) b.stmts))
-      earlier = ap labels_of (take_map (renamed.stmt ρ u) (number - 1) b.stmts) ∙ labels_new (take (number - 1) b.stmts)
+      earlier = ap labels_of (take-map (renamed.stmt ρ u) (number - 1) b.stmts) ∙ labels_new (take (number - 1) b.stmts)
 
       own : if_any (label_of (renamed.stmt ρ u stmt))
           (λ name. not (is_among name (labels_of (take (number - 1) (map (renamed.stmt ρ u) b.stmts)))))
@@ -240,8 +238,7 @@ module _ (p : Program) (are : FitTogether p.units) (u : ℕ) (items : List tree.
   args_fit (t ∷ types) (a ∷ args) is =
       let both = and_parts (arg_suits s t a) (args_suit s types args) is in
       λ i. arg_fits t a both.0 i && args_fit types args both.1 i
-  args_fit [] (a ∷ args) is = is
-  args_fit (t ∷ types) [] is = is
+  args_fit _ _ is = is
 
   target_same : (result : CType) (target : Option Name)
       → target_suits s' result (option_map (new_var u) target) ≡ target_suits s result target
@@ -316,12 +313,11 @@ module _ (p : Program) (are : FitTogether p.units) (u : ℕ) (items : List tree.
       let known' = names_known stmt known in
       let typed' = ap (λ b. not b || stmt_is_typed s' (renamed.stmt ρ u stmt)) known' ∙ typed_same stmt ∙ typed in
       let fits' = ap (λ b. not b || stmt_suits s' (renamed.stmt ρ u stmt)) known' ∙ suits stmt known fits in
-      let cases' = cases_same number stmt ∙ h.1.1.1.1.1.1.0 in
       let last' = last_ends number stmt h.1.1.1.1.1.1.1.0 in (
         label_free number stmt,
         (
           written_same number stmt
               ∙ h.1.0,
-          (labels_same number stmt ∙ h.1.1.0, (known', (typed', (fits', (cases', (last', tt)))))),
+          (labels_same number stmt ∙ h.1.1.0, (known', (typed', (fits', (cases_same number stmt ∙ h.1.1.1.1.1.1.0, (last', tt)))))),
         ),
       )

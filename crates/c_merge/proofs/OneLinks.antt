@@ -22,10 +22,9 @@ use Rattle.c_merge.proofs.OneUnit.{same_func}
 -- what hosts do not define is defined once by one unit
 not_by_hosts : (has : Bool) (unit host : Option tree.FuncType) (x y : LinkRefusal)
     → (if has && is_some (option_or unit host) then x ∷ [] else []) ≡ [] → (if has && is_some host then y ∷ [] else []) ≡ []
-not_by_hosts true unit None x y e = refl
 not_by_hosts true None (Some ty) x y e = absurd (cons_not_none x [] e)
 not_by_hosts true (Some other) (Some ty) x y e = absurd (cons_not_none x [] e)
-not_by_hosts false unit host x y e = refl
+not_by_hosts _ unit _ x y e = refl
 
 abbrev refusals : ℕ → Name → tree.FuncType → Option tree.FuncType → List LinkRefusal
 refusals u x ty o = elim o [

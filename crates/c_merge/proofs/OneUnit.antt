@@ -1,6 +1,7 @@
 -- The one unit that linked units become keeps the rules.
-use Rattle.c_merge.proofs.Common.{◌≡◌, ℕ, ◌+◌, List, map, take, slice_get, Some, None, option_map, sym, refl, ap, ◌∙◌, subst, KeepsRules}
+use Rattle.c_merge.proofs.Common.{◌≡◌, ℕ, ◌+◌, List, map, take, slice_get, Some, option_map, sym, refl, ap, ◌∙◌, subst, KeepsRules}
 use Rattle.c_merge.proofs.Common.{item_rules, stmt_rules, Program, by_option, Renaming, merge_names, merged}
+use Rattle.std.proofs.lemmas.Option.{none-some}
 use Rattle.c_tree.specs.Tree as tree
 use Rattle.c_renaming.specs.Renamed as renamed
 use Rattle.c_merge.proofs.Together.{FitTogether}
@@ -43,7 +44,7 @@ module _ (p : Program) (are : FitTogether p.units) where
       let same : g ≡ renamed.func ρ u f = same_func g (renamed.func ρ u f) is in
       let there : option_map (renamed.body ρ u) f.body ≡ Some c = sym (ap (λ (h : tree.Func). h.body) same) ∙ body in
       by_option f.body
-      (λ none. absurd (no_some (sym (ap (option_map (renamed.body ρ u)) none) ∙ there)))
+      (λ none. absurd (none-some c (sym (ap (option_map (renamed.body ρ u)) none) ∙ there)))
       (λ b is'.
       record {
         func = f;
@@ -55,16 +56,17 @@ module _ (p : Program) (are : FitTogether p.units) where
             (sym (ap (option_map (renamed.body ρ u)) is') ∙ there);
       })
     where
-      no_some : None ≡ Some c → ⊥
-      no_some e = cc
-
       same_body : (b : tree.Body) → Some (renamed.body ρ u b) ≡ Some c → c ≡ renamed.body ρ u b
       same_body b e = cc
   is_body u _ g c is body = absurd cc
 
+  abbrev StmtKeeps : ℕ → List tree.Item → tree.Func → tree.Body → tree.Stmt → Type 0
+  StmtKeeps n declared f body stmt =
+      Keeps stmt_rules (record { scope = record { declared = declared; func = f; body = body }; number = n; stmt = stmt })
+
   new_stmt : (k : ℕ) (g : tree.Func) (c : tree.Body) → slice_get one k ≡ Some (tree.Function g) → g.body ≡ Some c
       → (j : ℕ) (stmt : tree.Stmt) → slice_get c.stmts j ≡ Some stmt
-      → Keeps stmt_rules (record { scope = record { declared = take (k + 1) one; func = g; body = c }; number = j + 1; stmt = stmt })
+      → StmtKeeps (j + 1) (take (k + 1) one) g c stmt
   new_stmt k g c at body j stmt here =
       let place : Placed p (take k one) (tree.Function g) = placed_at p k (tree.Function g) at in
       let from = place.from in
@@ -78,29 +80,10 @@ module _ (p : Program) (are : FitTogether p.units) where
       let s = from_map (renamed.stmt ρ u) b.stmts j stmt stmts in
       let old = (keeps_all from.items (are.kept u from.items from.there)).stmt from.number f b at_f is.body_is j s.0 s.1 in
       let now = stmt_keeps p are u from.items from.there (from.number + 1) f b place.others place.before (j + 1) s.0 old in
-      subst (λ (z : tree.Stmt). Keeps stmt_rules
-      (record { scope = record { declared = take (k + 1) one; func = g; body = c }; number = j + 1; stmt = z })) (sym s.2)
-      (subst (λ (d : tree.Body). Keeps stmt_rules
-      (record {
-        scope = record { declared = take (k + 1) one; func = g; body = d };
-        number = j
-            + 1;
-        stmt = renamed.stmt ρ u s.0;
-      })) (sym is.body_new)
-      (subst (λ (h : tree.Func). Keeps stmt_rules
-      (record {
-        scope = record { declared = take (k + 1) one; func = h; body = renamed.body ρ u b };
-        number = j
-            + 1;
-        stmt = renamed.stmt ρ u s.0;
-      })) (sym is.func_new)
-      (subst (λ (l : List tree.Item). Keeps stmt_rules
-      (record {
-        scope = record { declared = l; func = renamed.func ρ u f; body = renamed.body ρ u b };
-        number = j
-            + 1;
-        stmt = renamed.stmt ρ u s.0;
-      }))
+      subst (λ z. StmtKeeps (j + 1) (take (k + 1) one) g c z) (sym s.2)
+      (subst (λ d. StmtKeeps (j + 1) (take (k + 1) one) g d (renamed.stmt ρ u s.0)) (sym is.body_new)
+      (subst (λ h. StmtKeeps (j + 1) (take (k + 1) one) h (renamed.body ρ u b) (renamed.stmt ρ u s.0)) (sym is.func_new)
+      (subst (λ l. StmtKeeps (j + 1) l (renamed.func ρ u f) (renamed.body ρ u b) (renamed.stmt ρ u s.0))
       (sym (upto p k (tree.Function g) at place)) now)))
 
   pub one_keeps : KeepsRules (merged p.units)

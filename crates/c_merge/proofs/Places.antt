@@ -4,13 +4,9 @@ use Rattle.c_merge.proofs.Common.{append_assoc, arith, Program, each-append, eac
 use Rattle.c_tree.specs.Tree as tree
 use Rattle.c_renaming.specs.Renamed as renamed
 use Rattle.c_merge.proofs.Units.{each_from}
+use Rattle.std.proofs.lemmas.List.{take-map}
 
 -- ---- lists
-
-pub take_map : {A B : Type 0} (f : A → B) (n : ℕ) (xs : List A) → take n (map f xs) ≡ map f (take n xs)
-take_map f zero xs = refl
-take_map f (suc n) [] = refl
-take_map f (suc n) (x ∷ xs) = ap (λ l. f x ∷ l) (take_map f n xs)
 
 pub take_next : {A : Type 0} (xs : List A) (k : ℕ) (x : A) → slice_get xs k ≡ Some x → take (suc k) xs ≡ take k xs ++ x ∷ []
 take_next [] k x at = absurd cc
@@ -103,7 +99,7 @@ module _ (p : Program) where
             from = record { items = items; there = own; number = k; item = from.0; at = from.1; is = from.2 };
             others = done;
             before = before;
-            front_is = ap (λ l. done ++ l) (front ∙ take_map (renamed.item ρ v) k items);
+            front_is = ap (λ l. done ++ l) (front ∙ take-map (renamed.item ρ v) k items);
           }
       go (InSecond j here front) behind =
           subst (λ l. Placed l y) (append_assoc done (map (renamed.item ρ v) items) (take j (joined ρ (v + 1) units))

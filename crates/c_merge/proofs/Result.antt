@@ -20,5 +20,4 @@ module _ (units : List (List tree.Item)) (one : List tree.Item) (is : one ≡ jo
 
     module _ (hosts : List HostSymbol) (none : first_refusal units (c_symbols hosts) ≡ None) where
       pub is_kept : KeepsRules one
-      is_kept = subst KeepsRules (sym is_merged)
-          (one_keeps p (units_fit units (c_symbols hosts) (λ u items at. (checked u items at).1) none))
+      is_kept = rw is_merged (one_keeps p (units_fit units (c_symbols hosts) (λ u items at. (checked u items at).1) none))

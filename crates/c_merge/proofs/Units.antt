@@ -29,76 +29,24 @@ same_first {A} a b x y e = ap first e
     first None = a
     first (Some z) = z.0
 
-pub any_at : {A : Type 0} (test : A → Bool) (xs : List A) (i : ℕ) (x : A) → slice_get xs i ≡ Some x → test x ≡ true
-    → list_any test xs ≡ true
-any_at test [] i x at is = absurd cc
-any_at test (y ∷ xs) zero x at is =
-    let here : y ≡ x = cc in
-    let passes : test y ≡ true = ap test here ∙ is in
-    rw passes refl
-any_at test (y ∷ xs) (suc i) x at is = by_test (test y)
-    (λ passes. rw passes refl)
-    (λ fails. rw fails (any_at test xs i x at is))
-
 -- ---- names of the runtime
 
-abbrev IsReserved : Name × tree.FuncType → Type 0
-IsReserved e = (is_outside e.0 ≡ true) × (is_symbol e.0 ≡ false)
+abbrev is_reserved : Name → Bool
+is_reserved name = is_outside name && not (is_symbol name)
 
-reserved_in : (entries : List (Name × tree.FuncType)) → Each IsReserved entries → (name : Name) → is_some (named name entries) ≡ true
-    → (is_outside name ≡ true) × (is_symbol name ≡ false)
-reserved_in [] each name is = absurd (false≢true is)
-reserved_in (e ∷ entries) each name is = by_test (bytes_eq e.0 name)
-    (λ same. subst (λ (n : Name). (is_outside n ≡ true) × (is_symbol n ≡ false)) ((bytes_eq-Decides e.0 name).0 same) each.0)
-    (λ differ. reserved_in entries each.1 name (rw differ at is))
-
-reserved : Each IsReserved primitives
-reserved = (
-  (refl, refl),
-  (
-    (refl, refl),
-    (
-      (refl, refl),
-      (
-        (refl, refl),
-        (
-          (refl, refl),
-          (
-            (refl, refl),
-            (
-              (refl, refl),
-              (
-                (refl, refl),
-                (
-                  (refl, refl),
-                  (
-                    (refl, refl),
-                    (
-                      (refl, refl),
-                      (
-                        (refl, refl),
-                        (
-                          (refl, refl),
-                          (
-                            (refl, refl),
-                            ((refl, refl), ((refl, refl), ((refl, refl), ((refl, refl), ((refl, refl), tt))))),
-                          ),
-                        ),
-                      ),
-                    ),
-                  ),
-                ),
-              ),
-            ),
-          ),
-        ),
-      ),
-    ),
-  ),
-)
+reserved_in : (entries : List (Name × tree.FuncType)) → list_all (λ e. is_reserved e.0) entries ≡ true → (name : Name)
+    → is_some (named name entries) ≡ true → is_reserved name ≡ true
+reserved_in [] all name is = absurd (false≢true is)
+reserved_in (e ∷ entries) all name is =
+    let both = and_parts (is_reserved e.0) (list_all (λ e. is_reserved e.0) entries) all in
+    by_test (bytes_eq e.0 name)
+    (λ same. subst (λ (n : Name). is_reserved n ≡ true) ((bytes_eq-Decides e.0 name).0 same) both.0)
+    (λ differ. reserved_in entries both.1 name (rw differ at is))
 
 pub runtime_reserved : (name : Name) → is_some (named name primitives) ≡ true → (is_outside name ≡ true) × (is_symbol name ≡ false)
-runtime_reserved name is = reserved_in primitives reserved name is
+runtime_reserved name is =
+    let both = and_parts (is_outside name) (not (is_symbol name)) (reserved_in primitives refl name is) in
+    (both.0, not-true (is_symbol name) both.1)
 
 -- ---- names of file scope
 
@@ -213,13 +161,12 @@ module _ (items : List tree.Item) (keeps : KeepsRules items) where
       args_kept : (types : List CType) (args : List tree.Arg) → list_all (is_known s) (flat_map arg_uses args) ≡ true
           → args_suit s types args ≡ true
           → Each (KeptArg ρ u) args
-      args_kept [] [] known suits = tt
       args_kept (t ∷ types) (a ∷ args) known suits =
           let uses = all_parts (is_known s) (arg_uses a) (flat_map arg_uses args) known in
           let both = and_parts (arg_suits s t a) (args_suit s types args) suits in
           (arg_kept t a uses.0 both.0, args_kept types args uses.1 both.1)
       args_kept [] (a ∷ args) known suits = absurd (false≢true suits)
-      args_kept (t ∷ types) [] known suits = tt
+      args_kept _ _ known suits = tt
 
       if_there : {A : Type 0} (o : Option A) (test : A → Bool) → is_some o ≡ true → if_any o test ≡ true
           → (a : A) × (o ≡ Some a) × (test a ≡ true)

@@ -7,17 +7,12 @@ use Rattle.w2c_base.specs.declared.value.Value.TheVariants.{I32, I64}
 use Rattle.c_objects.specs.declared.held.FuncId.{FuncId}
 use Rattle.c_objects.specs.declared.table.Entry.{Entry}
 use Rattle.w2c_base.proofs.Places.{get_within}
+use Rattle.std.proofs.lemmas.Option.{slice_get-map}
 
 module _ {A B : Type 0} where
-  pub get_mapped : (f : A → B) (xs : List A) (i : ℕ) → slice_get (map f xs) i ≡ option_map f (slice_get xs i)
-  get_mapped f [] i = refl
-  get_mapped f (x ∷ xs) zero = refl
-  get_mapped f (x ∷ xs) (suc i) = get_mapped f xs i
-
   pub set_mapped : (f : A → B) (xs : List A) (i : ℕ) (x : A) → slice_set (map f xs) i (f x) ≡ map f (slice_set xs i x)
-  set_mapped f [] i x = refl
-  set_mapped f (y ∷ xs) zero x = refl
   set_mapped f (y ∷ xs) (suc i) x = ap (λ l. f y ∷ l) (set_mapped f xs i x)
+  set_mapped f _ _ x = refl
 
   pub empty_mapped : (f : A → B) (n : ℕ) → map (option_map f) (replicate n None) ≡ replicate n None
   empty_mapped f zero = refl
@@ -25,7 +20,7 @@ module _ {A B : Type 0} where
 
 pub element_at : (names : Naming) (es : List (Option Entry)) (i : ℕ)
     → slice_get (map (option_map (element_of names)) es) i ≡ option_map (option_map (element_of names)) (slice_get es i)
-element_at names es i = get_mapped (option_map (element_of names)) es i
+element_at names es i = slice_get-map (option_map (element_of names)) es i
 
 pub element_set : (names : Naming) (es : List (Option Entry)) (i : ℕ) (e : Entry)
     → slice_set (map (option_map (element_of names)) es) i (Some (element_of names e))

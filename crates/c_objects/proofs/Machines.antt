@@ -16,9 +16,10 @@ use Rattle.c_objects.specs.declared.held.ObjectId.{ObjectId}
 use Rattle.c_objects.specs.declared.memory.MemoryCell.{MemoryCell}
 use Rattle.c_objects.specs.declared.table.TableCell.{TableCell}
 use Rattle.c_objects.proofs.Kept.{memory_kept, table_kept}
-use Rattle.c_objects.proofs.Elements.{get_mapped, set_mapped}
+use Rattle.c_objects.proofs.Elements.{set_mapped}
 use Rattle.c_objects.proofs.Stores.{no_memory_effect, no_table_effect, no_such, nameless, later, named_at, set_at, stored_at, stored_set}
 use Rattle.c_objects.proofs.Stores.{units_at, units_past, units_set}
+use Rattle.std.proofs.lemmas.Option.{slice_get-map}
 
 differs_from : (x : Name) (ys : List Name) → AllByRecursion (Differ x) ys → AllByRecursion (λ y. bytes_eq y x ≡ false) ys
 differs_from x [] all = tt
@@ -66,10 +67,8 @@ no_memory_slot os u b other = go (slice_get os u) b other
       | object.Memory i ↦ option_map memory_of (slice_get o.memories.items i)
       | object.Table i ↦ None
     ]) ≡ None
-    go None b other = refl
-    go (Some o) (object.Variable i) other = refl
     go (Some o) (object.Memory i) other = absurd (other i refl)
-    go (Some o) (object.Table i) other = refl
+    go _ _ other = refl
 
 pub no_table_slot : (names : Naming) (os : List UnitObjects) (u : ℕ) (b : Object) → ((i : ℕ) → b ≡ object.Table i → ⊥)
     → table_slot names os u b ≡ None
@@ -80,10 +79,8 @@ no_table_slot names os u b other = go (slice_get os u) b other
       | object.Memory i ↦ None
       | object.Table i ↦ option_map (table_of names) (slice_get o.tables.items i)
     ]) ≡ None
-    go None b other = refl
-    go (Some o) (object.Variable i) other = refl
-    go (Some o) (object.Memory i) other = refl
     go (Some o) (object.Table i) other = absurd (other i refl)
+    go _ _ other = refl
 
 abbrev pub with_cell : UnitObjects → ℕ → MemoryCell → UnitObjects
 with_cell o i new = record { vars = o.vars; memories = with_item o.memories i new; tables = o.tables }
@@ -96,56 +93,36 @@ with_var_cell o i new = record { vars = with_item o.vars i new; memories = o.mem
 
 -- the objects stay stored
 module _ (names : Naming) where
-  pub memory_stored : (os : List UnitObjects) (u i : ℕ) (o : UnitObjects) (new : MemoryCell) → AreStored names os → slice_get os u ≡ Some o
-      → AreStored names (slice_set os u (with_cell o i new))
-  memory_stored os u i o new are e =
+  -- as many of each kind stand in a unit
+  stored_as : (os : List UnitObjects) (u : ℕ) (o new : UnitObjects) → AreStored names os → slice_get os u ≡ Some o
+      → length new.vars.items ≡ length o.vars.items → length new.memories.items ≡ length o.memories.items
+      → length new.tables.items ≡ length o.tables.items → AreStored names (slice_set os u new)
+  stored_as os u o new are e vars memories tables =
       let here = stored_at names names os u o are e in
       let is = here.2 in
-      stored_set names names os u here.0 (with_cell o i new) are here.1 (record {
+      stored_set names names os u here.0 new are here.1 (record {
         vars = is.vars;
         memories = is.memories;
         tables = is.tables;
         vars_memories = is.vars_memories;
         vars_tables = is.vars_tables;
         memories_tables = is.memories_tables;
-        vars_count = is.vars_count;
-        memories_count = is.memories_count ∙ sym (length-set o.memories.items i new);
-        tables_count = is.tables_count;
+        vars_count = is.vars_count ∙ sym vars;
+        memories_count = is.memories_count ∙ sym memories;
+        tables_count = is.tables_count ∙ sym tables;
       })
+
+  pub memory_stored : (os : List UnitObjects) (u i : ℕ) (o : UnitObjects) (new : MemoryCell) → AreStored names os → slice_get os u ≡ Some o
+      → AreStored names (slice_set os u (with_cell o i new))
+  memory_stored os u i o new are e = stored_as os u o (with_cell o i new) are e refl (length-set o.memories.items i new) refl
 
   pub table_stored : (os : List UnitObjects) (u i : ℕ) (o : UnitObjects) (new : TableCell) → AreStored names os → slice_get os u ≡ Some o
       → AreStored names (slice_set os u (with_table_cell o i new))
-  table_stored os u i o new are e =
-      let here = stored_at names names os u o are e in
-      let is = here.2 in
-      stored_set names names os u here.0 (with_table_cell o i new) are here.1 (record {
-        vars = is.vars;
-        memories = is.memories;
-        tables = is.tables;
-        vars_memories = is.vars_memories;
-        vars_tables = is.vars_tables;
-        memories_tables = is.memories_tables;
-        vars_count = is.vars_count;
-        memories_count = is.memories_count;
-        tables_count = is.tables_count ∙ sym (length-set o.tables.items i new);
-      })
+  table_stored os u i o new are e = stored_as os u o (with_table_cell o i new) are e refl refl (length-set o.tables.items i new)
 
   pub var_stored : (os : List UnitObjects) (u i : ℕ) (o : UnitObjects) (new : Held) → AreStored names os → slice_get os u ≡ Some o
       → AreStored names (slice_set os u (with_var_cell o i new))
-  var_stored os u i o new are e =
-      let here = stored_at names names os u o are e in
-      let is = here.2 in
-      stored_set names names os u here.0 (with_var_cell o i new) are here.1 (record {
-        vars = is.vars;
-        memories = is.memories;
-        tables = is.tables;
-        vars_memories = is.vars_memories;
-        vars_tables = is.vars_tables;
-        memories_tables = is.memories_tables;
-        vars_count = is.vars_count ∙ sym (length-set o.vars.items i new);
-        memories_count = is.memories_count;
-        tables_count = is.tables_count;
-      })
+  var_stored os u i o new are e = stored_as os u o (with_var_cell o i new) are e (length-set o.vars.items i new) refl refl
 
 module _ (names : Naming) (depth : ℕ) (trail : Trail) where
   abbrev machine : List UnitObjects → Machine
@@ -169,7 +146,7 @@ module _ (names : Naming) (depth : ℕ) (trail : Trail) where
       (apart_left n.vars n.memories i is.vars_memories is.memories)
   memory_by n o (object.Memory i) is =
       named_at n.memories (map memory_of o.memories.items) i is.memories (is.memories_count ∙ sym (length-map o.memories.items memory_of))
-      ∙ get_mapped memory_of o.memories.items i
+      ∙ slice_get-map memory_of o.memories.items i
   memory_by n o (object.Table i) is = no_such (get_or n.tables i []) n.memories (map memory_of o.memories.items)
       (apart_right n.memories n.tables i is.memories_tables is.memories)
 
@@ -214,7 +191,7 @@ module _ (names : Naming) (depth : ℕ) (trail : Trail) where
   table_by n o (object.Table i) is =
       named_at n.tables (map (table_of names) o.tables.items) i is.tables
       (is.tables_count ∙ sym (length-map o.tables.items (table_of names)))
-      ∙ get_mapped (table_of names) o.tables.items i
+      ∙ slice_get-map (table_of names) o.tables.items i
 
   pub table_found : (os : List UnitObjects) (u : ℕ) (b : Object) → AreStored names os
       → table_in (machine os) (address_of names (at u b)) ≡ table_slot names os u b
@@ -264,7 +241,7 @@ module _ (names : Naming) (depth : ℕ) (trail : Trail) where
       ])
   var_by n o (object.Variable i) is =
       named_at n.vars (map (value_of names) o.vars.items) i is.vars (is.vars_count ∙ sym (length-map o.vars.items (value_of names)))
-      ∙ get_mapped (value_of names) o.vars.items i
+      ∙ slice_get-map (value_of names) o.vars.items i
   var_by n o (object.Memory i) is = no_such (get_or n.memories i []) n.vars (map (value_of names) o.vars.items)
       (apart_right n.vars n.memories i is.vars_memories is.vars)
   var_by n o (object.Table i) is = no_such (get_or n.tables i []) n.vars (map (value_of names) o.vars.items)

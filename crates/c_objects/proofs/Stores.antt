@@ -8,14 +8,14 @@ use Rattle.w2c_base.specs.Values.{equal_type, type_of}
 use Rattle.c_objects.specs.declared.memory.MemoryCall.TheVariants as mem
 use Rattle.c_objects.specs.declared.table.TableCall.TheVariants as tab
 use Rattle.c_tree.specs.Primitives.{type_at}
+use Rattle.std.proofs.lemmas.Option.{same_Some}
 
 module _ {A : Type 0} where
   -- a name that differs from all is beside nothing
   pub no_such : (q : Name) (names : List Name) (vs : List A) → AllByRecursion (λ x. bytes_eq x q ≡ false) names
       → named q (zip names vs) ≡ None
-  no_such q [] vs all = refl
-  no_such q (x ∷ names) [] all = refl
   no_such q (x ∷ names) (v ∷ vs) all = rw all.0 (no_such q names vs all.1)
+  no_such q _ _ all = refl
 
 pub nameless : (names : List Name) → AreNames names → AllByRecursion (λ x. bytes_eq x [] ≡ false) names
 nameless [] are = tt
@@ -35,10 +35,9 @@ module _ {A : Type 0} where
   pub named_at : (names : List Name) (vs : List A) (i : ℕ) → AreNames names → length names ≡ length vs
       → named (get_or names i []) (zip names vs) ≡ slice_get vs i
   named_at [] [] i are many = refl
-  named_at [] (v ∷ vs) i are many = absurd (omega (arith, many))
-  named_at (x ∷ names) [] i are many = absurd (omega (arith, many))
   named_at (x ∷ names) (v ∷ vs) zero are many = rw (bytes_same x) refl
   named_at (x ∷ names) (v ∷ vs) (suc i) are many = rw (later x names i are.0 are.1) (named_at names vs i are.2 (omega (arith, many)))
+  named_at _ _ i are many = absurd (omega (arith, many))
 
   pub set_at : (names : List Name) (vs : List A) (i : ℕ) (w : A) → AreNames names → length names ≡ length vs
       → with_named (get_or names i []) w (zip names vs) ≡ zip names (slice_set vs i w)
@@ -53,19 +52,17 @@ module _ (names : Naming) where
   pub stored_at : (ns : List UnitNames) (os : List UnitObjects) (u : ℕ) (o : UnitObjects) → AreStored ns os → slice_get os u ≡ Some o
       → (n : UnitNames) × (slice_get ns u ≡ Some n) × IsStored n o
   stored_at [] [] u o are e = absurd cc
-  stored_at [] (p ∷ os) u o are e = absurd are
-  stored_at (n ∷ ns) [] u o are e = absurd are
   stored_at (n ∷ ns) (p ∷ os) zero o are e = let same : p ≡ o = same_Some p o e in (n, refl, subst (λ x. IsStored n x) same are.0)
   stored_at (n ∷ ns) (p ∷ os) (suc u) o are e = stored_at ns os u o are.1 e
+  stored_at _ _ u o are e = absurd are
 
   pub stored_set : (ns : List UnitNames) (os : List UnitObjects) (u : ℕ) (n : UnitNames) (o : UnitObjects) → AreStored ns os
       → slice_get ns u ≡ Some n → IsStored n o
       → AreStored ns (slice_set os u o)
   stored_set [] [] u n o are e is = absurd cc
-  stored_set [] (p ∷ os) u n o are e is = absurd are
-  stored_set (k ∷ ns) [] u n o are e is = absurd are
   stored_set (k ∷ ns) (p ∷ os) zero n o are e is = (subst (λ x. IsStored x o) (same_Some n k (sym e)) is, are.1)
   stored_set (k ∷ ns) (p ∷ os) (suc u) n o are e is = (are.0, stored_set ns os u n o are.1 e is)
+  stored_set _ _ u n o are e is = absurd are
 
   pub units_at : (ns : List UnitNames) (os : List UnitObjects) (u : ℕ) (n : UnitNames) (o : UnitObjects) → slice_get ns u ≡ Some n
       → slice_get os u ≡ Some o
@@ -80,19 +77,15 @@ module _ (names : Naming) where
   units_at (k ∷ ns) (p ∷ os) (suc u) n o en eo = units_at ns os u n o en eo
 
   pub units_past : (ns : List UnitNames) (os : List UnitObjects) (u : ℕ) → slice_get os u ≡ None → slice_get (units_of names ns os) u ≡ None
-  units_past [] os u e = refl
-  units_past (n ∷ ns) [] u e = refl
   units_past (n ∷ ns) (o ∷ os) zero e = absurd cc
   units_past (n ∷ ns) (o ∷ os) (suc u) e = units_past ns os u e
+  units_past _ _ u e = refl
 
   pub units_set : (ns : List UnitNames) (os : List UnitObjects) (u : ℕ) (n : UnitNames) (o : UnitObjects) → slice_get ns u ≡ Some n
       → slice_set (units_of names ns os) u (objects_of names n o) ≡ units_of names ns (slice_set os u o)
   units_set [] os u n o e = refl
   units_set (k ∷ ns) [] u n o e = refl
-  units_set (k ∷ ns) (p ∷ os) zero n o e = ap (λ x. objects_of names x o ∷ units_of names ns os) (some_is n k (sym e))
-    where
-      some_is : (x y : UnitNames) → Some x ≡ Some y → x ≡ y
-      some_is x y e = cc
+  units_set (k ∷ ns) (p ∷ os) zero n o e = ap (λ x. objects_of names x o ∷ units_of names ns os) (same_Some n k (sym e))
   units_set (k ∷ ns) (p ∷ os) (suc u) n o e = ap (λ l. objects_of names k p ∷ l) (units_set ns os u n o e)
 
 -- nothing stands there

@@ -8,7 +8,7 @@ use Rattle.c_prelude.proofs.Common.{Pointer, Vars, after_label, CallComesBetween
 use Rattle.c_prelude.proofs.Common.{fill_helper, object_stmts, ComesToBytes, DoesCopy, DoesFill, number}
 use Rattle.w2c_base.specs.declared.value.ValType.TheVariants as type
 use Rattle.c_tree.specs.Tree as tree
-use Rattle.c_prelude.specs.declared.object_tables.TheConstants.{COPY, FILL}
+use Rattle.c_helpers.specs.declared.object_tables.TheConstants.{COPY, FILL}
 use Rattle.c_prelude.proofs.Computed.{computed, computed_between}
 use Rattle.c_prelude.proofs.Memories.{no_wrap}
 use Rattle.c_prelude.proofs.Widths.{sides}

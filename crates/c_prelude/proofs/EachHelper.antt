@@ -3,8 +3,8 @@ use Rattle.c_prelude.proofs.Common.{◌≡◌, sym, subst, helper_of, number_hel
 use Rattle.c_prelude.proofs.Common.{Helper, NumOp}
 use Rattle.w2c_base.specs.declared.value.ValType.TheVariants as type
 use Rattle.c_tree.specs.Tree as tree
-use Rattle.c_prelude.specs.declared.operation.NumOp.TheVariants as num
-use Rattle.c_prelude.specs.declared.operation.Helper.TheVariants as helper
+use Rattle.c_helpers.specs.declared.operation.NumOp.TheVariants as num
+use Rattle.c_helpers.specs.declared.operation.Helper.TheVariants as helper
 use Rattle.c_prelude.proofs.Division.{div_u_right, rem_u_right, div_s_right, rem_s_right}
 use Rattle.c_prelude.proofs.Comparisons.{lt_s_right, gt_s_right, le_s_right, ge_s_right}
 use Rattle.c_prelude.proofs.Shifts.{shr_s_right, rotl_right, rotr_right}

@@ -4,9 +4,9 @@ use Rattle.c_prelude.proofs.Common.{sym, refl, ap, ◌∙◌, subst, LoadOp, Sto
 use Rattle.wasm_tree.specs.declared.operators.LoadOp.TheVariants as load
 use Rattle.wasm_tree.specs.declared.operators.StoreOp.TheVariants as store
 use Rattle.c_tree.specs.Tree as tree
-use Rattle.c_prelude.specs.declared.operation.NumOp.TheVariants as num
-use Rattle.c_prelude.specs.declared.operation.Helper.TheVariants as helper
-use Rattle.c_prelude.specs.declared.operation.TheConstants.{HELPERS}
+use Rattle.c_helpers.specs.declared.operation.NumOp.TheVariants as num
+use Rattle.c_helpers.specs.declared.operation.Helper.TheVariants as helper
+use Rattle.c_helpers.specs.declared.operation.TheConstants.{HELPERS}
 use Rattle.c_prelude.specs.Functions.{helper_type, IsStaticFunction}
 
 abbrev IsOne : Helper → Type 0

@@ -20,5 +20,4 @@ mod Numbers
 mod Ones
 mod Signs
 mod Tables
-mod Whole
 mod Zeros

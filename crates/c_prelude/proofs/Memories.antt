@@ -213,9 +213,6 @@ reading_of load.I64Load16U = by_get2 widened (N64 0) (λ p m unit at b o a n v. 
 reading_of load.I64Load32S = by_get4 (sign_64 4294967296 2147483648) (N64 0) (λ p m unit at b o a n v. ap is_u64 (c_extend32_64 v))
 reading_of load.I64Load32U = by_get4 widened (N64 0) (λ p m unit at b o a n v. refl)
 
-pub load_short : (op : LoadOp) → (load_access op).width ≤ 8
-load_short op = (reading_of op).short
-
 begins_load : (op : LoadOp) → BeginsLoad (load_helper op) (reading_of op)
 begins_load load.I32Load m a b o p pending unit item below = refl
 begins_load _ m a b o p pending unit item below = refl
@@ -344,9 +341,6 @@ writing_of store.I32Store16 = whole 2 (codes "w2c_put2") type.I32 (omega arith) 
 writing_of store.I64Store8 = cut 1 (codes "w2c_put1") (omega arith) refl low_1
 writing_of store.I64Store16 = cut 2 (codes "w2c_put2") (omega arith) refl low_2
 writing_of store.I64Store32 = cut 4 (codes "w2c_put4") (omega arith) refl low_4
-
-pub store_short : (op : StoreOp) → (store_access op).width ≤ 8
-store_short op = (writing_of op).short
 
 begins_store : (op : StoreOp) → BeginsStore (store_helper op) (writing_of op)
 begins_store store.I32Store m a b o v p pending unit item below = refl

@@ -10,9 +10,9 @@ use Rattle.c_tree.specs.Tests.{item_formed}
 use Rattle.c_tree.specs.FirstBroken.{KeepsRules}
 use Rattle.c_tree.specs.TypesInC.{c_type_of}
 use Rattle.c_meaning.specs.Primitives.{primitive}
-use Rattle.c_prelude.specs.declared.operation.Helper.{Helper}
-use Rattle.c_prelude.specs.declared.operation.Helper.TheVariants as helper
-use Rattle.c_prelude.specs.Rows.{Operator, Unary, Binary, Compare, ExtendI32S, Extend, operator_of, row_of}
+use Rattle.c_helpers.specs.declared.operation.Helper.{Helper}
+use Rattle.c_helpers.specs.declared.operation.Helper.TheVariants as helper
+use Rattle.c_helpers.specs.Rows.{Operator, Unary, Binary, Compare, ExtendI32S, Extend, operator_of, row_of}
 
 abbrev signature : CType → List CType → tree.FuncType
 signature result params = record { params = params; result = result }

@@ -1,7 +1,3 @@
-pub mod Pieces
-pub mod Rows
-pub mod Helpers
-pub mod Bodies
 pub mod Calls
 pub mod Operators
 pub mod Functions

@@ -16,9 +16,9 @@ use Rattle.c_tree.specs.Tree as tree
 use Rattle.c_meaning.specs.State.{ObjectAddress, CValue, Number, Pointer, FuncPointer, Memory, Element, Table, Machine}
 use Rattle.c_meaning.specs.Machine.{memory_in, with_memory, table_in}
 use Rattle.c_meaning.specs.Primitives.{with_content}
-use Rattle.c_prelude.specs.declared.operation.Helper.{Helper}
-use Rattle.c_prelude.specs.declared.operation.Helper.TheVariants as helper
-use Rattle.c_prelude.specs.Rows.{Operator, Unary, Binary, Compare, ExtendI32S, Extend, operator_of, row_of}
+use Rattle.c_helpers.specs.declared.operation.Helper.{Helper}
+use Rattle.c_helpers.specs.declared.operation.Helper.TheVariants as helper
+use Rattle.c_helpers.specs.Rows.{Operator, Unary, Binary, Compare, ExtendI32S, Extend, operator_of, row_of}
 use Rattle.c_prelude.specs.Calls.{CallEnd, GivesBack, TrapsWith, CallComesTo, CallComesBetween}
 
 -- a number of a type as a value of C

@@ -4,8 +4,8 @@ use Rattle.w2c_base.specs.Run.{Init}
 use Rattle.c_meaning.specs.State.{CValue, Pointer, ObjectAddress, UnitFunc, Machine}
 use Rattle.c_meaning.specs.Linking.{Program}
 use Rattle.c_meaning.specs.Run.{Pending, Progress, after}
-use Rattle.c_prelude.specs.declared.operation.Helper.{Helper}
-use Rattle.c_prelude.specs.Helpers.{helper_of}
+use Rattle.c_helpers.specs.declared.operation.Helper.{Helper}
+use Rattle.c_helpers.specs.Helpers.{helper_of}
 use Rattle.c_prelude.specs.Calls.{CallEnd, call_begun, call_ended}
 
 abbrev pub program : Program

@@ -3,10 +3,10 @@ ghost use Rattle.std.specs.Prelude.{◌≡◌, [], ◌∷◌, codes, Some, None}
 ghost use Rattle.w2c_base.specs.declared.trap.TrapKind.TheVariants as trap;
 ghost use Rattle.w2c_base.specs.declared.value.Value.TheVariants.{I32, I64};
 ghost use Rattle.c_meaning.specs.State.{Number, FuncPointer, UnitFunc};
-ghost use Rattle.c_prelude.specs.declared.operation.NumOp.TheVariants as num;
+ghost use Rattle.c_helpers.specs.declared.operation.NumOp.TheVariants as num;
 ghost use Rattle.wasm_tree.specs.declared.operators.LoadOp.TheVariants as load;
 ghost use Rattle.wasm_tree.specs.declared.operators.StoreOp.TheVariants as store;
-ghost use Rattle.c_prelude.specs.declared.operation.Helper.TheVariants as helper;
+ghost use Rattle.c_helpers.specs.declared.operation.Helper.TheVariants as helper;
 ghost use Rattle.c_prelude.specs.Calls.{GivesBack, TrapsWith};
 ghost use Rattle.c_prelude.specs.Samples as sample;
 

@@ -4,9 +4,9 @@ ghost use Rattle.c_tree.specs.Tree as tree;
 ghost use Rattle.c_meaning.specs.State.{CValue, Frame, Machine, Name, Running};
 ghost use Rattle.c_meaning.specs.Linking.{Program};
 ghost use Rattle.c_meaning.specs.Run.{Pending};
-ghost use Rattle.c_prelude.specs.declared.operation.Helper.{Helper};
-ghost use Rattle.c_prelude.specs.declared.operation.TheConstants.{HELPERS};
-ghost use Rattle.c_prelude.specs.Helpers.{helper_of};
+ghost use Rattle.c_helpers.specs.declared.operation.Helper.{Helper};
+ghost use Rattle.c_helpers.specs.declared.operation.TheConstants.{HELPERS};
+ghost use Rattle.c_helpers.specs.Helpers.{helper_of};
 ghost use Rattle.c_prelude.specs.Calls.{CallComesBetween, CallComesTo, CallEnd};
 ghost use Rattle.c_prelude.specs.Statements.{Calls, StatementComesBetween, StatementComesTo};
 

@@ -2,8 +2,8 @@
 use Rattle.c_read.proofs.Common.{◌≡◌, ℕ, ◌^◌, ◌<◌, ◌≤◌, Bool, true, false, cond, not, ◌&&◌, List, [], ◌∷◌, ◌++◌, nat_lt, ◌==◌, Ok, Err}
 use Rattle.c_read.proofs.Common.{decimal, sym, refl, ap, subst, arith, rules, ltb-true, list_all, Becomes, Faulty, Of, One, OneByte}
 use Rattle.c_read.proofs.Common.{OneNumber, Symbol, Takes, first, fits, limit, move, others, value_of, Lexeme, are_digits, is_digit, Fixed}
-use Rattle.c_read.proofs.Common.{Named, Number, Token, Wrong, kind_of, num_token, NumberTooLarge, Unexpected, Kind, Suffix, Of32, Of64}
-use Rattle.c_read.proofs.Common.{OfPlain, Tok, is_last, Outcome, Parser, and_then, num_of, number_at, plain_at}
+use Rattle.c_read.proofs.Common.{FitsNum, Named, Number, Token, Wrong, kind_of, num_token, NumberTooLarge, Unexpected, Kind, Suffix, Of32}
+use Rattle.c_read.proofs.Common.{Of64, OfPlain, Tok, is_last, Outcome, Parser, and_then, num_of, number_at, plain_at}
 use Rattle.std.proofs.lemmas.Bool.Decides.{nat_tests}
 use Rattle.std.proofs.lemmas.Fmt.{decimal-digits_value}
 use Rattle.std.proofs.lemmas.Str.Parse.{IsNumeralModel, numerals_by_fold}
@@ -17,7 +17,7 @@ use Rattle.c_tree.specs.declared.token.Wanted.TheVariants as wanted
 use Rattle.c_tree.specs.declared.tree.Num.{Num}
 use Rattle.c_tree.specs.declared.tree.Num.TheVariants.{Plain}
 use Rattle.c_lex.specs.Reading.{next_kind, unexpected, is_fixed, expect, name, name_at, number, plain}
-use Rattle.c_read.proofs.Exact.{Has, HasDigits, Proper, Exact, next, open_part, no_part, takes_one}
+use Rattle.c_read.proofs.Exact.{Has, HasDigits, Proper, Exact, free, next, open_part, no_part, takes_one}
 
 -- ---- fixed texts
 
@@ -52,42 +52,42 @@ has_first t (l ∷ ls) e is = (is, text_not_last t e, refl)
 moves_text : (t : Tok) (l : Lexeme) → is_text t ≡ true → l.token ≡ Fixed t → is_fixed t (kind_of l.token) ≡ true → move (One t) l ≡ Takes
 moves_text t l e is fixed = rw (fits_text t (kind_of l.token) e, fixed, is) refl
 
-pub expect_exact : (t : Tok) (ls : List Lexeme) → is_text t ≡ true → Exact [] (λ _. Fixed t ∷ []) (One t ∷ []) ls (expect t ls)
+pub expect_exact : (t : Tok) (ls : List Lexeme) → is_text t ≡ true → Exact [] (λ _. Fixed t ∷ []) free (One t ∷ []) ls (expect t ls)
 unfolding expect next_kind unexpected
 expect_exact t ls e = by (is_fixed t (kind_of (first ls).token)) refl
   where
     by : (b : Bool) → is_fixed t (kind_of (first ls).token) ≡ b
-        → Exact [] (λ _. Fixed t ∷ []) (One t ∷ []) ls
+        → Exact [] (λ _. Fixed t ∷ []) free (One t ∷ []) ls
         (cond b (Ok (tt {0}, others ls)) (Err (Unexpected (first ls).place (wanted.Token t))))
     by true fixed =
         let is = is_token t (first ls).token fixed in
-        record { is = (takes_one (One t) ls (moves_text t (first ls) e is fixed), Fixed t ∷ [], has_first t ls e is, refl) }
+        record { is = (takes_one (One t) ls (moves_text t (first ls) e is fixed), Fixed t ∷ [], has_first t ls e is, refl, tt) }
     by false fixed = no_part (rw (fits_text t (kind_of (first ls).token) e, fixed) refl)
 
 -- a fixed text, and what stands behind it
-pub text : {B : Type 0} {before : List Token} {tb : B → List Token} {t : Tok} {more : List Symbol} {ls : List Lexeme} {k : Parser B}
-    → is_text t ≡ true → Proper ls
-    → ((l1 : List Lexeme) → Proper l1 → Exact (before ++ Fixed t ∷ []) tb more l1 (k l1))
-    → Exact before tb (One t ∷ more) ls (and_then (expect t ls) (λ _. k))
-text {t = t} {ls = ls} is proper behind = next proper (expect_exact t ls is) (λ u l1 p1. behind l1 p1)
+pub text : {B : Type 0} {before : List Token} {tb : B → List Token} {fb : B → Type 0} {t : Tok} {more : List Symbol} {ls : List Lexeme}
+    {k : Parser B} → is_text t ≡ true → Proper ls
+    → ((l1 : List Lexeme) → Proper l1 → Exact (before ++ Fixed t ∷ []) tb fb more l1 (k l1))
+    → Exact before tb fb (One t ∷ more) ls (and_then (expect t ls) (λ _. k))
+text {t = t} {ls = ls} is proper behind = next proper (expect_exact t ls is) (λ u l1 p1 h. behind l1 p1)
 
 -- ---- names
 
-name_exact : (ls : List Lexeme) → Exact [] (λ n. Named n ∷ []) (One tok.Name ∷ []) ls (name ls)
+name_exact : (ls : List Lexeme) → Exact [] (λ n. Named n ∷ []) free (One tok.Name ∷ []) ls (name ls)
 unfolding name unexpected
 name_exact [] = no_part refl
 name_exact (l ∷ ls) = by l.token refl
   where
-    by : (x : Token) → l.token ≡ x → Exact [] (λ n. Named n ∷ []) (One tok.Name ∷ []) (l ∷ ls) (name_at x (l ∷ ls))
-    by (Named n) is = record { is = (takes_one (One tok.Name) (l ∷ ls) (rw is refl), Named n ∷ [], (is, refl, refl), refl) }
+    by : (x : Token) → l.token ≡ x → Exact [] (λ n. Named n ∷ []) free (One tok.Name ∷ []) (l ∷ ls) (name_at x (l ∷ ls))
+    by (Named n) is = record { is = (takes_one (One tok.Name) (l ∷ ls) (rw is refl), Named n ∷ [], (is, refl, refl), refl, tt) }
     by _ is = no_part (rw is refl)
 
 -- a name, and what stands behind it
-pub named : {B : Type 0} {before : List Token} {tb : B → List Token} {more : List Symbol} {ls : List Lexeme} {k : List ℕ → Parser B}
-    → Proper ls
-    → ((n : List ℕ) (l1 : List Lexeme) → Proper l1 → Exact (before ++ Named n ∷ []) tb more l1 (k n l1))
-    → Exact before tb (One tok.Name ∷ more) ls (and_then (name ls) k)
-named {ls = ls} proper behind = next proper (name_exact ls) behind
+pub named : {B : Type 0} {before : List Token} {tb : B → List Token} {fb : B → Type 0} {more : List Symbol} {ls : List Lexeme}
+    {k : List ℕ → Parser B} → Proper ls
+    → ((n : List ℕ) (l1 : List Lexeme) → Proper l1 → Exact (before ++ Named n ∷ []) tb fb more l1 (k n l1))
+    → Exact before tb fb (One tok.Name ∷ more) ls (and_then (name ls) k)
+named {ls = ls} proper behind = next proper (name_exact ls) (λ n l1 p1 h. behind n l1 p1)
 
 -- ---- numbers
 
@@ -114,13 +114,17 @@ num_again OfPlain ds e lt = ap (Number OfPlain) (digits_again ds e (omega arith)
 num_again Of32 ds e lt = ap (Number Of32) (digits_again ds e (omega arith))
 num_again Of64 ds e lt = ap (Number Of64) (digits_again ds e lt)
 
-abbrev NumberExact : ℕ → List Lexeme → Outcome Num → Type 0
-NumberExact d ls o = Exact [] (λ v. num_token v ∷ []) (Of part.InNumber d ∷ []) ls o
+num_fits : (s : Suffix) (n : ℕ) → n < limit s → FitsNum (num_of s n)
+num_fits OfPlain n lt = lt
+num_fits _ n lt = lt
+
+abbrev pub NumberExact : ℕ → List Lexeme → Outcome Num → Type 0
+NumberExact d ls o = Exact [] (λ v. num_token v ∷ []) FitsNum (Of part.InNumber d ∷ []) ls o
 
 number_is : (d : ℕ) (l : Lexeme) (s : Suffix) (ds : List ℕ) → l.token ≡ Number s ds → move (Of part.InNumber d) l ≡ Becomes (OneNumber ∷ [])
 number_is d l s ds is = rw is refl
 
-pub number_exact : (d : ℕ) (ls : List Lexeme) → Proper ls → Exact [] (λ v. num_token v ∷ []) (Of part.InNumber d ∷ []) ls (number ls)
+pub number_exact : (d : ℕ) (ls : List Lexeme) → Proper ls → NumberExact d ls (number ls)
 unfolding number unexpected
 number_exact d [] proper = no_part refl
 number_exact d (l ∷ ls) proper = by l.token refl
@@ -137,6 +141,7 @@ number_exact d (l ∷ ls) proper = by l.token refl
             Number s ds ∷ [],
             (is, refl, refl),
             ap (λ t. t ∷ []) (num_again s ds digits (ltb-true _ _ small)),
+            num_fits s (value_of 0 ds) (ltb-true _ _ small),
           );
         })
     in_range s ds is false large =
@@ -152,8 +157,8 @@ number_exact d (l ∷ ls) proper = by l.token refl
 abbrev pub plain_tokens : ℕ → List Token
 plain_tokens n = num_token (Plain n) ∷ []
 
-abbrev PlainExact : Symbol → List Lexeme → Outcome ℕ → Type 0
-PlainExact s ls o = Exact [] plain_tokens (s ∷ []) ls o
+abbrev pub PlainExact : Symbol → ℕ → List Lexeme → Type 0
+PlainExact s above ls = Exact [] plain_tokens (λ v. v < above) (s ∷ []) ls (plain above ls)
 
 -- what a symbol for a number without a suffix does at a token
 record TakesPlain (s : Symbol) (above : ℕ) : Type 0 where
@@ -164,13 +169,13 @@ record TakesPlain (s : Symbol) (above : ℕ) : Type 0 where
   other : (l : Lexeme) (t : Token) → l.token ≡ t → ((ds : List ℕ) → t ≡ Number OfPlain ds → ⊥)
       → move s l ≡ Faulty (Unexpected l.place (wanted.Token tok.Plain))
 
-plain_exact : (s : Symbol) (above : ℕ) (ls : List Lexeme) → TakesPlain s above → Proper ls → PlainExact s ls (plain above ls)
+plain_exact : (s : Symbol) (above : ℕ) (ls : List Lexeme) → TakesPlain s above → Proper ls → PlainExact s above ls
 unfolding plain unexpected
 plain_exact s above [] row proper = no_part (row.other (first []) (Fixed tok.End) refl (λ ds e. cc))
 plain_exact s above (l ∷ ls) row proper = by l.token refl
   where
     in_range : (ds : List ℕ) → l.token ≡ Number OfPlain ds → (b : Bool) → nat_lt (value_of 0 ds) above ≡ b
-        → PlainExact s (l ∷ ls) (cond b (Ok (value_of 0 ds, ls)) (Err (NumberTooLarge l.place)))
+        → Exact [] plain_tokens (λ v. v < above) (s ∷ []) (l ∷ ls) (cond b (Ok (value_of 0 ds, ls)) (Err (NumberTooLarge l.place)))
     in_range ds is true small =
         let digits : are_digits ds ≡ true = subst HasDigits is proper.0 in
         let lt : value_of 0 ds < 2 ^ 64 = omega (arith, ltb-true _ _ small, row.within) in
@@ -180,11 +185,12 @@ plain_exact s above (l ∷ ls) row proper = by l.token refl
             Number OfPlain ds ∷ [],
             (is, refl, refl),
             ap (λ x. Number OfPlain x ∷ []) (digits_again ds digits lt),
+            ltb-true _ _ small,
           );
         }
     in_range ds is false large = no_part (row.large l ds is large)
 
-    by : (x : Token) → l.token ≡ x → PlainExact s (l ∷ ls) (plain_at above x (l ∷ ls))
+    by : (x : Token) → l.token ≡ x → Exact [] plain_tokens (λ v. v < above) (s ∷ []) (l ∷ ls) (plain_at above x (l ∷ ls))
     by (Number OfPlain ds) is = in_range ds is (nat_lt (value_of 0 ds) above) refl
     by (Number Of32 ds) is = no_part (row.other l (Number Of32 ds) is (λ es e. cc))
     by (Number Of64 ds) is = no_part (row.other l (Number Of64 ds) is (λ es e. cc))
@@ -224,8 +230,8 @@ count_row =
     by l (Number Of64 ds) is differs = rw is refl
     by l _ is differs = rw is refl
 
-pub byte_exact : (ls : List Lexeme) → Proper ls → Exact [] plain_tokens (OneByte ∷ []) ls (plain 256 ls)
+pub byte_exact : (ls : List Lexeme) → Proper ls → PlainExact OneByte 256 ls
 byte_exact ls proper = plain_exact OneByte 256 ls byte_row proper
 
-pub count_exact : (ls : List Lexeme) → Proper ls → Exact [] plain_tokens (One tok.Plain ∷ []) ls (plain (2 ^ 32) ls)
+pub count_exact : (ls : List Lexeme) → Proper ls → PlainExact (One tok.Plain) (2 ^ 32) ls
 count_exact ls proper = plain_exact (One tok.Plain) (2 ^ 32) ls count_row proper

@@ -10,6 +10,5 @@ mod ExactItems
 mod ExactLists
 mod ExactStatements
 mod ExactTokens
-mod Fit
 mod Loops
 mod Whole

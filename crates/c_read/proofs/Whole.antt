@@ -12,7 +12,6 @@ use Rattle.c_tree.proofs.OneUnit.{one_unit}
 use Rattle.c_tree.proofs.NoFault.{no_fault}
 use Rattle.c_read.proofs.Exact.{Has, HasDigits, Proper}
 use Rattle.c_read.proofs.ExactItems.{unit_exact, unit_end}
-use Rattle.c_read.proofs.Fit.{unit_fit}
 use Rattle.c_read.proofs.Once.{IsOfToken, stops_at_token}
 
 -- ---- the lexemes of a text
@@ -80,7 +79,7 @@ spelled text u ls' read =
     let x = rw read at (unit_exact (lexemes 0 0 text) s.0).is in
     let is = end_token (first ls').token (rw read at (unit_end (lexemes 0 0 text) s.0)) in
     record {
-      fits = rw read at (unit_fit (lexemes 0 0 text)).is;
+      fits = x.4;
       in_order =
           has_tokens (lexemes 0 0 text) x.1 ls' x.2
           ∙ ap (λ us. x.1 ++ us) (only_end ls' (ended_behind (lexemes 0 0 text) x.1 ls' x.2 s.1) is)

@@ -17,7 +17,7 @@ pub use Rattle.w2c_base.specs.Run.{Ask, Call, Event, Gave, Host, HostTrapped, In
 pub use Rattle.w2c_base.specs.Values.{equal_type, equal_types, is_number, is_result, number_of, type_of, types_of, value}
 pub use Rattle.w2c_base.specs.declared.value.Value.{Value}
 pub use Rattle.w2c_base.specs.declared.value.Value.TheVariants.{I32, I64}
-pub use Rattle.c_tree.specs.Runtime.{same_func_type, same_type, same_types}
+pub use Rattle.c_tree.specs.Runtime.{depth_name, same_func_type, same_type, same_types}
 pub use Rattle.c_tree.specs.Scope.{func_type_of}
 pub use Rattle.c_tree.specs.TypesInC.{c_func_type_of, c_params_of}
 pub use Rattle.c_tree.specs.declared.tree.CType.TheVariants.{U32, U64, Void}
@@ -36,10 +36,10 @@ pub use Rattle.c_meaning.specs.State.{Asks, Bad, CValue, Element, Evaluated, Fra
 pub use Rattle.c_meaning.specs.State.{Name, NoRule, Number, ObjectAddress, Objects, Place, Pointer, Running, State, Stuck, Table, Trapped}
 pub use Rattle.c_meaning.specs.State.{Undefined, UnitFunc, Vars, found, of_one_type, then_evaluate}
 pub use Rattle.c_meaning.specs.Step.{Back, Next, Step, Stops, act, after_label, are_of_types, as_object, ask, assign, assign_depth, at_rest}
-pub use Rattle.c_meaning.specs.Step.{begin, bind, c_step, call, call_callee, call_named, call_through, depth_name, element, equal_number}
-pub use Rattle.c_meaning.specs.Step.{evaluate, evaluate_arg, evaluate_args, first_vars, give, in_unit, is_returned, jump, label_of}
-pub use Rattle.c_meaning.specs.Step.{locals_of, next, number_in, numbers, param_names, param_types, place_of, put_in, replied, returned}
-pub use Rattle.c_meaning.specs.Step.{take_effect, value_of, with_value, with_vars}
+pub use Rattle.c_meaning.specs.Step.{begin, bind, c_step, call, call_callee, call_named, call_through, element, equal_number, evaluate}
+pub use Rattle.c_meaning.specs.Step.{evaluate_arg, evaluate_args, first_vars, give, in_unit, is_returned, jump, label_of, locals_of, next}
+pub use Rattle.c_meaning.specs.Step.{number_in, numbers, param_names, param_types, place_of, put_in, replied, returned, take_effect}
+pub use Rattle.c_meaning.specs.Step.{value_of, with_value, with_vars}
 pub use Rattle.c_renaming.specs.Externals.{Elsewhere, Here, KeepsExternals, StandsFor, definer}
 pub use Rattle.c_renaming.specs.Kept.{Each, Holds, KeptArg, KeptCallee, KeptDefinition, KeptFrames, KeptFunc, KeptRunning, KeptStmt}
 pub use Rattle.c_renaming.specs.Kept.{KeptTable, KeptValue, KeptVars}

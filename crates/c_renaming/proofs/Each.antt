@@ -1,6 +1,11 @@
 -- What is known of each item of a list, and of what an option holds.
 use Rattle.c_renaming.proofs.Common.{◌≡◌, ℕ, zero, suc, List, [], ◌∷◌, ◌++◌, slice_get, Some, None, Option, subst, option_or, Each, Holds}
 
+-- what holds of an item, and what holds of those behind it
+infixr 5 ◌&◌
+abbrev pub ◌&◌ : {A B : Type 0} → A → B → A × B
+a & b = (a, b)
+
 pub each_by : {A : Type 0} {P Q : A → Type 0} → ((a : A) → P a → Q a) → (xs : List A) → Each P xs → Each Q xs
 each_by give [] each = tt
 each_by give (x ∷ xs) each = (give x each.0, each_by give xs each.1)

@@ -5,6 +5,7 @@ use Rattle.c_renaming.proofs.Common.{primitives, CValue, Machine, Name, Each, Te
 use Rattle.std.specs.Int.Digits.{digits_of, number_from_digits, AllBelowBase}
 use Rattle.std.proofs.lemmas.Int.Digits.{all_below_base_digits_of, number_digits_of}
 use Rattle.c_renaming.specs.NewNames.{decimal_text, name_in, is_outside}
+use Rattle.c_renaming.proofs.Each.{◌&◌}
 
 -- ---- a number's digits
 
@@ -85,19 +86,6 @@ none_inside (e ∷ entries) each x inside = go (bytes_eq e.0 x) refl (none_insid
     go false is behind = behind
 
 pub primitives_outside : (x : Name) → is_outside x ≡ false → primitive x ≡ None
-primitives_outside = none_inside primitives (
-  refl,
-  (
-    refl,
-    (
-      refl,
-      (
-        refl,
-        (
-          refl,
-          (refl, (refl, (refl, (refl, (refl, (refl, (refl, (refl, (refl, (refl, (refl, (refl, (refl, (refl, tt)))))))))))))),
-        ),
-      ),
-    ),
-  ),
-)
+primitives_outside = none_inside primitives
+    (refl & refl & refl & refl & refl & refl & refl & refl & refl & refl & refl & refl & refl & refl & refl & refl & refl &
+    refl & refl & tt)

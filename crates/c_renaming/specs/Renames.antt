@@ -1,11 +1,11 @@
 -- What a renaming has to keep, so that the second program runs as the first does.
 use Rattle.std.specs.Prelude.{◌≡◌, ℕ, true, false, List, map, bytes_eq, option_map}
 use Rattle.w2c_base.specs.Run.{Reply}
+use Rattle.c_tree.specs.Runtime.{depth_name}
 use Rattle.c_meaning.specs.State.{Name, ObjectAddress, UnitFunc}
 use Rattle.c_meaning.specs.Linking.{Program, SymbolCall, func_named, array_named, definition_at, func_type, init_functions, called_func}
 use Rattle.c_meaning.specs.Machine.{fresh}
 use Rattle.c_meaning.specs.Primitives.{primitive}
-use Rattle.c_meaning.specs.Step.{depth_name}
 use Rattle.c_renaming.specs.Renaming.{Renaming, address}
 use Rattle.c_renaming.specs.Renamed as renamed
 use Rattle.c_renaming.specs.Kept.{Each, Holds, KeptFunc, KeptDefinition}

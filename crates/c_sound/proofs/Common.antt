@@ -28,7 +28,7 @@ pub use Rattle.c_tree.specs.Rules.{hides_none, if_any, is_known, is_own_name, is
 pub use Rattle.c_tree.specs.Rules.{is_void, labels_of, local_names, locals_have_values, locals_suit, may_be_assigned, may_be_called}
 pub use Rattle.c_tree.specs.Rules.{may_both_stand, number_suits, params_are_named, points_to_number, proper_params, proper_types}
 pub use Rattle.c_tree.specs.Rules.{target_suits, target_uses}
-pub use Rattle.c_tree.specs.Runtime.{same_func_type, same_type, same_types}
+pub use Rattle.c_tree.specs.Runtime.{depth_name, same_func_type, same_type, same_types}
 pub use Rattle.c_tree.specs.Scope.{Compares, HasType, IllTyped, IsElement, Scope, Typing, array_of, arrays, common_type, file_functions}
 pub use Rattle.c_tree.specs.Scope.{file_variables, func_type_of, function_of, functions, is_among, is_comparison, is_number_type}
 pub use Rattle.c_tree.specs.Scope.{is_object_type, local_variables, may_be_narrowed, name_of, name_typing, number_type, op_typing}
@@ -53,10 +53,10 @@ pub use Rattle.c_meaning.specs.State.{Asks, Bad, CValue, Element, Evaluated, Fra
 pub use Rattle.c_meaning.specs.State.{Name, NoRule, Number, ObjectAddress, Objects, Place, Pointer, Running, State, Stop, Stuck, Table}
 pub use Rattle.c_meaning.specs.State.{Undefined, UnitFunc, Vars, found, of_one_type, then_evaluate}
 pub use Rattle.c_meaning.specs.Step.{Back, Next, Step, Stops, act, after_label, are_of_types, as_number, as_object, ask, assign}
-pub use Rattle.c_meaning.specs.Step.{assign_depth, at_rest, begin, bind, c_step, call, call_callee, call_named, call_through, depth_name}
-pub use Rattle.c_meaning.specs.Step.{element, equal_number, evaluate, evaluate_arg, evaluate_args, first_vars, give, in_unit, is_returned}
-pub use Rattle.c_meaning.specs.Step.{jump, label_of, locals_of, next, number_in, numbers, param_names, param_types, place_of, put_in}
-pub use Rattle.c_meaning.specs.Step.{replied, returned, take_effect, value_of, with_value, with_vars}
+pub use Rattle.c_meaning.specs.Step.{assign_depth, at_rest, begin, bind, c_step, call, call_callee, call_named, call_through, element}
+pub use Rattle.c_meaning.specs.Step.{equal_number, evaluate, evaluate_arg, evaluate_args, first_vars, give, in_unit, is_returned, jump}
+pub use Rattle.c_meaning.specs.Step.{label_of, locals_of, next, number_in, numbers, param_names, param_types, place_of, put_in, replied}
+pub use Rattle.c_meaning.specs.Step.{returned, take_effect, value_of, with_value, with_vars}
 pub use Rattle.c_sound.specs.NeverStuck.{AllFit, KeepRules, NeverStuck}
 pub use Rattle.c_sound.specs.Typed.{Begins, Callable, Gives, HoldFuncs, HoldsFunc, IsVoid, OfType, OfTypes, ScopeOf, Sound, SoundStmt}
 pub use Rattle.c_sound.specs.Typed.{Takes, TypedBelow, TypedMachine, TypedPhase, TypedProgram, TypedRun, TypedRunning, TypedState}

@@ -6,7 +6,7 @@ use Rattle.c_sound.proofs.Common.{number_of, value, ValType, Value, I32, I64, ex
 use Rattle.c_sound.proofs.Common.{IsElement, Scope, Typing, arrays, common_type, file_variables, is_among, is_number_type, is_object_type}
 use Rattle.c_sound.proofs.Common.{local_variables, may_be_narrowed, name_typing, number_type, op_typing, param_variables, pointed_by}
 use Rattle.c_sound.proofs.Common.{pointer_to, typed_if, typing_of, value_typing, variables, COp, CType, N32, N64, Plain, bytes_differ}
-use Rattle.c_sound.proofs.Common.{Program, array_named, c_type_of, var_in, Bad, CValue, Evaluated, FuncPointer, Is, Machine, Name, NoRule}
+use Rattle.c_sound.proofs.Common.{Program, array_named, c_type_of, var_in, Bad, CValue, Evaluated, Is, Machine, Name, NoRule}
 use Rattle.c_sound.proofs.Common.{Number, Pointer, Running, Vars, found, then_evaluate, as_number, as_object, depth_name, element, evaluate}
 use Rattle.c_sound.proofs.Common.{in_unit, number_in, value_of, OfType, ScopeOf, TypedMachine, VarsOf, own_variables, type_at}
 use Rattle.w2c_base.specs.declared.value.ValType.TheVariants as val
@@ -140,13 +140,8 @@ number_of_type : (p : Program) (t : CType) (v : CValue) → is_number_type t ≡
     → Comes (IsSuch (HasType t)) (as_number v)
 number_of_type p type.U32 (Number (I32 n)) is h = tt
 number_of_type p type.U64 (Number (I64 n)) is h = tt
-number_of_type p type.U32 (Number (I64 n)) is h = absurd (false≢true h.is)
-number_of_type p type.U64 (Number (I32 n)) is h = absurd (false≢true h.is)
-number_of_type p type.U32 (Pointer a) is h = absurd (false≢true h.is)
-number_of_type p type.U64 (Pointer a) is h = absurd (false≢true h.is)
-number_of_type p type.U32 (FuncPointer f) is h = absurd (false≢true h.is)
-number_of_type p type.U64 (FuncPointer f) is h = absurd (false≢true h.is)
-number_of_type p type.Void v is h = absurd (false≢true is)
+number_of_type p type.U32 _ is h = absurd (false≢true h.is)
+number_of_type p type.U64 _ is h = absurd (false≢true h.is)
 number_of_type p _ v is h = absurd (false≢true is)
 
 number_found : (p : Program) (t : CType) (o : Option CValue) → is_number_type t ≡ true → (v : CValue) → o ≡ Some v → OfType p t v
@@ -177,12 +172,8 @@ pub object_of : (p : Program) (t u : CType) (v : CValue) → pointed_by t ≡ So
 object_of p t u (Pointer None) e h = tt
 object_of p t u (Pointer (Some a)) e h =
     subst (λ (x : CType). type_at p a ≡ Some x) (one_target t u h.points.0 e h.points.2) h.points.1
-object_of p type.PtrU32 u (Number (I32 n)) e h = absurd (false≢true h.is)
-object_of p type.PtrU64 u (Number (I32 n)) e h = absurd (false≢true h.is)
-object_of p type.PtrU32 u (Number (I64 n)) e h = absurd (false≢true h.is)
-object_of p type.PtrU64 u (Number (I64 n)) e h = absurd (false≢true h.is)
-object_of p type.PtrU32 u (FuncPointer f) e h = absurd (false≢true h.is)
-object_of p type.PtrU64 u (FuncPointer f) e h = absurd (false≢true h.is)
+object_of p type.PtrU32 u _ e h = absurd (false≢true h.is)
+object_of p type.PtrU64 u _ e h = absurd (false≢true h.is)
 object_of p _ u v e h = absurd cc
 
 -- ---- operators

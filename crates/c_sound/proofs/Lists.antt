@@ -4,6 +4,11 @@ use Rattle.c_sound.proofs.Common.{Option, zip, flat_map, filter_map, bytes_eq, s
 use Rattle.c_sound.proofs.Common.{bytes_eq-Decides, cons_option, range_with_len, append_none, by_test, named, numbered, Name}
 use Rattle.c_sound.proofs.Choices.{by_option}
 
+-- what holds of an item, and what holds of those behind it
+infixr 5 ◌&◌
+abbrev pub ◌&◌ : {A B : Type 0} → A → B → A × B
+a & b = (a, b)
+
 abbrev is_nothing : {A : Type 0} → List A → Bool
 is_nothing [] = true
 is_nothing (x ∷ xs) = false

@@ -11,6 +11,7 @@ use Rattle.c_tree.specs.declared.tree.CType.TheVariants as type
 use Rattle.c_tree.specs.Tree as tree
 use Rattle.c_tree.specs.Runtime as header
 use Rattle.c_meaning.specs.Primitives as prim
+use Rattle.c_sound.proofs.Lists.{◌&◌}
 use Rattle.c_sound.proofs.Changes.{memory_keeps, table_keeps}
 
 -- The effect is one, and what it gives is of the type.
@@ -46,53 +47,40 @@ module _ (p : Program) where
 
   pub narrow : (P : CValue → Type 0) → ((n : ℕ) → P (Number (I32 n))) → (v : CValue) → OfType p type.U32 v → P v
   narrow P h (Number (I32 n)) is = h n
-  narrow P h (Number (I64 n)) is = absurd (false≢true is.is)
-  narrow P h (Pointer a) is = absurd (false≢true is.is)
-  narrow P h (FuncPointer f) is = absurd (false≢true is.is)
+  narrow P h _ is = absurd (false≢true is.is)
 
   wide : (P : CValue → Type 0) → ((n : ℕ) → P (Number (I64 n))) → (v : CValue) → OfType p type.U64 v → P v
   wide P h (Number (I64 n)) is = h n
-  wide P h (Number (I32 n)) is = absurd (false≢true is.is)
-  wide P h (Pointer a) is = absurd (false≢true is.is)
-  wide P h (FuncPointer f) is = absurd (false≢true is.is)
+  wide P h _ is = absurd (false≢true is.is)
 
   func : (P : CValue → Type 0) → P (FuncPointer None) → ((f : FuncAddress) → is_some (func_type p f) ≡ true → P (FuncPointer (Some f)))
       → (v : CValue) → OfType p type.FnPtr v → P v
   func P null h (FuncPointer None) is = null
   func P null h (FuncPointer (Some f)) is = h f is.points
-  func P null h (Number n) is = absurd (false≢true is.is)
-  func P null h (Pointer a) is = absurd (false≢true is.is)
+  func P null h _ is = absurd (false≢true is.is)
 
-  module _ (P : List CValue → Type 0) where
-    one : (t : CType) → ((v : CValue) → OfType p t v → P (v ∷ [])) → (args : List CValue) → OfTypes p (t ∷ []) args → P args
-    one t h [] are = absurd are
-    one t h (v ∷ []) are = h v are.0
-    one t h (v ∷ w ∷ args) are = absurd are.1
+  -- what gives P of each value of a type: for a number, P of each number
+  abbrev Given : CType → (CValue → Type 0) → Type 0
+  Given type.U32 P = (n : ℕ) → P (Number (I32 n))
+  Given type.U64 P = (n : ℕ) → P (Number (I64 n))
+  Given t P = (v : CValue) → OfType p t v → P v
 
-    two : (t u : CType) → ((v w : CValue) → OfType p t v → OfType p u w → P (v ∷ w ∷ []))
-        → (args : List CValue) → OfTypes p (t ∷ u ∷ []) args → P args
-    two t u h [] are = absurd are
-    two t u h (v ∷ []) are = absurd are.1
-    two t u h (v ∷ w ∷ []) are = h v w are.0 are.1.0
-    two t u h (v ∷ w ∷ x ∷ args) are = absurd are.1.1
+  given : (t : CType) (P : CValue → Type 0) → Given t P → (v : CValue) → OfType p t v → P v
+  given type.U32 P h v is = narrow P h v is
+  given type.U64 P h v is = wide P h v is
+  given _ P h v is = h v is
 
-    three : (t u q : CType) → ((v w x : CValue) → OfType p t v → OfType p u w → OfType p q x → P (v ∷ w ∷ x ∷ []))
-        → (args : List CValue) → OfTypes p (t ∷ u ∷ q ∷ []) args → P args
-    three t u q h [] are = absurd are
-    three t u q h (v ∷ []) are = absurd are.1
-    three t u q h (v ∷ w ∷ []) are = absurd are.1.1
-    three t u q h (v ∷ w ∷ x ∷ []) are = h v w x are.0 are.1.0 are.1.1.0
-    three t u q h (v ∷ w ∷ x ∷ y ∷ args) are = absurd are.1.1.1
+  -- the same for arguments of these types
+  abbrev GivenAll : List CType → (List CValue → Type 0) → Type 0
+  GivenAll [] P = P []
+  GivenAll (t ∷ types) P = Given t (λ v. GivenAll types (λ args. P (v ∷ args)))
 
-    four : (t u q z : CType)
-        → ((v w x y : CValue) → OfType p t v → OfType p u w → OfType p q x → OfType p z y → P (v ∷ w ∷ x ∷ y ∷ []))
-        → (args : List CValue) → OfTypes p (t ∷ u ∷ q ∷ z ∷ []) args → P args
-    four t u q z h [] are = absurd are
-    four t u q z h (v ∷ []) are = absurd are.1
-    four t u q z h (v ∷ w ∷ []) are = absurd are.1.1
-    four t u q z h (v ∷ w ∷ x ∷ []) are = absurd are.1.1.1
-    four t u q z h (v ∷ w ∷ x ∷ y ∷ []) are = h v w x y are.0 are.1.0 are.1.1.0 are.1.1.1.0
-    four t u q z h (v ∷ w ∷ x ∷ y ∷ a ∷ args) are = absurd are.1.1.1.1
+  given_all : (types : List CType) (P : List CValue → Type 0) → GivenAll types P → (args : List CValue) → OfTypes p types args → P args
+  given_all [] P h [] are = h
+  given_all [] P h (v ∷ args) are = absurd are
+  given_all (t ∷ types) P h [] are = absurd are
+  given_all (t ∷ types) P h (v ∷ args) are =
+      given_all types (λ rest. P (v ∷ rest)) (given t (λ w. GivenAll types (λ rest. P (w ∷ rest))) h v are.0) args are.1
 
   number_is : (t : ValType) (n : ℕ) → OfType p (c_type_of t) (Number (value t n))
   number_is val.I32 n = record { is = refl; points = tt }
@@ -143,40 +131,36 @@ module _ (p : Program) where
     -- ---- the primitives
 
     trap_typed : Typed (type.U32 ∷ []) type.Void prim.trap
-    trap_typed = one (λ args. TypedEffect p type.Void (prim.trap args m)) type.U32
-        (λ v is. narrow (λ v. TypedEffect p type.Void (prim.trap (v ∷ []) m))
-        (λ code. by (find (λ kind. code_of kind == code) prim.trap_kinds)) v is)
+    trap_typed = given_all (type.U32 ∷ []) (λ args. TypedEffect p type.Void (prim.trap args m))
+        (λ code. by (find (λ kind. code_of kind == code) prim.trap_kinds))
       where
         by : (o : Option TrapKind) → TypedEffect p type.Void (elim o [ None ↦ prim.IsUndefined 8 | Some kind ↦ prim.Traps kind ])
         by None = tt
         by (Some kind) = tt
 
     mem_new_typed : Typed (type.PtrMem ∷ type.U32 ∷ type.U64 ∷ []) type.Void prim.mem_new
-    mem_new_typed = three (λ args. TypedEffect p type.Void (prim.mem_new args m)) type.PtrMem type.U32 type.U64
-        (λ v w x is_v is_w is_x. narrow (λ w. TypedEffect p type.Void (prim.mem_new (v ∷ w ∷ x ∷ []) m))
-        (λ least. wide (λ x. TypedEffect p type.Void (prim.mem_new (v ∷ Number (I32 least) ∷ x ∷ []) m))
-        (λ most. on_memory_typed type.Void v
+    mem_new_typed = given_all (type.PtrMem ∷ type.U32 ∷ type.U64 ∷ []) (λ args. TypedEffect p type.Void (prim.mem_new args m))
+        (λ v is_v least most. on_memory_typed type.Void v
         (λ a memory. if memory.is_made || nat_lt 16384 least || nat_lt 4294967296 most then prim.IsUndefined 8 else prim.Gives
         (with_memory m a (record { is_made = true; bytes = replicate (least * 65536) 0; max = most })) None)
         is_v
         (λ a memory there. if_typed type.Void (memory.is_made || nat_lt 16384 least || nat_lt 4294967296 most) (prim.IsUndefined 8)
         (prim.Gives (with_memory m a (record { is_made = true; bytes = replicate (least * 65536) 0; max = most })) None) tt
-        (memory_keeps p m a memory _ machine there, refl))) x is_x) w is_w)
+        (memory_keeps p m a memory _ machine there, refl)))
 
     mem_len_typed : Typed (type.PtrMem ∷ []) type.U64 prim.mem_len
-    mem_len_typed = one (λ args. TypedEffect p type.U64 (prim.mem_len args m)) type.PtrMem
+    mem_len_typed = given_all (type.PtrMem ∷ []) (λ args. TypedEffect p type.U64 (prim.mem_len args m))
         (λ v is. on_memory_typed type.U64 v (λ a memory. prim.gives m (I64 (length memory.bytes))) is
         (λ a memory there. gives_typed val.I64 (length memory.bytes)))
 
     mem_max_typed : Typed (type.PtrMem ∷ []) type.U64 prim.mem_max
-    mem_max_typed = one (λ args. TypedEffect p type.U64 (prim.mem_max args m)) type.PtrMem
+    mem_max_typed = given_all (type.PtrMem ∷ []) (λ args. TypedEffect p type.U64 (prim.mem_max args m))
         (λ v is. on_memory_typed type.U64 v (λ a memory. prim.gives m (I64 memory.max)) is
         (λ a memory there. gives_typed val.I64 memory.max))
 
     mem_grow_typed : Typed (type.PtrMem ∷ type.U32 ∷ []) type.U32 prim.mem_grow
-    mem_grow_typed = two (λ args. TypedEffect p type.U32 (prim.mem_grow args m)) type.PtrMem type.U32
-        (λ v w is_v is_w. narrow (λ w. TypedEffect p type.U32 (prim.mem_grow (v ∷ w ∷ []) m))
-        (λ more. on_memory_typed type.U32 v
+    mem_grow_typed = given_all (type.PtrMem ∷ type.U32 ∷ []) (λ args. TypedEffect p type.U32 (prim.mem_grow args m))
+        (λ v is_v more. on_memory_typed type.U32 v
         (λ a memory. let old = length memory.bytes / 65536 in if nat_le (old + more) (min memory.max 16384) then prim.gives
         (with_memory m a (prim.with_content memory (memory.bytes ++ replicate (more * 65536) 0))) (I32 old)
         else prim.gives m (I32 4294967295))
@@ -184,18 +168,17 @@ module _ (p : Program) where
         (λ a memory there. if_typed type.U32 (nat_le (length memory.bytes / 65536 + more) (min memory.max 16384))
         (prim.gives (with_memory m a (prim.with_content memory (memory.bytes ++ replicate (more * 65536) 0)))
         (I32 (length memory.bytes / 65536))) (prim.gives m (I32 4294967295))
-        (memory_keeps p m a memory _ machine there, number_is val.I32 _) (gives_typed val.I32 4294967295))) w is_w)
+        (memory_keeps p m a memory _ machine there, number_is val.I32 _) (gives_typed val.I32 4294967295)))
 
     get_typed : (width : ℕ) (t : ValType) → Typed (type.PtrMem ∷ type.U64 ∷ []) (c_type_of t) (prim.get width t)
-    get_typed width t = two (λ args. TypedEffect p (c_type_of t) (prim.get width t args m)) type.PtrMem type.U64
-        (λ v w is_v is_w. wide (λ w. TypedEffect p (c_type_of t) (prim.get width t (v ∷ w ∷ []) m))
-        (λ place. on_memory_typed (c_type_of t) v
+    get_typed width t = given_all (type.PtrMem ∷ type.U64 ∷ []) (λ args. TypedEffect p (c_type_of t) (prim.get width t args m))
+        (λ v is_v place. on_memory_typed (c_type_of t) v
         (λ a memory. if nat_le (place + width) (length memory.bytes) then prim.gives m
         (value t (little_endian (bytes_at memory.bytes place width))) else prim.IsUndefined 6)
         is_v
         (λ a memory there. if_typed (c_type_of t) (nat_le (place + width) (length memory.bytes))
         (prim.gives m (value t (little_endian (bytes_at memory.bytes place width)))) (prim.IsUndefined 6)
-        (gives_typed t _) tt)) w is_w)
+        (gives_typed t _) tt))
 
     put_at_typed : (width place n : ℕ) (v : CValue) → OfType p type.PtrMem v
         → TypedEffect p type.Void (prim.on_memory v m (prim.put_at width place n m))
@@ -205,22 +188,16 @@ module _ (p : Program) where
         (prim.IsUndefined 6) (memory_keeps p m a memory _ machine there, refl) tt)
 
     put_narrow : (width : ℕ) → Typed (type.PtrMem ∷ type.U64 ∷ type.U32 ∷ []) type.Void (prim.put width val.I32)
-    put_narrow width = three (λ args. TypedEffect p type.Void (prim.put width val.I32 args m)) type.PtrMem type.U64 type.U32
-        (λ v w x is_v is_w is_x. wide (λ w. TypedEffect p type.Void (prim.put width val.I32 (v ∷ w ∷ x ∷ []) m))
-        (λ place. narrow (λ x. TypedEffect p type.Void (prim.put width val.I32 (v ∷ Number (I64 place) ∷ x ∷ []) m))
-        (λ n. put_at_typed width place n v is_v) x is_x) w is_w)
+    put_narrow width = given_all (type.PtrMem ∷ type.U64 ∷ type.U32 ∷ [])
+        (λ args. TypedEffect p type.Void (prim.put width val.I32 args m)) (λ v is_v place n. put_at_typed width place n v is_v)
 
     put_wide : (width : ℕ) → Typed (type.PtrMem ∷ type.U64 ∷ type.U64 ∷ []) type.Void (prim.put width val.I64)
-    put_wide width = three (λ args. TypedEffect p type.Void (prim.put width val.I64 args m)) type.PtrMem type.U64 type.U64
-        (λ v w x is_v is_w is_x. wide (λ w. TypedEffect p type.Void (prim.put width val.I64 (v ∷ w ∷ x ∷ []) m))
-        (λ place. wide (λ x. TypedEffect p type.Void (prim.put width val.I64 (v ∷ Number (I64 place) ∷ x ∷ []) m))
-        (λ n. put_at_typed width place n v is_v) x is_x) w is_w)
+    put_wide width = given_all (type.PtrMem ∷ type.U64 ∷ type.U64 ∷ [])
+        (λ args. TypedEffect p type.Void (prim.put width val.I64 args m)) (λ v is_v place n. put_at_typed width place n v is_v)
 
     tab_new_typed : Typed (type.PtrTab ∷ type.U32 ∷ type.U64 ∷ []) type.Void prim.tab_new
-    tab_new_typed = three (λ args. TypedEffect p type.Void (prim.tab_new args m)) type.PtrTab type.U32 type.U64
-        (λ v w x is_v is_w is_x. narrow (λ w. TypedEffect p type.Void (prim.tab_new (v ∷ w ∷ x ∷ []) m))
-        (λ count. wide (λ x. TypedEffect p type.Void (prim.tab_new (v ∷ Number (I32 count) ∷ x ∷ []) m))
-        (λ most. on_table_typed type.Void v
+    tab_new_typed = given_all (type.PtrTab ∷ type.U32 ∷ type.U64 ∷ []) (λ args. TypedEffect p type.Void (prim.tab_new args m))
+        (λ v is_v count most. on_table_typed type.Void v
         (λ a table. if table.is_made || nat_lt 1000000 count then prim.IsUndefined 8 else prim.Gives
         (with_table m a (record { is_made = true; elements = replicate count None; max = most })) None)
         is_v
@@ -229,15 +206,15 @@ module _ (p : Program) where
           table_keeps p m a table (record { is_made = true; elements = replicate count None; max = most }) machine there
               (replicated p count),
           refl,
-        ))) x is_x) w is_w)
+        )))
 
     tab_len_typed : Typed (type.PtrTab ∷ []) type.U64 prim.tab_len
-    tab_len_typed = one (λ args. TypedEffect p type.U64 (prim.tab_len args m)) type.PtrTab
+    tab_len_typed = given_all (type.PtrTab ∷ []) (λ args. TypedEffect p type.U64 (prim.tab_len args m))
         (λ v is. on_table_typed type.U64 v (λ a table. prim.gives m (I64 (length table.elements))) is
         (λ a table there holds. gives_typed val.I64 (length table.elements)))
 
     tab_max_typed : Typed (type.PtrTab ∷ []) type.U64 prim.tab_max
-    tab_max_typed = one (λ args. TypedEffect p type.U64 (prim.tab_max args m)) type.PtrTab
+    tab_max_typed = given_all (type.PtrTab ∷ []) (λ args. TypedEffect p type.U64 (prim.tab_max args m))
         (λ v is. on_table_typed type.U64 v (λ a table. prim.gives m (I64 table.max)) is
         (λ a table there holds. gives_typed val.I64 table.max))
 
@@ -254,10 +231,9 @@ module _ (p : Program) where
     signature_typed (Some (Some e)) = gives_typed val.I64 e.signature
 
     tab_sig_typed : Typed (type.PtrTab ∷ type.U64 ∷ []) type.U64 prim.tab_sig
-    tab_sig_typed = two (λ args. TypedEffect p type.U64 (prim.tab_sig args m)) type.PtrTab type.U64
-        (λ v w is_v is_w. wide (λ w. TypedEffect p type.U64 (prim.tab_sig (v ∷ w ∷ []) m))
-        (λ place. on_table_typed type.U64 v (λ a table. signature_at (slice_get table.elements place)) is_v
-        (λ a table there holds. signature_typed (slice_get table.elements place))) w is_w)
+    tab_sig_typed = given_all (type.PtrTab ∷ type.U64 ∷ []) (λ args. TypedEffect p type.U64 (prim.tab_sig args m))
+        (λ v is_v place. on_table_typed type.U64 v (λ a table. signature_at (slice_get table.elements place)) is_v
+        (λ a table there holds. signature_typed (slice_get table.elements place)))
 
     abbrev function_at : Option (Option Element) → prim.Effect
     function_at o = elim o
@@ -270,11 +246,10 @@ module _ (p : Program) where
     function_typed (Some (Some e)) h = (machine, record { is = refl; points = h (Some e) refl })
 
     tab_fn_typed : Typed (type.PtrTab ∷ type.U64 ∷ []) type.FnPtr prim.tab_fn
-    tab_fn_typed = two (λ args. TypedEffect p type.FnPtr (prim.tab_fn args m)) type.PtrTab type.U64
-        (λ v w is_v is_w. wide (λ w. TypedEffect p type.FnPtr (prim.tab_fn (v ∷ w ∷ []) m))
-        (λ place. on_table_typed type.FnPtr v (λ a table. function_at (slice_get table.elements place)) is_v
+    tab_fn_typed = given_all (type.PtrTab ∷ type.U64 ∷ []) (λ args. TypedEffect p type.FnPtr (prim.tab_fn args m))
+        (λ v is_v place. on_table_typed type.FnPtr v (λ a table. function_at (slice_get table.elements place)) is_v
         (λ a table there holds. function_typed (slice_get table.elements place)
-        (λ e is. held_at p table.elements place e holds is))) w is_w)
+        (λ e is. held_at p table.elements place e holds is)))
 
     element_typed : (a : ObjectAddress) (table : Table) (place : ℕ) (f : FuncAddress) (signature : ℕ) → table_in m a ≡ Some table
         → HoldFuncs p table.elements → is_some (func_type p f) ≡ true
@@ -295,21 +270,20 @@ module _ (p : Program) where
             )
 
     tab_set_typed : Typed (type.PtrTab ∷ type.U64 ∷ type.FnPtr ∷ type.U64 ∷ []) type.Void prim.tab_set
-    tab_set_typed = four (λ args. TypedEffect p type.Void (prim.tab_set args m)) type.PtrTab type.U64 type.FnPtr type.U64
-        (λ v w x y is_v is_w is_x is_y. wide (λ w. TypedEffect p type.Void (prim.tab_set (v ∷ w ∷ x ∷ y ∷ []) m))
-        (λ place. wide (λ y. TypedEffect p type.Void (prim.tab_set (v ∷ Number (I64 place) ∷ x ∷ y ∷ []) m))
-        (λ signature. func
+    tab_set_typed = given_all (type.PtrTab ∷ type.U64 ∷ type.FnPtr ∷ type.U64 ∷ [])
+        (λ args. TypedEffect p type.Void (prim.tab_set args m))
+        (λ v is_v place x is_x signature. func
         (λ x. TypedEffect p type.Void (prim.tab_set (v ∷ Number (I64 place) ∷ x ∷ Number (I64 signature) ∷ []) m))
         (on_table_typed type.Void v (λ a table. prim.IsUndefined 4) is_v (λ a table there holds. tt))
         (λ f is. on_table_typed type.Void v (λ a table. prim.set_element m a table place f signature) is_v
         (λ a table there holds. element_typed a table place f signature there holds is))
-        x is_x) y is_y) w is_w)
+        x is_x)
 
     -- ---- all of them
 
     abbrev Aligned : List (Name × tree.FuncType) → List (Name × Body) → Type 0
     Aligned [] [] = ⊤
-    Aligned (d ∷ declared) (e ∷ bodies) = (d.0 ≡ e.0) × Typed (proper_types d.1.params) d.1.result e.1 × Aligned declared bodies
+    Aligned (d ∷ declared) (e ∷ bodies) = ((d.0 ≡ e.0) × Typed (proper_types d.1.params) d.1.result e.1) × Aligned declared bodies
     Aligned _ _ = ⊥
 
     found_body : (declared : List (Name × tree.FuncType)) (bodies : List (Name × Body)) → Aligned declared bodies
@@ -319,88 +293,20 @@ module _ (p : Program) where
     found_body (d ∷ declared) (b ∷ bodies) h name ty e = by_test (bytes_eq d.0 name)
         (λ is. (
           b.1,
-          rw (sym h.0, is) refl,
+          rw (sym h.0.0, is) refl,
           subst (λ (t : tree.FuncType). Typed (proper_types t.params) t.result b.1)
-              (let f = rw is at e in let same : d.1 ≡ ty = cc in same) h.1,
+              (let f = rw is at e in let same : d.1 ≡ ty = cc in same) h.0.1,
         ))
-        (λ is. let behind = found_body declared bodies h.2 name ty (rw is at e) in (behind.0, rw (sym h.0, is) behind.1, behind.2))
+        (λ is. let behind = found_body declared bodies h.1 name ty (rw is at e) in (behind.0, rw (sym h.0.0, is) behind.1, behind.2))
     found_body [] (b ∷ bodies) h name ty e = absurd h
     found_body (d ∷ declared) [] h name ty e = absurd h
 
     all_typed : Aligned header.primitives prim.primitives
-    all_typed = (
-      refl,
-      trap_typed,
-      (
-        refl,
-        mem_new_typed,
-        (
-          refl,
-          mem_len_typed,
-          (
-            refl,
-            mem_max_typed,
-            (
-              refl,
-              mem_grow_typed,
-              (
-                refl,
-                get_typed 1 val.I32,
-                (
-                  refl,
-                  get_typed 2 val.I32,
-                  (
-                    refl,
-                    get_typed 4 val.I32,
-                    (
-                      refl,
-                      get_typed 8 val.I64,
-                      (
-                        refl,
-                        put_narrow 1,
-                        (
-                          refl,
-                          put_narrow 2,
-                          (
-                            refl,
-                            put_narrow 4,
-                            (
-                              refl,
-                              put_wide 8,
-                              (
-                                refl,
-                                tab_new_typed,
-                                (
-                                  refl,
-                                  tab_len_typed,
-                                  (
-                                    refl,
-                                    tab_max_typed,
-                                    (
-                                      refl,
-                                      tab_sig_typed,
-                                      (
-                                        refl,
-                                        tab_fn_typed,
-                                        (refl, tab_set_typed, tt),
-                                      ),
-                                    ),
-                                  ),
-                                ),
-                              ),
-                            ),
-                          ),
-                        ),
-                      ),
-                    ),
-                  ),
-                ),
-              ),
-            ),
-          ),
-        ),
-      ),
-    )
+    all_typed =
+        (refl, trap_typed) & (refl, mem_new_typed) & (refl, mem_len_typed) & (refl, mem_max_typed) & (refl, mem_grow_typed) &
+        (refl, get_typed 1 val.I32) & (refl, get_typed 2 val.I32) & (refl, get_typed 4 val.I32) & (refl, get_typed 8 val.I64) &
+        (refl, put_narrow 1) & (refl, put_narrow 2) & (refl, put_narrow 4) & (refl, put_wide 8) & (refl, tab_new_typed) &
+        (refl, tab_len_typed) & (refl, tab_max_typed) & (refl, tab_sig_typed) & (refl, tab_fn_typed) & (refl, tab_set_typed) & tt
 
     pub primitive_typed : (name : Name) (ty : tree.FuncType) → named name header.primitives ≡ Some ty
         → (does : List CValue → Machine → prim.Effect) × (prim.primitive name ≡ Some does)

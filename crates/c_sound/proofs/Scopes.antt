@@ -13,7 +13,7 @@ use Rattle.c_meaning.proofs.Links.{all_twice, all_unresolved, program_unresolved
 use Rattle.c_meaning.specs.Primitives as prim
 use Rattle.c_sound.proofs.Choices.{by_option, not_both}
 use Rattle.c_tree.proofs.SameTypes.{func_types_same}
-use Rattle.c_sound.proofs.Lists.{cons_not_none, flat_none, kept_at, named_from, named_front, take_keeps}
+use Rattle.c_sound.proofs.Lists.{◌&◌, cons_not_none, flat_none, kept_at, named_from, named_front, take_keeps}
 use Rattle.c_sound.proofs.Kept.{free_names}
 use Rattle.c_sound.proofs.Defined.{defined_names, names_type, is_listed, names_typed, typed_names, static_defined}
 
@@ -31,55 +31,10 @@ reserved_in (x ∷ entries) name does all e = by_test (bytes_eq x.0 name)
     (λ is. reserved_in entries name does all.1 (rw is at e))
 
 reserved : AllByRecursion (λ (e : Name × (List CValue → Machine → prim.Effect)). IsReserved e.0) prim.primitives
-reserved = (
-  (refl, refl),
-  (
-    (refl, refl),
-    (
-      (refl, refl),
-      (
-        (refl, refl),
-        (
-          (refl, refl),
-          (
-            (refl, refl),
-            (
-              (refl, refl),
-              (
-                (refl, refl),
-                (
-                  (refl, refl),
-                  (
-                    (refl, refl),
-                    (
-                      (refl, refl),
-                      (
-                        (refl, refl),
-                        (
-                          (refl, refl),
-                          (
-                            (refl, refl),
-                            (
-                              (refl, refl),
-                              (
-                                (refl, refl),
-                                ((refl, refl), ((refl, refl), ((refl, refl), tt))),
-                              ),
-                            ),
-                          ),
-                        ),
-                      ),
-                    ),
-                  ),
-                ),
-              ),
-            ),
-          ),
-        ),
-      ),
-    ),
-  ),
-)
+reserved =
+    (refl, refl) & (refl, refl) & (refl, refl) & (refl, refl) & (refl, refl) & (refl, refl) & (refl, refl) & (refl, refl) & (refl, refl) &
+    (refl, refl) & (refl, refl) & (refl, refl) & (refl, refl) & (refl, refl) & (refl, refl) & (refl, refl) & (refl, refl) & (refl, refl) &
+    (refl, refl) & tt
 
 -- ---- names of variables
 

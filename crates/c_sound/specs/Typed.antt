@@ -8,7 +8,7 @@ use Rattle.w2c_base.specs.Run.{Reply, Phase, Init, Call}
 use Rattle.c_tree.specs.declared.tree.CType.{CType}
 use Rattle.c_tree.specs.declared.tree.CType.TheVariants as type
 use Rattle.c_tree.specs.Tree as tree
-use Rattle.c_tree.specs.Runtime.{same_type}
+use Rattle.c_tree.specs.Runtime.{same_type, depth_name}
 use Rattle.c_tree.specs.Scope.{Scope, is_among, variable_of, param_variables, local_variables, file_variables, variables, arrays}
 use Rattle.c_tree.specs.Scope.{file_functions, is_object_type, pointer_to, type_of}
 use Rattle.c_tree.specs.Rules.{if_any, is_void, proper_types, labels_of, labels_named, is_known, stmt_uses, stmt_is_typed, stmt_suits}
@@ -19,7 +19,7 @@ use Rattle.c_meaning.specs.Linking.{Program, Definition, func_named, array_named
 use Rattle.c_meaning.specs.Machine.{of_type, var_in, memory_in, table_in, fresh}
 use Rattle.c_meaning.specs.Primitives as prim
 use Rattle.c_meaning.specs.Run.{Entry, Progress, Going, Over, Ended, Stopped}
-use Rattle.c_meaning.specs.Step.{Step, Next, Back, Stops, depth_name, param_types}
+use Rattle.c_meaning.specs.Step.{Step, Next, Back, Stops, param_types}
 
 -- ---- values
 

@@ -1,8 +1,9 @@
 -- What crates above cite.
-pub mod Grown
 pub mod ByKind
+pub mod FewParams
 -- What the crate's own proofs cite.
 mod Common
 mod SameTypes
 mod Founds
 mod Reaches
+mod LookedUp

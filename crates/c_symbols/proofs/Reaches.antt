@@ -1,6 +1,6 @@
 -- The symbols of a module's imports, import by import.
 use Rattle.c_symbols.proofs.Common.{◌≡◌, ℕ, ◌+◌, ◌<◌, ◌≤◌, Bool, List, ◌++◌, map, length, get_or, drop, filter, Option, refl, Import, Name}
-use Rattle.wasm_meaning.specs.LinkedSet.{NamedModule}
+use Rattle.wasm_tree.specs.NamedModule.{NamedModule}
 use Rattle.c_symbols.specs.Reached.{usable_symbol}
 use Rattle.c_symbols.specs.Usable.{if_kind}
 use Rattle.c_symbols.proofs.ByKind.{kind_next, none_more}

@@ -4,5 +4,8 @@ pub mod Reached
 pub mod Typed
 pub mod Named
 pub mod Usable
+pub mod Objects
+pub mod Spaces
+pub mod FewParams
 -- of the code and the proofs alone
 pub mod Found

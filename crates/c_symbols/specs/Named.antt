@@ -1,5 +1,5 @@
 -- A module as its translation holds it, and symbols with their types.
-use Rattle.wasm_meaning.specs.LinkedSet.{NamedModule}
+use Rattle.wasm_tree.specs.NamedModule.{NamedModule}
 use Rattle.c_symbols.specs.Symbols.{Typed}
 use Rattle.c_symbols.specs.declared.indexes.Indexes.{Indexes}
 use Rattle.c_symbols.specs.declared.indexes.Symbol.{Symbol}

@@ -1,7 +1,7 @@
 -- The symbols of a module's imports and exports, and the type that each has in the module's unit
 -- (WebAssembly Core 1.0, 2.5.10 exports and 2.5.11 imports). A symbol that the unit defines has the
 -- export's type there; of several imports with one symbol the first gives the type.
-use Rattle.std.specs.Prelude.{ℕ, Bool, false, if◌then◌else◌, List, [], ◌∷◌, ◌++◌, map, filter, Option, Some, None}
+use Rattle.std.specs.Prelude.{ℕ, Bool, false, if◌then◌else◌, List, [], ◌∷◌, ◌++◌, map, Option, Some, None}
 use Rattle.w2c_base.specs.declared.value.ValType.{ValType}
 use Rattle.w2c_base.specs.declared.value.ValType.TheVariants.{I32, I64}
 use Rattle.w2c_base.specs.declared.signature.FuncType.{FuncType}
@@ -16,9 +16,9 @@ use Rattle.wasm_tree.specs.declared.entries.ImportKind.TheVariants.{Func as Impo
 use Rattle.wasm_tree.specs.declared.entries.ImportKind.TheVariants.{Global as ImportGlobal}
 use Rattle.wasm_tree.specs.declared.entries.ExportKind.TheVariants.{Func as ExportFunc, Table as ExportTable, Memory as ExportMemory}
 use Rattle.wasm_tree.specs.declared.entries.ExportKind.TheVariants.{Global as ExportGlobal}
-use Rattle.wasm_tree.specs.IndexSpaces.{type_in, func_type_in, global_type_in, is_func_import, is_table_import, is_memory_import}
-use Rattle.wasm_tree.specs.IndexSpaces.{is_global_import}
-use Rattle.wasm_meaning.specs.LinkedSet.{NamedModule}
+use Rattle.wasm_tree.specs.IndexSpaces.{type_in, func_type_in, global_type_in}
+pub use Rattle.wasm_tree.specs.IndexSpaces.{func_imports, table_imports, memory_imports, global_imports}
+use Rattle.wasm_tree.specs.NamedModule.{NamedModule}
 use Rattle.c_tree.specs.declared.tree.CType.{CType}
 use Rattle.c_tree.specs.declared.tree.CType.TheVariants as type
 use Rattle.c_tree.specs.Tree as tree
@@ -65,19 +65,6 @@ import_type m i = elim i.kind [
   | ImportMemory l ↦ accessor_type type.PtrMem
   | ImportGlobal t mutable ↦ accessor_type (pointer_type t)
 ]
-
--- the imports of each kind, in their order, which is that of their indexes
-abbrev pub func_imports : Module → List Import
-func_imports m = filter is_func_import m.imports
-
-abbrev pub table_imports : Module → List Import
-table_imports m = filter is_table_import m.imports
-
-abbrev pub memory_imports : Module → List Import
-memory_imports m = filter is_memory_import m.imports
-
-abbrev pub global_imports : Module → List Import
-global_imports m = filter is_global_import m.imports
 
 -- ---- exports
 

@@ -2,7 +2,7 @@
 use Rattle.std.specs.Prelude.{◌≡◌, Bool, List, [], ◌∷◌, ◌++◌, map, filter, Option}
 use Rattle.wasm_tree.specs.declared.entries.Import.{Import}
 use Rattle.wasm_tree.specs.IndexSpaces.{is_func_import, is_table_import, is_memory_import, is_global_import}
-use Rattle.wasm_meaning.specs.LinkedSet.{NamedModule}
+use Rattle.wasm_tree.specs.NamedModule.{NamedModule}
 use Rattle.c_tree.specs.Scope.{Name}
 use Rattle.c_symbols.specs.Reached.{usable_symbol}
 use Rattle.c_symbols.specs.Symbols.{func_imports, table_imports, memory_imports, global_imports}

@@ -2,7 +2,7 @@
 use Rattle.c_thread.proofs.Common.{◌≡◌, ℕ, suc, ◌+◌, ◌-◌, ◌<◌, Bool, true, false, List, [], ◌∷◌, map, get_or, is_some, if◌then◌else◌}
 use Rattle.c_thread.proofs.Common.{slice_get, slice_set, Some, None, Option, option_map, zip, bytes_eq, sym, refl, ap, ◌∙◌, arith}
 use Rattle.c_thread.proofs.Common.{option_or, if_found, named, with_named, Trail, with_var, Machine, Name, Running, Stuck, Waiting}
-use Rattle.c_thread.proofs.Common.{of_one_type, Stops, assign, depth_name, in_unit, next, with_vars, get_mapped, set_mapped, var_found}
+use Rattle.c_thread.proofs.Common.{of_one_type, Stops, assign, depth_name, in_unit, next, with_vars, slice_get-map, set_mapped, var_found}
 use Rattle.c_thread.proofs.Common.{AreStored, machine_of, var_at, Naming, UnitNames, address_of, object_name, value_of, Held, ObjectId}
 use Rattle.c_thread.proofs.Common.{UnitObjects, entry_from, named-zip, with_named-zip, Finds, entry_in, number_in, assigned_in_unit}
 use Rattle.c_thread.proofs.Common.{held_vars, put_at}
@@ -74,7 +74,7 @@ module _ (names : Naming) (m : Machine) (locals : List Name) (vs : List Held) (q
       through : (o : Option ℕ) → if_found o (λ i. slice_get (map (value_of names) vs) i) ≡ if_found o
           (λ i. option_map (value_of names) (slice_get vs i))
       through None = refl
-      through (Some i) = get_mapped (value_of names) vs i
+      through (Some i) = slice_get-map (value_of names) vs i
 
   held_at : (i : ℕ) (old : Held) → r.vars ≡ held_vars names locals vs → number_in q locals ≡ Some i → slice_get vs i ≡ Some old
       → named q r.vars ≡ Some (value_of names old)

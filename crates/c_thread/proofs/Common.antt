@@ -3,14 +3,14 @@ pub use Rattle.std.proofs.Common.{◌≡◌, ℕ, zero, suc, ◌+◌, ◌-◌, �
 pub use Rattle.std.proofs.Common.{length, get_or, drop, is_some, if◌then◌else◌, ◌==◌, slice_get, slice_set, Some, None, Err, Option, Result}
 pub use Rattle.std.proofs.Common.{option_map, zip, bytes_eq, sym, refl, ap, ◌∙◌, subst, append_assoc, append-nil, arith, length-drop}
 pub use Rattle.std.proofs.lemmas.List.{drop_all, length-map, reverse-append, nil_from_length}
-pub use Rattle.std.proofs.lemmas.Option.{slice_get-get_or, slice_get_within, same_Some}
+pub use Rattle.std.proofs.lemmas.Option.{slice_get-get_or, slice_get-map, slice_get_within, same_Some}
 pub use Rattle.std.specs.Option.{option_or}
 pub use Rattle.w2c_base.proofs.Places.{drop_front, mapped_at}
 pub use Rattle.w2c_base.specs.Lookup.{if_found, named, with_named}
 pub use Rattle.w2c_base.specs.Run.{Trail}
 pub use Rattle.w2c_base.specs.Values.{equal_types, number_of, types_of}
 pub use Rattle.w2c_base.specs.declared.value.Value.{Value}
-pub use Rattle.c_tree.specs.Runtime.{same_types}
+pub use Rattle.c_tree.specs.Runtime.{same_types, depth_name}
 pub use Rattle.c_tree.specs.View.{arg_of, callee_of, expr_of, stmt_of, unit_of}
 pub use Rattle.c_tree.specs.declared.tree.CType.{CType}
 pub use Rattle.c_meaning.specs.Linking.{Definition, Program, array_named, func_named, host_type}
@@ -19,10 +19,10 @@ pub use Rattle.c_meaning.specs.Reaches.{Reaches}
 pub use Rattle.c_meaning.specs.Run.{Going, Pending, Progress, go_on}
 pub use Rattle.c_meaning.specs.State.{Bad, CValue, Evaluated, Is, Machine, Name, NoRule, ObjectAddress, Place, Running, State, Stuck}
 pub use Rattle.c_meaning.specs.State.{Trapped, Undefined, Vars, Frame as Waiting, of_one_type, then_evaluate}
-pub use Rattle.c_meaning.specs.Step.{Step, Stops, act, are_of_types, ask, assign, at_rest, begin, bind, c_step, call_callee, depth_name}
+pub use Rattle.c_meaning.specs.Step.{Step, Stops, act, are_of_types, ask, assign, at_rest, begin, bind, c_step, call_callee}
 pub use Rattle.c_meaning.specs.Step.{evaluate, evaluate_args, give, in_unit, is_returned, jump, label_of, locals_of, next, numbers}
 pub use Rattle.c_meaning.specs.Step.{param_names, param_types, replied, returned, take_effect, value_of as value_in, with_vars}
-pub use Rattle.c_objects.proofs.Elements.{get_mapped, set_mapped}
+pub use Rattle.c_objects.proofs.Elements.{set_mapped}
 pub use Rattle.c_objects.proofs.Machines.{var_found}
 pub use Rattle.c_objects.proofs.Stores.{units_at, units_past}
 pub use Rattle.c_objects.specs.Stores.{AreStored, IsStored, machine_of, objects_of, var_at}

@@ -1,7 +1,7 @@
 -- What the tables of a unit find is what the meaning of C finds by name.
 use Rattle.c_thread.proofs.Common.{◌≡◌, ℕ, zero, suc, ◌+◌, Bool, true, false, List, [], ◌∷◌, map, length, is_some, if◌then◌else◌, slice_get}
 use Rattle.c_thread.proofs.Common.{Some, None, Option, option_map, zip, bytes_eq, sym, refl, ap, ◌∙◌, subst, arith, option_or, if_found}
-use Rattle.c_thread.proofs.Common.{named, Trail, var_in, Name, get_mapped, units_at, units_past, AreStored, IsStored, machine_of, var_at}
+use Rattle.c_thread.proofs.Common.{named, Trail, var_in, Name, slice_get-map, units_at, units_past, AreStored, IsStored, machine_of, var_at}
 use Rattle.c_thread.proofs.Common.{Naming, UnitNames, value_of, Held, UnitObjects, named-zip, Finds, entry_in, number_in, same_Some}
 use Rattle.c_objects.specs.declared.held.Object.TheVariants as object
 
@@ -25,7 +25,7 @@ module _ (names : Naming) (depth : ℕ) (trail : Trail) where
           → if_found o (λ i. slice_get (map (value_of names) x.vars.items) i)
           ≡ option_map (value_of names) (if_found o (λ i. slice_get x.vars.items i))
       through x None = refl
-      through x (Some i) = get_mapped (value_of names) x.vars.items i
+      through x (Some i) = slice_get-map (value_of names) x.vars.items i
 
       go : (o : Option UnitObjects) → slice_get os u ≡ o → var_in (machine_of names depth trail os) (record { unit = u; name = q })
           ≡ option_map (value_of names) (if_found (named q table) (λ i. var_at os (record { unit = u; object = object.Variable i })))

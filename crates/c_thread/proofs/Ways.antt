@@ -9,5 +9,4 @@ pub on_its_way : (p : Program) (pending : Pending) (start : Progress) (s : State
 on_its_way p pending start s o first left some within is so_far =
     let one = subst (λ o. Reaches p 1 (Going pending s) (go_on p pending o)) is (step p pending s) in
     let count : (first - left) + 1 ≡ first - (left - 1) = omega (arith, some, within) in
-    subst (λ n. Reaches p n start (go_on p pending o)) count
-    (join p (first - left) 1 start (Going pending s) (go_on p pending o) so_far one)
+    rw count at (join p (first - left) 1 start (Going pending s) (go_on p pending o) so_far one)

@@ -16,8 +16,7 @@ use Rattle.c_objects.specs.declared.held.FuncId.{FuncId}
 use Rattle.c_objects.specs.declared.held.FuncId.TheVariants as func
 use Rattle.c_objects.specs.declared.held.ObjectId.{ObjectId}
 use Rattle.c_objects.specs.Stores.{var_at}
-use Rattle.c_objects.specs.Views.{Naming, address_of, func_of}
-use Rattle.c_objects.specs.Views.{value_of as held_of}
+use Rattle.c_objects.specs.Views.{Naming, address_of, func_of, value_of as held_of}
 use Rattle.c_thread.specs.declared.scope.ObjectTables.{ObjectTables}
 use Rattle.c_thread.specs.declared.scope.Symbols.{Symbols}
 use Rattle.c_thread.specs.declared.scope.UnitScope.{UnitScope}

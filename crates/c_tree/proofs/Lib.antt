@@ -15,6 +15,9 @@ pub mod TextIsProper
 pub mod TreeIsProper
 pub mod TypesInC
 pub mod WellFormedUnits
+pub mod DeclaredNames
+pub mod NameClasses
+pub mod NumberedLabels
 -- What the crate's own proofs cite.
 mod Common
 mod Passes

@@ -40,3 +40,6 @@ same_as_itself _ = refl
 pub same_as_themselves : (ts : List CType) → same_types ts ts ≡ true
 same_as_themselves [] = refl
 same_as_themselves (t ∷ ts) = ap (λ b. b && same_types ts ts) (same_as_itself t) ∙ same_as_themselves ts
+
+pub same_c_func_type : (f : tree.FuncType) → same_func_type f f ≡ true
+same_c_func_type f = ap (λ b. b && same_type f.result f.result) (same_as_themselves f.params) ∙ same_as_itself f.result

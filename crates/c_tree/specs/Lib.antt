@@ -10,6 +10,9 @@ pub mod WellFormed
 pub mod Tests
 pub mod Runtime
 pub mod Scope
+pub mod DefinedNames
+pub mod DeclaredNames
+pub mod NameClasses
 pub mod TypesInC
 pub mod Primitives
 pub mod Makers

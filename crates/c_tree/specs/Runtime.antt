@@ -54,3 +54,7 @@ primitives =
     ∷ declares (codes "w2c_tab_fn") type.FnPtr (type.PtrTab ∷ type.U64 ∷ [])
     ∷ declares (codes "w2c_tab_set") type.Void (type.PtrTab ∷ type.U64 ∷ type.FnPtr ∷ type.U64 ∷ [])
     ∷ []
+
+-- the runtime's variable, which counts how deep calls are
+abbrev pub depth_name : List ℕ
+depth_name = codes "w2c_depth"

@@ -15,8 +15,8 @@ mod types_in_c;
 mod unit;
 
 pub use make::{
-    call_primitive, copy_name, literal, n32, n64, name_of, no_params, one_arg, operation, set,
-    three_args, to_32, to_64, trap, zero_number,
+    call_primitive, copy_name, label, label_name, literal, n32, n64, name_of, no_params, one_arg,
+    operation, set, three_args, to_32, to_64, trap, with_number, zero_number,
 };
 pub use name::{
     DEPTH_NAME, KEY_WORDS, is_depth, is_other_word, is_own_name, is_symbol, words_that_are_names,

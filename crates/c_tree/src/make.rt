@@ -1,6 +1,7 @@
 // Pieces of C that several crates make: names, numbers, operators, arguments, assignments and calls of the runtime.
-ghost use Rattle.std.specs.Prelude.{◌≡◌, ◌<◌, ◌^◌, [], ◌∷◌, map, None, IfOk};
+ghost use Rattle.std.specs.Prelude.{◌≡◌, ◌<◌, ◌^◌, [], ◌∷◌, map, None, IfOk, ◌++◌, decimal};
 ghost use Rattle.w2c_base.specs.Values.{bits};
+ghost use Rattle.c_tree.specs.DefinedNames as defined;
 ghost use Rattle.c_tree.specs.Tree as tree;
 ghost use Rattle.c_tree.specs.View.{arg_of, expr_of, stmt_of};
 ghost use Rattle.c_tree.specs.declared.tree.Num.TheVariants.{N32, N64};
@@ -9,6 +10,7 @@ ghost use Rattle.c_tree.specs.Primitives.{primitive_name};
 
 use crate::primitive::Primitive;
 use crate::tree::{Arg, Args, COp, CType, Callee, Expr, Name, Num, Params, Stmt};
+use itoa::Buffer;
 use std::alloc::Global;
 use std::boxed::Box;
 use w2c_base::{Memory, TrapKind, ValType};
@@ -143,4 +145,27 @@ pub fn trap(alloc: Global, kind: TrapKind) -> Result<Stmt, Memory>
 {
     let args = one_arg(alloc, Arg::Value(n32(kind.code())))?;
     call_primitive(alloc, None, Primitive::Trap, args)
+}
+
+/// Some letters, and a number.
+pub fn with_number(alloc: Global, letters: &[u8], number: usize) -> Result<Name, Memory>
+    ensures { IfOk result (λ name. name ≡ letters.now ++ decimal number) }
+{
+    let mut name = name_of(alloc, letters)?;
+    name.extend(Buffer::new().format(number).as_bytes())?;
+    Ok(name)
+}
+
+/// The label with a number.
+pub fn label_name(alloc: Global, label: usize) -> Result<Name, Memory>
+    ensures { IfOk result (λ name. name ≡ defined.label_name label) }
+{
+    with_number(alloc, b"L", label)
+}
+
+/// A label.
+pub fn label(alloc: Global, number: usize) -> Result<Stmt, Memory>
+    ensures { IfOk result (λ s. stmt_of s ≡ tree.Label (defined.label_name number)) }
+{
+    Ok(Stmt::Label(label_name(alloc, number)?))
 }

@@ -30,12 +30,11 @@ map_same f x y ys e (a ∷ xs) = ap (λ l. f a ∷ l) (map_same f x y ys e xs)
 same_places : {A B : Type 0} (f : A → B) (xs ys : List A) → map f xs ≡ map f ys
     → ((i : ℕ) (x y : A) → slice_get xs i ≡ Some x → slice_get ys i ≡ Some y → f x ≡ f y → x ≡ y) → xs ≡ ys
 same_places f [] [] e same = refl
-same_places f [] (y ∷ ys) e same = cc
-same_places f (x ∷ xs) [] e same = cc
 same_places f (x ∷ xs) (y ∷ ys) e same =
     let head : f x ≡ f y = cc in
     let tail : map f xs ≡ map f ys = cc in
     λ i. same 0 x y refl refl head i ∷ same_places f xs ys tail (λ j. same (suc j)) i
+same_places f _ _ e same = cc
 
 -- what stands at the same place of two lists
 record AtPlace {A B C : Type 0} (f : A → C) (g : B → C) (x : A) (ys : List B) (i : ℕ) : Type 0 where
@@ -46,8 +45,6 @@ record AtPlace {A B C : Type 0} (f : A → C) (g : B → C) (x : A) (ys : List B
 at_place : {A B C : Type 0} (f : A → C) (g : B → C) (xs : List A) (ys : List B) → map f xs ≡ map g ys → (i : ℕ) (x : A)
     → slice_get xs i ≡ Some x
     → AtPlace f g x ys i
-at_place f g [] ys e i x there = cc
-at_place f g (a ∷ xs) [] e i x there = cc
 at_place f g (a ∷ xs) (b ∷ ys) e zero x there =
     let same : a ≡ x = cc in
     let head : f a ≡ g b = cc in
@@ -56,6 +53,7 @@ at_place f g (a ∷ xs) (b ∷ ys) e (suc i) x there =
     let tail : map f xs ≡ map g ys = cc in
     let found = at_place f g xs ys tail i x there in
     record { item = found.item; there = found.there; is = found.is }
+at_place f g _ _ e i x there = cc
 
 -- ---- a renaming without new names leaves values as they are
 

@@ -276,5 +276,4 @@ module _ (unit : List tree.Item) (keeps : KeepsRules unit) (table : List (Name �
 pub needed_kept : (items unit : List tree.Item) → items ≡ unit → KeepsRules unit → (table : List (Name × ℕ)) → KnowsDefiners table items
     → (r : Reached) → AreAllReached items r → (t : List tree.Item) → t ≡ kept (is_reached table r.0) items → IsTrimmed unit t
 needed_kept items unit same keeps table knows r all t is =
-    subst (λ (l : List tree.Item). IsTrimmed l t) same
-    (subst (IsTrimmed items) (sym is) (trimmed_by items (subst KeepsRules (sym same) keeps) table knows r all))
+    rw same at (subst (IsTrimmed items) (sym is) (trimmed_by items (subst KeepsRules (sym same) keeps) table knows r all))

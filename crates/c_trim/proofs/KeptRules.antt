@@ -171,11 +171,7 @@ module _ (needed : Name → Bool) where
       back : (b : Bool) → stays needed x ≡ b
           → ItemsHold (kept needed ((before ++ x ∷ []) ++ items)) (length (kept needed (before ++ x ∷ []))) (kept needed items)
           → ItemsHold all (length (front b)) (kept needed items)
-      back b is rest =
-          subst (λ (l : List tree.Item). ItemsHold (kept needed l) (length (front b)) (kept needed items))
-          (append_assoc before (x ∷ []) items)
-          (subst (λ (l : List tree.Item). ItemsHold (kept needed ((before ++ x ∷ []) ++ items)) (length l) (kept needed items))
-          (filter-append (stays needed) before (x ∷ []) ∙ ap front is) rest)
+      back b is rest = rw (filter-append (stays needed) before (x ∷ []) ∙ ap front is, append_assoc before (x ∷ []) items) at rest
 
       by : (b : Bool) → stays needed x ≡ b
           → ItemsHold (kept needed ((before ++ x ∷ []) ++ items)) (length (kept needed (before ++ x ∷ []))) (kept needed items)
@@ -184,9 +180,7 @@ module _ (needed : Name → Bool) where
         item_holds before x items is (closed.0 is) hold.0,
         subst (λ (k : ℕ). ItemsHold all k (kept needed items)) (length_push (kept needed before) x) (back true is rest),
       )
-      by false is rest =
-          subst (λ (l : List tree.Item). ItemsHold all (length l) (kept needed items))
-          (append-nil (kept needed before)) (back false is rest)
+      by false is rest = rw (append-nil (kept needed before)) at (back false is rest)
 
 pub kept_keeps_rules : (needed : Name → Bool) (unit : List tree.Item) → IsClosed needed unit → KeepsRules unit
     → KeepsRules (kept needed unit)

@@ -7,7 +7,7 @@ use Rattle.c_trim.proofs.Common.{arg_functions, body_functions, callee_functions
 use Rattle.c_tree.specs.Tree as tree
 use Rattle.c_tree.specs.Scope as scope
 use Rattle.c_tree.specs.Rules as rule
-use Rattle.c_meaning.specs.Step.{depth_name}
+use Rattle.c_tree.specs.Runtime.{depth_name}
 use Rattle.c_renaming.specs.Kept as text
 use Rattle.c_renaming.specs.Kept.{KeptArg, KeptCallee, KeptStmt}
 use Rattle.c_trim.proofs.RulesHold.{StmtsHold, BodyHolds, TextHolds, ItemsHold, scope_at}
@@ -67,12 +67,11 @@ module _ (ρ : Renaming) (u : ℕ) (s : Scope) (none : named depth_name (file_va
   kept_args : (types : List CType) (args : List tree.Arg) → Used (flat_map arg_functions args) → rule.args_suit s types args ≡ true
       → text.Each (KeptArg ρ u) args
   kept_args [] [] used suits = tt
-  kept_args [] (a ∷ args) used suits = cc
-  kept_args (t ∷ types) [] used suits = cc
   kept_args (t ∷ types) (a ∷ args) used suits =
       let two = all_split (λ (x : Name). ρ.uses u x ≡ true) (arg_functions a) (flat_map arg_functions args) used in
       let both = both_hold (rule.arg_suits s t a) (rule.args_suit s types args) suits in
       (kept_arg t a two.0 both.0, kept_args types args two.1 both.1)
+  kept_args _ _ used suits = cc
 
   kept_callee : (f : tree.Callee) → Used (callee_functions f) → KeptCallee ρ u f
   kept_callee (tree.Called x) used = used.0

@@ -16,4 +16,3 @@ mod Marking
 mod Spread
 mod Exact
 mod InPlace
-mod Carried

@@ -89,8 +89,7 @@ trimmed_again unit once twice first second =
     second.is ∙ ap (kept second.needed) first.is ∙ again ∙ sym first.is
   where
     need : (x : Name) → first.needed x ≡ true → second.needed x ≡ true
-    need x is = (second.tells x).1 (subst (λ (l : List tree.Item). IsNeeded l x) (sym first.is)
-        (needed_still unit first.needed first.tells x ((first.tells x).0 is)))
+    need x is = (second.tells x).1 (rw first.is (needed_still unit first.needed first.tells x ((first.tells x).0 is)))
 
     more : (item : tree.Item) → stays first.needed item ≡ true → stays second.needed item ≡ true
     more (tree.Function f) e = by f.is_static e
@@ -125,5 +124,4 @@ trimmed_formed unit trimmed is formed =
     }))
 
 pub trimmed_keeps : (unit trimmed : List tree.Item) → IsTrimmed unit trimmed → KeepsRules unit → KeepsRules trimmed
-trimmed_keeps unit trimmed is keeps =
-    subst KeepsRules (sym is.is) (kept_keeps_rules is.needed unit (closed unit is.needed is.tells) keeps)
+trimmed_keeps unit trimmed is keeps = rw is.is (kept_keeps_rules is.needed unit (closed unit is.needed is.tells) keeps)

@@ -135,5 +135,4 @@ keeps_rules unit hold = ap (λ found. slice_get found 0) (none_in_items unit 0 u
 pub moved : (before : List tree.Item) (x : tree.Item) (items : List tree.Item) → ItemsHold (before ++ x ∷ items) (length before + 1) items
     → ItemsHold ((before ++ x ∷ []) ++ items) (length (before ++ x ∷ [])) items
 moved before x items hold =
-    subst (λ (l : List tree.Item). ItemsHold l (length (before ++ x ∷ [])) items) (sym (append_assoc before (x ∷ []) items))
-    (subst (λ (k : ℕ). ItemsHold (before ++ x ∷ items) k items) (sym (length_push before x)) hold)
+    rw (append_assoc before (x ∷ []) items) (subst (λ (k : ℕ). ItemsHold (before ++ x ∷ items) k items) (sym (length_push before x)) hold)

@@ -2,14 +2,14 @@
 use Rattle.c_trim.proofs.Common.{◌≡◌, ℕ, zero, suc, ◌+◌, ◌-◌, ◌<◌, ◌≤◌, Bool, true, false, ◌&&◌, ◌||◌, ◌⊎◌, List, [], ◌∷◌, ◌++◌, length}
 use Rattle.c_trim.proofs.Common.{take, if◌then◌else◌, ◌==◌, slice_get, slice_index_or, slice_set, Some, None, Option, bytes_eq, sym, refl}
 use Rattle.c_trim.proofs.Common.{ap, ◌∙◌, subst, inl, inr, append_assoc, append-nil, arith, length-append, eq-eqb, eqb-true}
-use Rattle.c_trim.proofs.Common.{bytes_eq-Decides, list_any, both_hold, named, defines, has_body, Name, is_among, name_of, Found}
-use Rattle.c_trim.proofs.Common.{position_found, AreReached, BegunTo, FollowedTo, IsWanted, KnowsDefiners, Reached, begins, definer}
-use Rattle.c_trim.proofs.Common.{functions_at, is_in, unreached, with_item, with_names, IsNeeded, is_external, item_functions, names}
-use Rattle.c_trim.proofs.Common.{list_any-append}
+use Rattle.c_trim.proofs.Common.{bytes_eq-Decides, both_hold, named, defines, has_body, Name, is_among, name_of, Found, position_found}
+use Rattle.c_trim.proofs.Common.{AreReached, BegunTo, FollowedTo, IsWanted, KnowsDefiners, Reached, begins, definer, functions_at, is_in}
+use Rattle.c_trim.proofs.Common.{unreached, with_item, with_names, IsNeeded, is_external, item_functions, names, list_any-append}
 use Rattle.std.proofs.lemmas.Bool.{and_from, or_right, or_left, false≢true}
 use Rattle.std.proofs.lemmas.Option.{same_Some, slice_get_within}
 use Rattle.w2c_base.proofs.Places.{get_within}
 use Rattle.c_tree.specs.Tree as tree
+use Rattle.std.proofs.lemmas.Map.Keys.{any_passes_from_place}
 
 abbrev flag : List Bool → ℕ → Bool
 flag flags j = slice_index_or flags j false
@@ -17,16 +17,14 @@ flag flags j = slice_index_or flags j false
 -- ---- one flag more
 
 set_long : (flags : List Bool) (j : ℕ) → length (slice_set flags j true) ≡ length flags
-set_long [] j = refl
-set_long (b ∷ flags) zero = refl
 set_long (b ∷ flags) (suc j) = ap suc (set_long flags j)
+set_long _ _ = refl
 
 set_grows : (flags : List Bool) (j m : ℕ) → flag flags m ≡ true → flag (slice_set flags j true) m ≡ true
 set_grows [] j m e = cc
 set_grows (b ∷ flags) zero zero e = refl
-set_grows (b ∷ flags) zero (suc m) e = e
-set_grows (b ∷ flags) (suc j) zero e = e
 set_grows (b ∷ flags) (suc j) (suc m) e = set_grows flags j m e
+set_grows _ _ _ e = e
 
 set_here : (flags : List Bool) (j : ℕ) → j < length flags → flag (slice_set flags j true) j ≡ true
 set_here [] j less = absurd (omega arith)
@@ -36,13 +34,12 @@ set_here (b ∷ flags) (suc j) less = set_here flags j (omega arith)
 set_only : (flags : List Bool) (j m : ℕ) → flag (slice_set flags j true) m ≡ true → (flag flags m ≡ true) ⊎ (j ≡ m)
 set_only [] j m e = cc
 set_only (b ∷ flags) zero zero e = inr refl
-set_only (b ∷ flags) zero (suc m) e = inl e
-set_only (b ∷ flags) (suc j) zero e = inl e
 set_only (b ∷ flags) (suc j) (suc m) e = by (set_only flags j m e)
   where
     by : (flag flags m ≡ true) ⊎ (j ≡ m) → (flag flags m ≡ true) ⊎ (suc j ≡ suc m)
     by (inl is) = inl is
     by (inr is) = inr (ap suc is)
+set_only _ _ _ e = inl e
 
 -- what is told false is there
 there_if_false : (flags : List Bool) (j : ℕ) → slice_index_or flags j true ≡ false → j < length flags
@@ -61,11 +58,10 @@ true_there (b ∷ flags) zero e = omega arith
 true_there (b ∷ flags) (suc j) e = let less = true_there flags j e in omega arith
 
 fewer : (flags : List Bool) (j : ℕ) → slice_index_or flags j true ≡ false → suc (unreached (slice_set flags j true)) ≡ unreached flags
-fewer [] j e = cc
-fewer (true ∷ flags) zero e = cc
 fewer (false ∷ flags) zero e = refl
 fewer (true ∷ flags) (suc j) e = fewer flags j e
 fewer (false ∷ flags) (suc j) e = ap suc (fewer flags j e)
+fewer _ _ e = cc
 
 -- ---- numbers in a list
 
@@ -227,23 +223,18 @@ module _ (unit : List tree.Item) where
 
     -- ---- an item is followed
 
-    any_at : (xs : List tree.Item) (i : ℕ) (item : tree.Item) (test : tree.Item → Bool) → slice_get xs i ≡ Some item → test item ≡ true
-        → list_any test xs ≡ true
-    any_at [] i item test there e = cc
-    any_at (x ∷ xs) zero item test there e = let same : x ≡ item = cc in or_left (test x) (list_any test xs) (ap test same ∙ e)
-    any_at (x ∷ xs) (suc i) item test there e = or_right (test x) (list_any test xs) (any_at xs i item test there e)
-
     pub names_needed : (i : ℕ) (item : tree.Item) → slice_get unit i ≡ Some item → IsWanted unit item → (x : Name)
         → is_among x (item_functions item) ≡ true → IsNeeded unit x
     names_needed i item there (inl external) x among = record {
       chain = [];
       leads_there =
-          any_at unit i item (λ y. is_external y && is_among x (item_functions y)) there (and_from (is_external item) _ external among);
+          any_passes_from_place (λ y. is_external y && is_among x (item_functions y)) unit i item there
+          (and_from (is_external item) _ external among);
     }
     names_needed i item there (inr need) x among = record {
       chain = name_of item ∷ need.chain;
       leads_there = and_from (names unit (name_of item) x) _
-          (any_at unit i item (λ y. bytes_eq (name_of y) (name_of item) && is_among x (item_functions y)) there
+          (any_passes_from_place (λ y. bytes_eq (name_of y) (name_of item) && is_among x (item_functions y)) unit i item there
           (and_from (bytes_eq (name_of item) (name_of item)) _ ((bytes_eq-Decides (name_of item) (name_of item)).1 refl) among))
           need.leads_there;
     }
@@ -274,8 +265,7 @@ module _ (unit : List tree.Item) where
         ∙ ap (λ (o : Option tree.Item). elim o as (λ _. List Name) [ None ↦ [] | Some y ↦ item_functions y ]) found.1 in
         let new : r' ≡ with_names table (item_functions item) r = is ∙ ap (λ l. with_names table l r) named_here in
         let g : Grows r r' = subst (Grows r) (sym new) (grows table (item_functions item) r) in (
-          subst (AreReached unit) (sym new) (reached_names (item_functions item) r old
-              (names_needed i item found.1 (old.wanted i item inside found.1))),
+          rw new (reached_names (item_functions item) r old (names_needed i item found.1 (old.wanted i item inside found.1))),
           λ j other within there x among m defines_it. by i item at.1 found.1 new g j other there x among m defines_it
               (in_either j i (take k r.1) (sym (ap (λ l. is_in j (take (k + 1) l)) g.order
               ∙ ap (is_in j) (take_at_place r.1 g.more k i at.1)) ∙ within)),
@@ -317,8 +307,7 @@ begin_next unit i item r r' there is old begun = by (begins item) refl is
         ∙ (both_hold (is_external item) (has_body item) starts).0) in
         let g : Grows r r' = subst (Grows r) (sym new) (grows_item (Some i) r) in
         let less : i < length r.0 = subst (λ n. i < n) (sym old.long) (slice_get_within unit i item there) in (
-          subst (AreReached unit) (sym new)
-              (reached_item unit i r old want),
+          rw new (reached_item unit i r old want),
           λ j other short at begun_here. go g less j other at begun_here (either j short),
         )
       where

@@ -1,10 +1,7 @@
 -- One step of a loop over a list.
-use Rattle.std.proofs.Common.{◌≡◌, ℕ, ◌+◌, ◌<◌, List, [], ◌∷◌, ◌++◌, length, map, take, get_or, refl, sym, ap, ◌∙◌}
+use Rattle.std.proofs.Common.{◌≡◌, ℕ, ◌+◌, ◌<◌, List, [], ◌∷◌, ◌++◌, length, map, take, get_or, sym, ap, ◌∙◌}
 use Rattle.w2c_base.proofs.Places.{mapped_next}
-
-map_push : {A B : Type 0} (f : A → B) (xs : List A) (x : A) → map f (xs ++ x ∷ []) ≡ map f xs ++ f x ∷ []
-map_push f [] x = refl
-map_push f (y ∷ xs) x = ap (λ l. f y ∷ l) (map_push f xs x)
+use Rattle.std.proofs.lemmas.List.{map_push}
 
 -- the copies so far, and one more
 pub one_copied : {A B : Type 0} (f : A → B) (xs copies new : List A) (i : ℕ) (item copy : A) → i < length xs → item ≡ get_or xs i item

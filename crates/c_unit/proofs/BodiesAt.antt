@@ -1,19 +1,15 @@
 -- What stands behind the functions of a module that is accepted: each has a type and a body that is typed.
-use Rattle.c_unit.proofs.Common.{◌≡◌, ℕ, zero, suc, ◌+◌, ◌-◌, ◌^◌, ◌<◌, ◌≤◌, Bool, true, List, [], ◌∷◌, length, is_none, slice_get, Some}
-use Rattle.c_unit.proofs.Common.{None, Option, option_map, zip, flat_map, unwrap_or, refl, ap, ◌∙◌, subst, arith, same_Some, list_any}
-use Rattle.c_unit.proofs.Common.{none_at, all_at, if_found, FuncType, defined_behind_imports, declared_locals, imported_funcs, type_in}
-use Rattle.c_unit.proofs.Common.{Code, BodyEntry, FuncEntry, TypeEntry, Module, body_context, context_of, fault_if, unknown_import_type}
-use Rattle.c_unit.proofs.Common.{unknown_types, bodies_of, Void, NamedModule, body_of, func_of, most_operands, BodyHasLimits, HasLimits}
-use Rattle.c_unit.proofs.Common.{IsAccepted}
-use Rattle.c_body.specs.Stack.{peak}
-use Rattle.c_unit.proofs.Small.{no_left, no_right, no_fault, there_is}
-use Rattle.std.proofs.lemmas.Map.Keys.{any_passes_from_place}
-use Rattle.c_body.proofs.Peaks.{one_value}
+use Rattle.c_unit.proofs.Common.{◌≡◌, ℕ, zero, suc, ◌+◌, ◌-◌, ◌<◌, ◌≤◌, true, List, [], ◌∷◌, length, is_none, slice_get, Some}
+use Rattle.c_unit.proofs.Common.{None, Option, option_map, zip, flat_map, unwrap_or, refl, ap, ◌∙◌, subst, arith, same_Some}
+use Rattle.c_unit.proofs.Common.{none_at, all_at, if_found, FuncType, defined_behind_imports, imported_funcs, type_in}
+use Rattle.c_unit.proofs.Common.{BodyEntry, FuncEntry, TypeEntry, Module, body_context, context_of, fault_if, unknown_import_type}
+use Rattle.c_unit.proofs.Common.{bodies_of, Void, NamedModule, body_of, func_of, BodyHasLimits, HasLimits, IsAccepted}
 use Rattle.c_unit.proofs.AcceptedLimits.{accepted_limits}
 use Rattle.wasm_typing.specs.declared.fault.ValidCause.TheVariants as cause
-use Rattle.wasm_typing.specs.Typing.{values, BodyHasType}
+use Rattle.wasm_typing.specs.Typing.{BodyHasType}
 use Rattle.wasm_typing.specs.Verdict.{IsTyped, AreTyped}
-use Rattle.wasm_typing.specs.ModuleFaults.{module_faults}
+use Rattle.c_init.proofs.NoFaults.{rows_of}
+use Rattle.c_init.proofs.Small.{no_right, no_fault, there_is}
 
 pub record BodyAt (m : NamedModule) (k : ℕ) : Type 0 where
   pub ty : FuncType
@@ -21,17 +17,12 @@ pub record BodyAt (m : NamedModule) (k : ℕ) : Type 0 where
   pub is : body_of m.tree m.name k ≡ func_of m k ty entry
   pub typed : BodyHasType (context_of m.tree ty entry) entry.code
   pub within : BodyHasLimits entry
-  pub listed : (test : Code → Bool) → test entry.code ≡ true → list_any (λ (b : BodyEntry). test b.code) m.tree.bodies ≡ true
+  pub place : ℕ
+  pub listed : slice_get m.tree.bodies place ≡ Some entry
   pub params : length ty.params ≤ 60
   pub func : FuncEntry
   pub func_is : slice_get m.tree.funcs (k - imported_funcs m.tree) ≡ Some func
   pub type_is : type_in m.tree func.type_index ≡ Some ty
-
--- ---- no faults
-
-pub types_known : (m : Module) → module_faults m ≡ [] → unknown_types m ≡ []
-unfolding module_faults
-types_known m e = no_left (unknown_types m) _ e
 
 -- ---- lists
 
@@ -67,7 +58,7 @@ body_at m a i less =
     let found = get_zip m.tree.funcs m.tree.bodies i less (accepted_limits a).bodies_are_there in
     let fault = none_at (λ (f : FuncEntry). fault_if (is_none (type_in m.tree f.type_index)) f.place cause.UnknownType)
     m.tree.funcs i found.0
-    (no_right (flat_map (unknown_import_type m.tree) m.tree.imports) _ (types_known m.tree a.valid.no_faults)) found.2 in
+    (no_right (flat_map (unknown_import_type m.tree) m.tree.imports) _ (rows_of m.tree a.valid.no_faults).known) found.2 in
     let known = there_is (type_in m.tree found.0.type_index)
     (no_fault (is_none (type_in m.tree found.0.type_index)) found.0.place cause.UnknownType fault) in
     let back : imported_funcs m.tree + i - imported_funcs m.tree ≡ i = omega arith in
@@ -83,19 +74,10 @@ body_at m a i less =
       typed = subst (λ o. IsTyped (option_map (λ ty. context_of m.tree ty found.1) o) found.1) known.1
           (typed_at m.tree (bodies_of m.tree) i (found.0, found.1) a.valid.bodies found.4);
       within = all_at BodyHasLimits m.tree.bodies i found.1 (accepted_limits a).bodies found.3;
-      listed = λ test e. any_passes_from_place (λ (b : BodyEntry). test b.code) m.tree.bodies i found.1 found.3 e;
+      place = i;
+      listed = found.3;
       params = few_params m.tree (accepted_limits a) found.0.type_index known.0 known.1;
       func = found.0;
       func_is = ap (slice_get m.tree.funcs) back ∙ found.2;
       type_is = known.1;
     }
-
--- the limits that the body's names rest on
-pub few_locals : (m : NamedModule) (k : ℕ) (b : BodyAt m k) → length b.ty.params + length (declared_locals b.entry.runs) ≤ 2 ^ 64
-few_locals m k b = omega (arith, b.params, b.within.locals)
-
-pub few_operands : (m : NamedModule) (k : ℕ) (b : BodyAt m k) → most_operands (context_of m.tree b.ty b.entry) b.entry.code ≤ 2 ^ 64
-few_operands m k b =
-    let low : peak (context_of m.tree b.ty b.entry) [] b.entry.code < 2 ^ 32 = b.within.operands (context_of m.tree b.ty b.entry) in
-    let one : length (values b.ty.result) ≤ 1 = one_value b.ty.result in
-    omega (arith, low, one)

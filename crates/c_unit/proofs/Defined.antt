@@ -18,10 +18,10 @@ use Rattle.w2c_mangle.specs.declared.symbol.SymbolKind.TheVariants as symbol
 use Rattle.c_tree.specs.declared.tree.CType.TheVariants as c_type
 use Rattle.c_tree.specs.Tree as tree
 use Rattle.c_meaning.proofs.Links.{all_flat}
-use Rattle.c_prelude.specs.declared.operation.Helper.TheVariants as helper
+use Rattle.c_helpers.specs.declared.operation.Helper.TheVariants as helper
 use Rattle.c_unit.proofs.Found.{Test, Misses, Finds, FindsNone, skip, skip_none, named_by, external_by, here, find_at, find_none, find_map}
 use Rattle.c_unit.proofs.Found.{found_among, none_among}
-use Rattle.c_unit.proofs.Small.{all_images}
+use Rattle.c_init.proofs.Small.{all_images}
 
 -- ---- sections: those without bodies define nothing
 

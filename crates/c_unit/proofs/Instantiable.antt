@@ -1,22 +1,29 @@
 -- What instantiation rests on, from a module's validity (WebAssembly Core 1.0, 3.4) and its limits.
-use Rattle.c_unit.proofs.Common.{◌≡◌, ℕ, zero, suc, ◌^◌, ◌<◌, ◌≤◌, Bool, true, false, not, ◌&&◌, ◌||◌, List, [], ◌∷◌, ◌++◌, map, length}
-use Rattle.c_unit.proofs.Common.{is_none, IsSome, ◌==◌, slice_get, Some, None, filter, Option, flat_map, sym, refl, ap, ◌∙◌, subst, arith}
-use Rattle.c_unit.proofs.Common.{nat_tests, same_Some, AllByRecursion, equal_type, FuncType, ValType, func_space, func_type_in}
-use Rattle.c_unit.proofs.Common.{global_space, imported_global_space, is_global_import, memory_of_import, memory_space, table_of_import}
-use Rattle.c_unit.proofs.Common.{table_space, ElementEntry, FuncRef, GlobalEntry, Limits, LimitsEntry, SegmentEntry, Start, Module}
-use Rattle.c_unit.proofs.Common.{IsMaximum, Expression, Shape, constant, constant_expected, duplicate_exports, expressions, fault_if, got}
-use Rattle.c_unit.proofs.Common.{got_unknown, has_other_type, is_got_unknown, is_no_constant, is_no_first, is_other_than_start, is_out}
-use Rattle.c_unit.proofs.Common.{min_above_max, neither, shape_of, start_faults, too_many, too_many_pages, type_mismatch, unknown_elements}
-use Rattle.c_unit.proofs.Common.{unknown_export, unknown_global, unknown_segments, unknown_types, all_behind, all_front, all_unmapped}
-use Rattle.c_unit.proofs.Common.{all_weaker, filter_few, max_number}
+use Rattle.std.proofs.Common.{◌==◌}
+use Rattle.c_unit.proofs.Common.{HasLimits, ◌+◌, ◌≡◌, ℕ, zero, suc, ◌^◌, ◌<◌, ◌≤◌, Bool, true, false, not, ◌&&◌, ◌||◌, List, [], ◌∷◌, ◌++◌}
+use Rattle.c_unit.proofs.Common.{map, length, is_none, slice_get, Some, None, filter, Option, flat_map, sym, refl, ap, ◌∙◌, subst, arith}
+use Rattle.c_unit.proofs.Common.{same_Some, AllByRecursion, FuncType, ValType, global_space, imported_global_space, is_global_import}
+use Rattle.c_unit.proofs.Common.{memory_of_import, memory_space, table_of_import, table_space, GlobalEntry, Limits, LimitsEntry}
+use Rattle.c_unit.proofs.Common.{SegmentEntry, Module, fault_if, filter_few}
+use Rattle.wasm_typing.specs.Verdict.{IsValid}
+use Rattle.c_init.specs.Init.{max_number}
 use Rattle.w2c_base.specs.declared.value.ValType.TheVariants as type
 use Rattle.w2c_base.proofs.Conjunctions.{right_fails}
-use Rattle.c_unit.proofs.InitConstants.{ShapeFits}
-use Rattle.c_unit.proofs.Surroundings.{ElementIsValid, DataIsValid, StartIsValid}
-use Rattle.c_unit.proofs.Tasks.{ModulesAreInstantiable}
-use Rattle.c_unit.proofs.Small.{no_left, no_right, no_fault, each_none, few}
 use Rattle.wasm_typing.specs.declared.fault.ValidCause.TheVariants as cause
-use Rattle.wasm_typing.specs.ModuleFaults.{module_faults}
+use Rattle.wasm_typing.specs.ModuleFaults.{Expression, constant_expected, expressions, has_other_type, is_got_unknown, is_no_constant}
+use Rattle.wasm_typing.specs.ModuleFaults.{is_no_first, is_other_than_start, is_out, shape_of, start_faults, type_mismatch, unknown_global}
+use Rattle.std.proofs.lemmas.Bool.Decides.{nat_tests}
+use Rattle.wasm_tree.specs.IndexSpaces.{func_space, func_type_in}
+use Rattle.wasm_tree.specs.declared.entries.ElementEntry.{ElementEntry}
+use Rattle.wasm_tree.specs.declared.entries.FuncRef.{FuncRef}
+use Rattle.wasm_tree.specs.declared.entries.Start.{Start}
+use Rattle.wasm_tree.specs.Within.{IsMaximum}
+use Rattle.w2c_base.proofs.Lists.{all_behind, all_front, all_unmapped, all_weaker}
+use Rattle.c_init.specs.Fitting.{ShapeFits}
+use Rattle.c_init.specs.Instantiable.{ElementIsValid, DataIsValid, StartIsValid, IsInstantiable}
+use Rattle.c_init.proofs.Small.{no_left, no_right, no_fault, each_none, few, is_there}
+use Rattle.c_init.proofs.NoFaults.{HasNoFault, rows_of}
+use Rattle.c_init.proofs.Fits.{fits_of}
 
 -- ---- no faults
 
@@ -30,56 +37,7 @@ all_two : {A : Type 0} (P Q S : A → Type 0) (xs : List A) → ((x : A) → P x
 all_two P Q S [] f p q = tt
 all_two P Q S (x ∷ xs) f p q = (f x p.0 q.0, all_two P Q S xs f p.1 q.1)
 
--- the rows that instantiation rests on
-record HasNoFault (m : Module) : Type 0 where
-  one_table : too_many cause.TooManyTables (table_space m) ≡ []
-  one_memory : too_many cause.TooManyMemories (memory_space m) ≡ []
-  constants : flat_map constant_expected (expressions m) ≡ []
-  globals : flat_map unknown_global (expressions m) ≡ []
-  types : flat_map type_mismatch (expressions m) ≡ []
-  start : start_faults m m.start ≡ []
-  segments : unknown_segments m ≡ []
-  elements : unknown_elements m ≡ []
-
-rows_of : (m : Module) → module_faults m ≡ [] → HasNoFault m
-unfolding module_faults
-rows_of m e =
-    let a = no_right (unknown_types m) _ e in
-    let ab = no_left (too_many cause.TooManyTables (table_space m) ++ too_many cause.TooManyMemories (memory_space m)) _ a in
-    let b = no_right (too_many cause.TooManyTables (table_space m) ++ too_many cause.TooManyMemories (memory_space m)) _ a in
-    let d = no_right (flat_map min_above_max (table_space m ++ memory_space m)) _ b in
-    let f = no_right (flat_map too_many_pages (memory_space m)) _ d in
-    let h = no_right (flat_map constant_expected (expressions m)) _ f in
-    let i = no_right (flat_map unknown_global (expressions m)) _ h in
-    let j = no_right (flat_map type_mismatch (expressions m)) _ i in
-    let k = no_right (flat_map (unknown_export m) m.exports) _ j in
-    let l = no_right (duplicate_exports [] m.exports) _ k in
-    let n = no_right (start_faults m m.start) _ l in
-    record {
-      one_table = no_left (too_many cause.TooManyTables (table_space m)) (too_many cause.TooManyMemories (memory_space m)) ab;
-      one_memory = no_right (too_many cause.TooManyTables (table_space m)) (too_many cause.TooManyMemories (memory_space m)) ab;
-      constants = no_left (flat_map constant_expected (expressions m)) _ f;
-      globals = no_left (flat_map unknown_global (expressions m)) _ h;
-      types = no_left (flat_map type_mismatch (expressions m)) _ i;
-      start = no_left (start_faults m m.start) _ l;
-      segments = no_left (unknown_segments m) _ n;
-      elements = no_right (unknown_segments m) _ n;
-    }
-
 -- ---- expressions
-
-pub same_type : (t ty : ValType) → not (equal_type t ty) ≡ false → t ≡ ty
-same_type type.I32 type.I32 e = refl
-same_type type.I64 type.I64 e = refl
-same_type type.I32 type.I64 e = absurd cc
-same_type type.I64 type.I32 e = absurd cc
-
-pub fits_of : (ty : ValType) (shape : Shape) → is_no_constant shape ≡ false → is_got_unknown shape ≡ false → has_other_type ty shape ≡ false
-    → ShapeFits ty shape
-fits_of ty (constant t) a b e = same_type t ty e
-fits_of ty (got t mutable) a b e = (same_type t ty e, a)
-fits_of ty got_unknown a b e = absurd cc
-fits_of ty neither a b e = absurd cc
 
 expressions_fit : (m : Module) → HasNoFault m → AllByRecursion (λ (e : Expression). ShapeFits e.ty (shape_of e.globals e.code))
     (expressions m)
@@ -103,10 +61,6 @@ is_zero (suc n) e = absurd (let apart : (suc n == 0) ≡ false = grind (arith, n
 or_first : (a b : Bool) → (a || b) ≡ false → a ≡ false
 or_first false b e = refl
 or_first true b e = e
-
-pub is_there : {A : Type 0} (o : Option A) → is_none o ≡ false → IsSome o
-is_there None e = absurd cc
-is_there (Some a) e = refl
 
 within : {A : Type 0} (xs : List A) (k : ℕ) → is_none (slice_get xs k) ≡ false → k < length xs
 within [] k e = absurd cc
@@ -151,7 +105,19 @@ start_valid m (Some y) e x is =
     subst (λ (x : Start). StartIsValid m x.index) (same_Some y x is)
     (record { there = within (func_space m) y.index there; no_params = no_params m y.index typed })
 
-pub modules_are_instantiable : ModulesAreInstantiable
+abbrev Expr : Expression → Type 0
+Expr e = ShapeFits e.ty (shape_of e.globals e.code)
+
+abbrev global_expr : Module → GlobalEntry → Expression
+global_expr m g = record { code = g.code; ty = g.ty; globals = imported_global_space m; place = g.place }
+
+abbrev element_expr : Module → ElementEntry → Expression
+element_expr m e = record { code = e.offset; ty = type.I32; globals = global_space m; place = e.offset_place }
+
+abbrev segment_expr : Module → SegmentEntry → Expression
+segment_expr m s = record { code = s.offset; ty = type.I32; globals = global_space m; place = s.offset_place }
+
+pub modules_are_instantiable : (m : Module) → IsValid m → HasLimits m → IsInstantiable m
 modules_are_instantiable m valid w = record {
   elements = all_four (λ (e : ElementEntry). fault_if (is_no_first (table_space m) e.table) e.place cause.UnknownTable ≡ [])
       (λ (e : ElementEntry). ShapeFits type.I32 (shape_of (global_space m) e.offset))
@@ -172,8 +138,7 @@ modules_are_instantiable m valid w = record {
       (each_none (λ (e : ElementEntry). fault_if (is_no_first (table_space m) e.table) e.place cause.UnknownTable) m.elements
       (no_left (flat_map (λ (e : ElementEntry). fault_if (is_no_first (table_space m) e.table) e.place cause.UnknownTable) m.elements) _
       h.segments))
-      (all_unmapped Expr (λ (e : ElementEntry). record { code = e.offset; ty = type.I32; globals = global_space m; place = e.offset_place })
-      m.elements element_exprs)
+      (all_unmapped Expr (element_expr m) m.elements (all_front Expr (map (element_expr m) m.elements) _ behind_globals))
       w.elements
       (each_none (λ (e : ElementEntry). flat_map (λ (f : FuncRef). fault_if (is_out (func_space m) f.index) f.place cause.UnknownFunction)
       e.funcs) m.elements h.elements);
@@ -191,8 +156,7 @@ modules_are_instantiable m valid w = record {
       (each_none (λ (s : SegmentEntry). fault_if (is_no_first (memory_space m) s.memory) s.place cause.UnknownMemory) m.segments
       (no_right (flat_map (λ (e : ElementEntry). fault_if (is_no_first (table_space m) e.table) e.place cause.UnknownTable) m.elements) _
       h.segments))
-      (all_unmapped Expr (λ (s : SegmentEntry). record { code = s.offset; ty = type.I32; globals = global_space m; place = s.offset_place })
-      m.segments segment_exprs)
+      (all_unmapped Expr (segment_expr m) m.segments (all_behind Expr (map (element_expr m) m.elements) _ behind_globals))
       w.bytes w.are_bytes;
   few_segments = w.segments;
   one_table = let a : length (table_space m) ≤ 1 = few cause.TooManyTables (table_space m) h.one_table in
@@ -215,10 +179,7 @@ modules_are_instantiable m valid w = record {
       (all_unmapped (λ (l : Limits). IsMaximum l.max) (λ (t : LimitsEntry). t.limits) m.memories
       (all_behind (λ (l : Limits). IsMaximum l.max) (flat_map memory_of_import m.imports) (map (λ (t : LimitsEntry). t.limits) m.memories)
       (all_behind (λ (l : Limits). IsMaximum l.max) (table_space m) (memory_space m) w.maxima)));
-  globals = all_unmapped Expr (λ
-      (g : GlobalEntry). record { code = g.code; ty = g.ty; globals = imported_global_space m; place = g.place }) m.globals
-      (all_front Expr (map (λ (g : GlobalEntry). record { code = g.code; ty = g.ty; globals = imported_global_space m; place = g.place })
-      m.globals) _ exprs);
+  globals = all_unmapped Expr (global_expr m) m.globals (all_front Expr (map (global_expr m) m.globals) _ exprs);
   few_globals =
       let few : length (filter is_global_import m.imports) ≤ length m.imports = filter_few is_global_import m.imports in
       let a : length m.imports < 2 ^ 32 = w.imports in
@@ -231,32 +192,8 @@ modules_are_instantiable m valid w = record {
     h : HasNoFault m
     h = rows_of m valid.no_faults
 
-    Expr : Expression → Type 0
-    Expr e = ShapeFits e.ty (shape_of e.globals e.code)
-
     exprs : AllByRecursion Expr (expressions m)
     exprs = expressions_fit m h
 
-    behind_globals : AllByRecursion Expr (map
-        (λ (e : ElementEntry). record { code = e.offset; ty = type.I32; globals = global_space m; place = e.offset_place }) m.elements
-        ++ map (λ (s : SegmentEntry). record {
-          code = s.offset;
-          ty = type.I32;
-          globals = global_space m;
-          place =
-              s.offset_place;
-        }) m.segments)
-    behind_globals = all_behind Expr (map
-        (λ (g : GlobalEntry). record { code = g.code; ty = g.ty; globals = imported_global_space m; place = g.place }) m.globals) _ exprs
-
-    element_exprs : AllByRecursion Expr (map
-        (λ (e : ElementEntry). record { code = e.offset; ty = type.I32; globals = global_space m; place = e.offset_place }) m.elements)
-    element_exprs = all_front Expr (map
-        (λ (e : ElementEntry). record { code = e.offset; ty = type.I32; globals = global_space m; place = e.offset_place }) m.elements) _
-        behind_globals
-
-    segment_exprs : AllByRecursion Expr (map
-        (λ (s : SegmentEntry). record { code = s.offset; ty = type.I32; globals = global_space m; place = s.offset_place }) m.segments)
-    segment_exprs = all_behind Expr (map
-        (λ (e : ElementEntry). record { code = e.offset; ty = type.I32; globals = global_space m; place = e.offset_place }) m.elements) _
-        behind_globals
+    behind_globals : AllByRecursion Expr (map (element_expr m) m.elements ++ map (segment_expr m) m.segments)
+    behind_globals = all_behind Expr (map (global_expr m) m.globals) _ exprs

@@ -12,7 +12,7 @@ use Rattle.c_tree.specs.Tree as tree
 use Rattle.c_unit.proofs.SectionLists.{global_pointers, globals, memory_pointers, mems, pointers, table_pointers, tabs}
 use Rattle.c_unit.proofs.Sections.{tabs_class, mems_class, globals_class, pointers_are, few_globals, few_imports}
 use Rattle.c_unit.proofs.KnownNames.{past_vars, in_vars, no_var, numbered_var, get_late, get_past, imported_global}
-use Rattle.c_unit.proofs.Small.{some_same}
+use Rattle.c_init.proofs.Small.{some_same}
 
 abbrev variable : CType → Name → tree.Item
 variable t name = tree.Var t name None

@@ -7,7 +7,7 @@ use Rattle.c_unit.proofs.Common.{function_of, variable_of, CType, bytes_equal, f
 use Rattle.c_unit.proofs.Common.{named_in, add-zero}
 use Rattle.c_tree.specs.Tree as tree
 use Rattle.c_unit.proofs.Sections.{AllClass}
-use Rattle.c_unit.proofs.Small.{some_same}
+use Rattle.c_init.proofs.Small.{some_same}
 
 -- ---- looking names up in lists of items
 
@@ -89,13 +89,12 @@ imported_global [] k i e = absurd cc
 imported_global (x ∷ imports) k i e = by x.kind refl k e (imported_global imports)
   where
     by : (kind : ImportKind) → x.kind ≡ kind → (k : ℕ)
-        → slice_get (filter is_global_import
-        (record { «module» = x.«module»; field = x.field; kind = kind; place = x.place } ∷ imports)) k ≡ Some i
+        → slice_get (filter is_global_import (record x { kind = kind } ∷ imports)) k ≡ Some i
         → ((k : ℕ) (i : Import) → slice_get (filter is_global_import imports) k ≡ Some i
         → (mutable : Bool) × (ty : ValType) × (slice_get (flat_map global_of_import imports) k ≡ Some (ty, mutable))
         × (i.kind ≡ ImportGlobal ty mutable))
         → (mutable : Bool) × (ty : ValType)
-        × (slice_get (flat_map global_of_import (record { «module» = x.«module»; field = x.field; kind = kind; place = x.place } ∷ imports))
+        × (slice_get (flat_map global_of_import (record x { kind = kind } ∷ imports))
         k ≡ Some (ty, mutable)) × (i.kind ≡ ImportGlobal ty mutable)
     by (ImportFunc f) s k e rest = rest k i e
     by (ImportTable l) s k e rest = rest k i e

@@ -3,31 +3,30 @@ use Rattle.c_unit.proofs.Common.{◌≡◌, ℕ, ◌+◌, ◌-◌, ◌^◌, ◌<
 use Rattle.c_unit.proofs.Common.{None, Option, flat_map, bytes_eq, sym, refl, ap, ◌∙◌, subst, arith, length-append, map-append}
 use Rattle.c_unit.proofs.Common.{AllByRecursion, all_append, all_map, numbered, ValType, export_symbol_of-parts, init_symbol_of-parts}
 use Rattle.c_unit.proofs.Common.{export_symbol_of, init_symbol_of, SymbolKind, global_type_in, imported_funcs, imported_globals}
-use Rattle.c_unit.proofs.Common.{is_func_import, is_global_import, memory_of_import, memory_space, table_of_import, table_space, Export}
+use Rattle.c_unit.proofs.Common.{is_func_import, is_global_import, memory_of_import, table_of_import, Export}
 use Rattle.c_unit.proofs.Common.{ExportKind, ExportFunc, ExportGlobal, ExportMemory, ExportTable, Import, ImportKind, ImportFunc}
-use Rattle.c_unit.proofs.Common.{ImportGlobal, ImportMemory, ImportTable, LimitsEntry, SegmentEntry, LoadOp, StoreOp, Module, too_many}
-use Rattle.c_unit.proofs.Common.{unknown_types, is_symbol, Name, name_of, CType, NamedModule, func_name, global_name, memory_name}
-use Rattle.c_unit.proofs.Common.{table_name, helper_of, Helper, NumOp, Typed, declared_symbols, export_symbol, export_type, firsts}
-use Rattle.c_unit.proofs.Common.{global_imports, global_kind, global_symbol, import_symbol, import_type, memory_imports, table_imports}
-use Rattle.c_unit.proofs.Common.{class, class_lettered, class_pointer, filter_few, lettered, memory_count, table_count, body_of}
-use Rattle.c_unit.proofs.Common.{pointer_name, helpers_of, callee, accessor, export_func, passes_on, usable_symbol, data_name, bodies}
-use Rattle.c_unit.proofs.Common.{data_of, declaration, items, prototype, IsAccepted, length-map}
+use Rattle.c_unit.proofs.Common.{ImportGlobal, ImportMemory, ImportTable, LimitsEntry, SegmentEntry, LoadOp, StoreOp, Module, is_symbol}
+use Rattle.c_unit.proofs.Common.{Name, name_of, CType, NamedModule, func_name, global_name, memory_name, table_name, helper_of, Helper}
+use Rattle.c_unit.proofs.Common.{NumOp, Typed, declared_symbols, export_symbol, export_type, firsts, global_imports, global_kind}
+use Rattle.c_unit.proofs.Common.{global_symbol, import_symbol, import_type, memory_imports, table_imports, class, class_lettered}
+use Rattle.c_unit.proofs.Common.{class_pointer, filter_few, lettered, memory_count, table_count, body_of, pointer_name, helpers_of, callee}
+use Rattle.c_unit.proofs.Common.{accessor, export_func, passes_on, usable_symbol, data_name, bodies, data_of, declaration, items, prototype}
+use Rattle.c_unit.proofs.Common.{IsAccepted, length-map}
 use Rattle.w2c_mangle.specs.declared.symbol.SymbolKind.TheVariants as symbol
-use Rattle.wasm_typing.specs.declared.fault.ValidCause.TheVariants as cause
-use Rattle.wasm_typing.specs.ModuleFaults.{module_faults}
 use Rattle.c_tree.specs.declared.tree.CType.TheVariants as type
 use Rattle.c_tree.specs.Tree as tree
-use Rattle.c_prelude.specs.declared.operation.Helper.TheVariants as helper
-use Rattle.c_prelude.specs.declared.operation.NumOp.TheVariants as num
 use Rattle.wasm_tree.specs.declared.operators.LoadOp.TheVariants as load
 use Rattle.wasm_tree.specs.declared.operators.StoreOp.TheVariants as store
 use Rattle.c_unit.proofs.SectionLists.{global_item, global_pointers, globals, memory_pointers, mems, pointer_item, pointers, table_pointers}
 use Rattle.c_unit.proofs.SectionLists.{tabs}
 use Rattle.c_unit.proofs.BodiesAt.{body_at}
 use Rattle.c_unit.proofs.Pairs.{AllPairs, all_zip, pairs_zip, all_flat, pairs_flat, all_range, pairs_joined, firsts_all}
-use Rattle.c_unit.proofs.Small.{no_left, no_right, few, all_images}
 use Rattle.c_unit.proofs.AcceptedLimits.{accepted_limits}
 use Rattle.c_unit.proofs.Wholes.{map_twice}
+use Rattle.c_helpers.specs.declared.operation.Helper.TheVariants as helper
+use Rattle.c_helpers.specs.declared.operation.NumOp.TheVariants as num
+use Rattle.c_init.proofs.Small.{all_images}
+use Rattle.c_init.proofs.Countable.{few_tables, few_memories}
 
 -- ---- classes
 
@@ -51,7 +50,7 @@ pub of_import : (P : Name → Type 0) → ((m : List ℕ) (k : SymbolKind) (n : 
     → P (import_symbol i)
 of_import P f i = by i.kind
   where
-    by : (kind : ImportKind) → P (import_symbol (record { «module» = i.«module»; field = i.field; kind = kind; place = i.place }))
+    by : (kind : ImportKind) → P (import_symbol (record i { kind = kind }))
     by (ImportFunc t) = f i.«module» symbol.Func i.field
     by (ImportTable l) = f i.«module» symbol.Table i.field
     by (ImportMemory l) = f i.«module» symbol.Memory i.field
@@ -65,8 +64,7 @@ of_export P m f e = by e.kind
     global None = f symbol.Const e.name
     global (Some g) = f (global_kind g.1) e.name
 
-    by : (kind : ExportKind) → P (export_symbol m
-        (record { name = e.name; kind = kind; index = e.index; name_place = e.name_place; index_place = e.index_place }))
+    by : (kind : ExportKind) → P (export_symbol m (record e { kind = kind }))
     by ExportFunc = f symbol.Func e.name
     by ExportTable = f symbol.Table e.name
     by ExportMemory = f symbol.Memory e.name
@@ -97,20 +95,6 @@ abbrev NotSame : tree.Item → tree.Item → Type 0
 NotSame o x = bytes_eq (name_of o) (name_of x) ≡ false
 
 -- ---- tables and memories are one at most
-
-pub few_tables : (m : Module) → module_faults m ≡ [] → length (table_space m) ≤ 1
-unfolding module_faults
-few_tables m e = few cause.TooManyTables (table_space m)
-    (no_left (too_many cause.TooManyTables (table_space m)) _
-    (no_left (too_many cause.TooManyTables (table_space m) ++ too_many cause.TooManyMemories (memory_space m)) _
-    (no_right (unknown_types m) _ e)))
-
-pub few_memories : (m : Module) → module_faults m ≡ [] → length (memory_space m) ≤ 1
-unfolding module_faults
-few_memories m e = few cause.TooManyMemories (memory_space m)
-    (no_right (too_many cause.TooManyTables (table_space m)) _
-    (no_left (too_many cause.TooManyTables (table_space m) ++ too_many cause.TooManyMemories (memory_space m)) _
-    (no_right (unknown_types m) _ e)))
 
 one_pairs : {A B : Type 0} (R : B → B → Type 0) (f : A → B) (xs : List A) → length xs ≤ 1 → AllPairs R (map f xs)
 one_pairs R f [] le = tt

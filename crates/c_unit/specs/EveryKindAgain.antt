@@ -6,8 +6,8 @@ use Rattle.wasm_tree.specs.declared.entries.ImportKind.TheVariants.{Func as Impo
 use Rattle.wasm_tree.specs.declared.entries.ImportKind.TheVariants.{Global as ImportGlobal}
 use Rattle.wasm_tree.specs.declared.entries.ExportKind.TheVariants.{Func as ExportFunc, Table as ExportTable, Memory as ExportMemory}
 use Rattle.wasm_tree.specs.declared.entries.ExportKind.TheVariants.{Global as ExportGlobal}
-use Rattle.wasm_meaning.specs.LinkedSet.{NamedModule}
-use Rattle.wasm_meaning.specs.Samples.{func_type}
+use Rattle.wasm_tree.specs.NamedModule.{NamedModule}
+use Rattle.wasm_tree.specs.Samples.{func_type}
 use Rattle.c_tree.specs.declared.tree.CType.{CType}
 use Rattle.c_tree.specs.declared.tree.CType.TheVariants as c_type
 use Rattle.c_tree.specs.declared.tree.Num.{Num}
@@ -15,8 +15,7 @@ use Rattle.c_tree.specs.declared.tree.Num.TheVariants.{N32, N64, Plain}
 use Rattle.c_tree.specs.declared.tree.COp.TheVariants as op
 use Rattle.c_tree.specs.Tree as tree
 use Rattle.c_tree.specs.Scope.{Name}
-use Rattle.alike.specs.Alike.{global_name}
-use Rattle.c_body.specs.Names.{label_name, pointer_name}
+use Rattle.c_tree.specs.DefinedNames.{global_name, label_name, pointer_name}
 use Rattle.c_unit.specs.Exports.{param_name}
 use Rattle.c_unit.specs.Samples.{limits, export, import, call, n, n32, n64, pointer}
 

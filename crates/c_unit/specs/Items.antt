@@ -9,7 +9,7 @@ use Rattle.wasm_tree.specs.declared.entries.GlobalEntry.{GlobalEntry}
 use Rattle.wasm_tree.specs.declared.entries.LimitsEntry.{LimitsEntry}
 use Rattle.wasm_tree.specs.declared.entries.SegmentEntry.{SegmentEntry}
 use Rattle.wasm_tree.specs.IndexSpaces.{imported_funcs, imported_globals}
-use Rattle.wasm_meaning.specs.LinkedSet.{NamedModule}
+use Rattle.wasm_tree.specs.NamedModule.{NamedModule}
 use Rattle.c_tree.specs.declared.tree.CType.{CType}
 use Rattle.c_tree.specs.declared.tree.CType.TheVariants as c_type
 use Rattle.c_tree.specs.declared.tree.Header.{Header}
@@ -17,12 +17,12 @@ use Rattle.c_tree.specs.Tree as tree
 use Rattle.c_tree.specs.Scope.{Name}
 use Rattle.c_tree.specs.Rules.{proper_types}
 use Rattle.c_tree.specs.TypesInC.{c_type_of}
-use Rattle.c_prelude.specs.Helpers.{helper_of}
-use Rattle.alike.specs.Alike.{memory_name, table_name, global_name}
+use Rattle.c_tree.specs.DefinedNames.{memory_name, table_name, global_name}
+use Rattle.c_helpers.specs.Helpers.{helper_of}
 use Rattle.c_symbols.specs.Symbols.{Typed, export_symbol, export_type}
 use Rattle.c_body.specs.Body.{body_of}
 use Rattle.c_body.specs.Needs.{needs_of}
-use Rattle.c_unit.specs.Init.{data_name, init_func}
+use Rattle.c_init.specs.Init.{data_name, init_func}
 use Rattle.c_unit.specs.Exports.{export_func}
 
 -- ---- objects: the table, the memory, the globals, and pointers to imported ones

@@ -19,14 +19,14 @@ use Rattle.wasm_tree.specs.declared.operators.BinaryOp.TheVariants.{Sub, Mul}
 use Rattle.wasm_tree.specs.declared.operators.LoadOp.TheVariants.{I32Load}
 use Rattle.wasm_tree.specs.declared.operators.StoreOp.TheVariants.{I32Store}
 use Rattle.wasm_tree.specs.declared.entries.ExportKind.TheVariants.{Func as ExportFunc, Memory as ExportMemory}
-use Rattle.wasm_meaning.specs.LinkedSet.{NamedModule}
-use Rattle.wasm_meaning.specs.Samples.{code_of, func_type}
+use Rattle.wasm_tree.specs.NamedModule.{NamedModule}
+use Rattle.wasm_tree.specs.Samples.{code_of, func_type}
 use Rattle.c_tree.specs.declared.tree.CType.TheVariants as c_type
 use Rattle.c_tree.specs.declared.tree.COp.TheVariants as op
 use Rattle.c_tree.specs.Tree as tree
-use Rattle.c_prelude.specs.Helpers.{load_helper, store_helper}
-use Rattle.alike.specs.Alike.{func_name, global_name}
-use Rattle.c_body.specs.Names.{local_name}
+use Rattle.c_tree.specs.DefinedNames.{func_name, global_name}
+use Rattle.c_helpers.specs.Helpers.{load_helper, store_helper}
+use Rattle.body_emitter.specs.Names.{local_name}
 use Rattle.c_body.specs.Samples.{i, name, number, set, two, slot, function_f0}
 use Rattle.c_unit.specs.Exports.{param_name}
 use Rattle.c_unit.specs.Samples.{limits, export, call, n32, n64}

@@ -1,7 +1,7 @@
 -- Tables of the names that were seen.
 use Rattle.std.specs.Prelude.{◌≡◌, ◌||◌, ◌&&◌, not, if◌then◌else◌, Bool, List, [], ◌∷◌, ◌++◌, bytes_eq, is_some}
 use Rattle.w2c_base.specs.Lookup.{named}
-use Rattle.wasm_meaning.specs.LinkedSet.{NamedModule}
+use Rattle.wasm_tree.specs.NamedModule.{NamedModule}
 use Rattle.c_tree.specs.Scope.{Name}
 use Rattle.c_symbols.specs.Symbols.{Typed, declared_type, symbol_type}
 

@@ -3,20 +3,20 @@ use Rattle.std.specs.Prelude.{◌≡◌, ℕ, List, [], ◌∷◌, ◌++◌, map
 use Rattle.w2c_base.specs.Lookup.{numbered}
 use Rattle.wasm_tree.specs.declared.entries.Import.{Import}
 use Rattle.wasm_tree.specs.declared.entries.LimitsEntry.{LimitsEntry}
-use Rattle.wasm_meaning.specs.LinkedSet.{NamedModule}
+use Rattle.wasm_tree.specs.NamedModule.{NamedModule}
 use Rattle.c_tree.specs.declared.tree.CType.TheVariants as c_type
 use Rattle.c_tree.specs.Tree as tree
-use Rattle.c_prelude.specs.Helpers.{helper_of}
-use Rattle.alike.specs.Alike.{memory_name, table_name, global_name}
-use Rattle.c_body.specs.Names.{pointer_name}
-use Rattle.c_symbols.specs.Symbols.{table_imports, memory_imports, global_imports, import_type, declared_symbols}
-use Rattle.c_body.specs.Needs.{helpers_of}
+use Rattle.c_tree.specs.DefinedNames.{memory_name, table_name, global_name, pointer_name}
+use Rattle.c_helpers.specs.Helpers.{helper_of}
+use Rattle.c_helpers.specs.Needed.{helpers_of}
+use Rattle.wasm_tree.specs.IndexSpaces.{table_imports, memory_imports, global_imports}
+use Rattle.c_symbols.specs.Symbols.{import_type, declared_symbols}
 use Rattle.c_unit.specs.declared.unit_items.UnitItems.{UnitItems}
 use Rattle.c_unit.specs.Arrays.{array_of, byte_segments}
-use Rattle.c_unit.specs.Init.{init_func}
+use Rattle.c_init.specs.Init.{init_func}
 use Rattle.c_unit.specs.Exports.{export_func}
 use Rattle.c_unit.specs.Items.{variable, global_item, declaration, prototype, bodies, items}
-use Rattle.c_unit.specs.Sources.{module_of}
+use Rattle.c_init.specs.Sources.{module_of}
 
 abbrev pub from_init : NamedModule → List tree.Item
 from_init m = tree.Function (init_func m) ∷ []

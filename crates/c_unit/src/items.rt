@@ -7,17 +7,16 @@ ghost use Rattle.wasm_tree.specs.IndexSpaces.{type_in};
 ghost use Rattle.c_tree.specs.Tree as tree;
 ghost use Rattle.c_tree.specs.View.{item_of};
 ghost use Rattle.c_tree.specs.TypesInC.{c_params_of, c_type_of};
-ghost use Rattle.alike.specs.Alike.{memory_name, table_name};
+ghost use Rattle.c_tree.specs.DefinedNames.{memory_name, table_name};
 ghost use Rattle.c_body.specs.Body.{body_of, defined_at, no_func};
-ghost use Rattle.c_unit.specs.Init.{data_name};
+ghost use Rattle.c_init.specs.Init.{data_name};
 ghost use Rattle.c_unit.specs.Items as of;
 ghost use Rattle.c_symbols.specs.Named.{pair_of};
 ghost use Rattle.c_unit.specs.Prototypes.{prototype_of, bare_params as bare_params_of};
 
-use crate::source::Source;
-use c_body::{func_name, with_number};
-use c_symbols::{MEMORY_NAME, Symbol, TABLE_NAME};
-use c_tree::{CType, Func, Item, Name, Params, c_result, c_type, name_of, no_params};
+use c_init::Source;
+use c_symbols::{MEMORY_NAME, Symbol, TABLE_NAME, func_name};
+use c_tree::{CType, Func, Item, Name, Params, c_result, c_type, name_of, no_params, with_number};
 use std::alloc::Global;
 use w2c_base::{FuncType, Memory, ValType};
 use wasm_tree::{GlobalEntry, Module, SegmentEntry};
@@ -129,12 +128,14 @@ fn prototype(alloc: Global, index: u32, ty: &FuncType) -> Result<Item, Memory>
     }))
 }
 
-impl<'a> Source<'a> {
-    /// The variable of an own global.
-    pub(crate) fn global_item(&self, number: usize, global: &GlobalEntry) -> Result<Item, Memory>
-        requires { number < length self.now.tree.now.globals }
-        ensures { IfOk result (λ item. item_of item ≡ of.global_item self.now.tree.now (number, global.now)) }
-    {
-        Ok(variable(c_type(global.ty), self.own_global(number)?))
-    }
+/// The variable of an own global.
+pub(crate) fn global_item(
+    source: &Source,
+    number: usize,
+    global: &GlobalEntry,
+) -> Result<Item, Memory>
+    requires { number < length source.now.tree.now.globals }
+    ensures { IfOk result (λ item. item_of item ≡ of.global_item source.now.tree.now (number, global.now)) }
+{
+    Ok(variable(c_type(global.ty), source.own_global(number)?))
 }

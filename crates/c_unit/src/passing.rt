@@ -7,11 +7,10 @@ ghost use Rattle.c_tree.specs.TypesInC.{c_type_of};
 ghost use Rattle.c_unit.specs.Exports as of;
 ghost use Rattle.c_symbols.specs.Typed.{type_of};
 
-use c_body::with_number;
 use c_symbols::SymbolType;
 use c_tree::{
     Arg, Args, Body, CType, Callee, Expr, Func, Locals, Name, Params, Stmt, Stmts, c_type, name_of,
-    no_params, zero_number,
+    no_params, with_number, zero_number,
 };
 use std::alloc::Global;
 use w2c_base::{Memory, ValType};

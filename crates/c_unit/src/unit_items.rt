@@ -1,24 +1,24 @@
 // The items of a unit, one at a time.
 ghost use Rattle.std.specs.Prelude.{◌≡◌, ◌+◌, map, slice_get, option_map, IfOk, OnErr};
 ghost use Rattle.c_tree.specs.View.{item_of};
-ghost use Rattle.alike.specs.Alike.{global_name};
+ghost use Rattle.c_tree.specs.DefinedNames.{global_name, pointer_name as pointer_name_of};
+ghost use Rattle.c_helpers.specs.Needed.{helpers_of};
 ghost use Rattle.c_symbols.specs.Symbols.{declared_symbols, global_imports};
-ghost use Rattle.c_body.specs.Needs.{helpers_of};
-ghost use Rattle.c_body.specs.Names.{pointer_name as pointer_name_of};
-ghost use Rattle.c_unit.specs.Items as of;
 ghost use Rattle.c_symbols.specs.Named.{pair_of};
-ghost use Rattle.c_unit.specs.Sources.{module_of};
+ghost use Rattle.c_unit.specs.Items as of;
+ghost use Rattle.c_init.specs.Sources.{module_of};
 ghost use Rattle.c_unit.specs.Pointers.{pointed};
 ghost use Rattle.c_unit.specs.Arrays.{bytes_of, byte_segments};
 
+use crate::bodies::{body, prototype};
 use crate::declarations::declared;
+use crate::exports::export_func;
 use crate::global_pointers::global_pointers;
-use crate::items::{array, declaration, memory, table, variable};
-use crate::source::Source;
+use crate::items::{array, declaration, global_item, memory, table, variable};
 use crate::with_bytes::with_bytes;
-use c_body::{helpers, pointer_to_global};
-use c_prelude::{Helper, helper};
-use c_symbols::{MEMORY_NAME, Symbol, TABLE_NAME, pointer_name};
+use c_helpers::{Helper, helper, helpers};
+use c_init::Source;
+use c_symbols::{MEMORY_NAME, Symbol, TABLE_NAME, pointer_name, pointer_to_global};
 use c_tree::{CType, Item};
 use std::alloc::Global;
 use w2c_base::Memory;
@@ -133,7 +133,7 @@ impl<'a> UnitItems<'a> {
     {
         let globals = self.source.tree.globals.as_slice();
         match globals.get(n) {
-            Some(global) => Ok(Some(self.source.global_item(n, global)?)),
+            Some(global) => Ok(Some(global_item(&self.source, n, global)?)),
             None => self.at_pointers(n.saturating_sub(globals.len())),
         }
     }
@@ -197,7 +197,7 @@ impl<'a> UnitItems<'a> {
     {
         let count = self.source.tree.funcs.len();
         if n < count {
-            Ok(Some(self.source.prototype(n)?))
+            Ok(Some(prototype(&self.source, n)?))
         } else {
             self.at_helpers(n.saturating_sub(count))
         }
@@ -218,7 +218,7 @@ impl<'a> UnitItems<'a> {
     {
         let count = self.source.tree.funcs.len();
         if n < count {
-            Ok(Some(Item::Func(self.source.body(n)?)))
+            Ok(Some(Item::Func(body(&self.source, n)?)))
         } else {
             self.at_exports(n.saturating_sub(count))
         }
@@ -229,7 +229,7 @@ impl<'a> UnitItems<'a> {
     {
         let exports = self.source.tree.exports.as_slice();
         match exports.get(n) {
-            Some(export) => Ok(Some(Item::Func(self.source.export_func(export)?))),
+            Some(export) => Ok(Some(Item::Func(export_func(&self.source, export)?))),
             None => self.at_init(n.saturating_sub(exports.len())),
         }
     }

@@ -1,6 +1,6 @@
 -- What is there before the first statement.
-use Rattle.crun.proofs.Common.{◌≡◌, ℕ, List, [], ◌∷◌, map, length, None, sym, refl, ap, ◌∙◌, subst, length-map, all_from, Host, Reply}
-use Rattle.crun.proofs.Common.{Trail, unit_of, Program, link_refusal, fresh, TypedMachine, TypedProgram, function_of, hosts_of, HostModule}
+use Rattle.crun.proofs.Common.{◌≡◌, ℕ, List, [], ◌∷◌, map, length, None, sym, refl, ap, ◌∙◌, length-map, all_from, Host, Reply, Trail}
+use Rattle.crun.proofs.Common.{unit_of, Program, link_refusal, fresh, TypedMachine, TypedProgram, function_of, hosts_of, HostModule}
 use Rattle.crun.proofs.Common.{HaveCounts, machine_at, program_in, symbols_of_hosts, trail_of, Engine}
 use Rattle.c_tree.specs.FirstBroken.{KeepsRules}
 use Rattle.c_sound.proofs.Changes.{trail_keeps}
@@ -22,8 +22,7 @@ counts_are {H} m hosts counts is = go hosts ∙ sym is
 pub first_typed : {H : Type 0} (m : HostModule H) (e : Engine H) → TypedProgram (program_in m e)
     → ((replies : List Reply) → machine_at e (trail_of replies []) ≡ fresh (program_in m e) replies)
     → (trail : Trail) → TypedMachine (program_in m e) (machine_at e trail)
-first_typed m e typed first trail = trail_keeps (program_in m e) (machine_at e (trail_of [] [])) trail
-    (subst (TypedMachine (program_in m e)) (sym (first [])) (typed.start []))
+first_typed m e typed first trail = trail_keeps (program_in m e) (machine_at e (trail_of [] [])) trail (rw (first []) (typed.start []))
 
 module _ {H : Type 0} (m : HostModule H) (e : Engine H) (same : e.linked.1 ≡ symbols_of_hosts (hosts_of m e.hosts.list.items)) where
   abbrev p : Program

@@ -55,18 +55,11 @@ module _ {H : Type 0} (m : HostModule H) (old new : Engine H) (steps : ℕ) (few
     ended_behind value is =
         let one = call_ended p old.depth (units_at old) old.hosts.journal (steps - old.left) (entries_of p calls) last told behind x
         (UnitFunc came.unit (item_name (naming_in old) came.unit came.item)) came.called new.depth (units_at new) asks (old.left - new.left)
-        (length calls) value refl (λ more later. subst (λ o. Came p (record { phase = x.phase; entries = more }) (machine_at new)
-        (trail_behind asks later told) o (after p (old.left - new.left) (begun (record { phase = x.phase; entries = more })
-        (call p (UnitFunc came.unit (item_name (naming_in old) came.unit came.item)) (machine_at old (trail_before asks later told))
-        (map Number c.args) []))))
-        is (came_out more later)) in
+        (length calls) value refl (λ more later. rw is at (came_out more later)) in
         subst (λ es. BehindAt p new.depth (units_at new) new.hosts.journal (steps - new.left) es (Call (length calls))
         ((told ++ events_in asks) ++ CallEnded value ∷ [])) (sym (entries_push p calls c))
         (subst (λ n. BehindAt p new.depth (units_at new) new.hosts.journal n (entries_of p calls ++ x ∷ []) (Call (length calls))
-        ((told ++ events_in asks) ++ CallEnded value ∷ [])) counted
-        (subst (λ j. BehindAt p new.depth (units_at new) j ((steps - old.left) + (old.left - new.left)) (entries_of p calls ++ x ∷ [])
-        (Call (length calls))
-        ((told ++ events_in asks) ++ CallEnded value ∷ [])) (sym asked.written) one))
+        ((told ++ events_in asks) ++ CallEnded value ∷ [])) counted (rw asked.written one))
 
     -- the run with the call more came to this
     pub call_came : (o ≡ outcome.OutOfSteps → new.left ≡ 0) → (rest : List SymbolCall) → IsLast o rest

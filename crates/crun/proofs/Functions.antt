@@ -171,31 +171,22 @@ module _ {H : Type 0} (m : HostModule H) (e : Engine H) (unit item : ℕ) (args 
     typed_there o t is = subst (TypedRun p) is (typed_run ready (Call 0) begins before n)
 
     pub has_outcome : (o : Option Ending) (t : LinkedThread) → IsThere o t → outcome_in o t.top ≡ None → ⊥
-    has_outcome None t is none = absurd cc
     has_outcome (Some ending.Stuck) t is none = (typed_there (Some ending.Stuck) t is).0 refl
-    has_outcome (Some (ending.Trapped kind)) t is none = absurd cc
-    has_outcome (Some (ending.Undefined kind)) t is none = absurd cc
-    has_outcome (Some (ending.Back None)) t is none = absurd cc
-    has_outcome (Some (ending.Back (Some (held.Number v)))) t is none = absurd cc
     has_outcome (Some (ending.Back (Some (held.Pointer to)))) t is
         none = (typed_there (Some (ending.Back (Some (held.Pointer to)))) t is).0 refl
     has_outcome (Some (ending.Back (Some (held.FuncPointer to)))) t is none =
         (typed_there (Some (ending.Back (Some (held.FuncPointer to)))) t is).0 refl
+    has_outcome _ t is none = absurd cc
 
     -- where it came back the objects are typed
     pub typed_behind : (o : Option Ending) (t : LinkedThread) (value : Option Value) → IsThere o t → outcome_in o t.top
         ≡ Some (outcome.Ended value)
         → (trail : Trail) → TypedMachine p (machine_in names trail t)
-    typed_behind None t value is ended trail = absurd cc
-    typed_behind (Some ending.Stuck) t value is ended trail = absurd cc
-    typed_behind (Some (ending.Trapped kind)) t value is ended trail = absurd cc
-    typed_behind (Some (ending.Undefined kind)) t value is ended trail = absurd cc
     typed_behind (Some (ending.Back None)) t value is ended trail =
         (typed_there (Some (ending.Back None)) t is).1 refl (machine_in names trail t) refl
     typed_behind (Some (ending.Back (Some (held.Number v)))) t value is ended trail =
         (typed_there (Some (ending.Back (Some (held.Number v)))) t is).1 refl (machine_in names trail t) refl
-    typed_behind (Some (ending.Back (Some (held.Pointer to)))) t value is ended trail = absurd cc
-    typed_behind (Some (ending.Back (Some (held.FuncPointer to)))) t value is ended trail = absurd cc
+    typed_behind _ t value is ended trail = absurd cc
 
 -- what holds behind an end
 pub if_ended : (o : Outcome) (P : Type 0) → ((value : Option Value) → o ≡ outcome.Ended value → P) → IfEnded o P
@@ -216,14 +207,12 @@ outcome_came p names t pending trail o out to is there = go o is there
     go : (o : Option Ending) → outcome_in o t.top ≡ Some out → to ≡ go_on p pending (step_at names p trail o t)
         → Came p pending (λ trail. machine_in names trail t) trail out to
     go None is there = so outcome.OutOfSteps (state_in names p trail t, there, refl) is
-    go (Some ending.Stuck) is there = absurd cc
     go (Some (ending.Trapped kind)) is there = so (outcome.Trapped kind) there is
     go (Some (ending.Undefined kind)) is there =
         so (outcome.Undefined (record { kind = kind; unit = t.top.unit; item = t.top.item; statement = t.top.at })) there is
     go (Some (ending.Back None)) is there = so (outcome.Ended None) there is
     go (Some (ending.Back (Some (held.Number v)))) is there = so (outcome.Ended (Some v)) there is
-    go (Some (ending.Back (Some (held.Pointer a)))) is there = absurd cc
-    go (Some (ending.Back (Some (held.FuncPointer f)))) is there = absurd cc
+    go _ is there = absurd cc
 
 -- ---- the program that runs lasts
 
@@ -264,10 +253,8 @@ module _ {H : Type 0} (m : HostModule H) (before behind : Engine H) where
   still_started same was = record {
     program = subst TypedProgram (sym program_is) was.program;
     tables = subst HaveUnitTables (sym units_same) was.tables;
-    units_are = subst (λ us. IsLinked (naming_in behind) (program_in m behind) us) (sym units_same)
-        (over_program (λ p. IsLinked (naming_of p.units) p before.startup.units.items) was.units_are);
-    types_are = subst (λ ts. AreFuncTypes (naming_in behind) (program_in m behind) ts) (sym same.types)
-        (over_program (λ p. AreFuncTypes (naming_of p.units) p before.startup.types) was.types_are);
+    units_are = rw units_same (over_program (λ p. IsLinked (naming_of p.units) p before.startup.units.items) was.units_are);
+    types_are = rw same.types (over_program (λ p. AreFuncTypes (naming_of p.units) p before.startup.types) was.types_are);
     symbols_are = subst (λ s. AreSymbols (naming_in behind) (program_in m behind) s.value) (sym same.symbols)
         (over_program (λ p. AreSymbols (naming_of p.units) p before.startup.symbols.value) was.symbols_are);
     not_made = same.not_made ∙ was.not_made;

@@ -1,12 +1,11 @@
 -- Symbols that are put into a list one by one, until one comes a second time.
 use Rattle.crun.proofs.Common.{◌≡◌, ℕ, zero, suc, ◌+◌, ◌<◌, ◌≤◌, Bool, true, false, not, ◌&&◌, ◌||◌, List, [], ◌∷◌, ◌++◌, map, length}
-use Rattle.crun.proofs.Common.{get_or, take, drop, is_some, if◌then◌else◌, slice_get, Some, None, Option, option_map, zip, flat_map}
-use Rattle.crun.proofs.Common.{bytes_eq, sym, refl, ap, ◌∙◌, subst, append_assoc, append-nil, arith, take-append-drop, take_all, length-map}
-use Rattle.crun.proofs.Common.{map-append, slice_get-get_or, slice_get-map, range_with_len, option_or, drop_front, take_next, named}
-use Rattle.crun.proofs.Common.{numbered, Host, are_distinct, c_func_type_of, symbols_of, HostFunc, found_at, function_of, AreKnown}
-use Rattle.crun.proofs.Common.{IsFirstTwice, IsTwiceAt, symbol_in, symbols_of_host, symbols_of_hosts}
+use Rattle.crun.proofs.Common.{get_or, take, drop, is_some, if◌then◌else◌, slice_get, Some, option_map, zip, flat_map, bytes_eq, sym, refl}
+use Rattle.crun.proofs.Common.{ap, ◌∙◌, subst, append_assoc, append-nil, arith, take-append-drop, take_all, length-map, map-append}
+use Rattle.crun.proofs.Common.{slice_get-get_or, slice_get-map, range_with_len, option_or, drop_front, take_next, named, numbered, Host}
+use Rattle.crun.proofs.Common.{are_distinct, c_func_type_of, symbols_of, HostFunc, found_at, function_of, AreKnown, IsFirstTwice, IsTwiceAt}
+use Rattle.crun.proofs.Common.{symbol_in, symbols_of_host, symbols_of_hosts}
 use Rattle.std.proofs.lemmas.Grind.{flat_map-append}
-use Rattle.std.proofs.lemmas.Slice.Eq.{bytes_eq-Decides}
 use Rattle.std.proofs.Math.Bool.{or_comm}
 use Rattle.w2c_base.specs.Run as run
 use Rattle.w2c_mangle.specs.declared.symbol.SymbolKind.TheVariants as symbol
@@ -18,6 +17,8 @@ use Rattle.c_link.specs.Offers.{c_symbol, c_symbols}
 use Rattle.c_link.specs.Resolved.{symbol_names}
 use Rattle.c_hosts.specs.declared.host.HostFunction.{HostFunction}
 use Rattle.c_link.specs.declared.host_symbol.HostSymbol.{HostSymbol}
+use Rattle.w2c_base.proofs.Options.{some_or_if}
+use Rattle.w2c_base.proofs.Tests.{bytes_eq-sym}
 
 -- one name more
 among_push : (q : Name) (names : List Name) (x : Name) → is_among q (names ++ x ∷ []) ≡ (is_among q names || bytes_eq q x)
@@ -29,21 +30,12 @@ among_push q (y ∷ names) x = go (bytes_eq q y) (among_push q names x)
     go true e = refl
     go false e = e
 
-same_both_ways : (x y : Name) → bytes_eq x y ≡ bytes_eq y x
-same_both_ways x y = go (bytes_eq x y) (bytes_eq y x) refl refl
-  where
-    go : (a b : Bool) → bytes_eq x y ≡ a → bytes_eq y x ≡ b → a ≡ b
-    go true true e f = refl
-    go false false e f = refl
-    go true false e f = sym ((bytes_eq-Decides y x).1 (sym ((bytes_eq-Decides x y).0 e))) ∙ f
-    go false true e f = sym e ∙ (bytes_eq-Decides x y).1 (sym ((bytes_eq-Decides y x).0 f))
-
 distinct_push : (names : List Name) (x : Name) → are_distinct names ≡ true → is_among x names ≡ false → are_distinct (names ++ x ∷ [])
     ≡ true
 distinct_push [] x kept none = refl
 distinct_push (y ∷ names) x kept none =
     go (is_among y names) (bytes_eq x y) (are_distinct names) (is_among x names) kept none
-    (among_push y names x ∙ ap (λ b. is_among y names || b) (same_both_ways y x)) (distinct_push names x)
+    (among_push y names x ∙ ap (λ b. is_among y names || b) (bytes_eq-sym y x)) (distinct_push names x)
   where
     go : (a b d m : Bool) → (not a && d) ≡ true → (b || m) ≡ false → is_among y (names ++ x ∷ []) ≡ (a || b)
         → (d ≡ true → m ≡ false → are_distinct (names ++ x ∷ []) ≡ true)
@@ -52,11 +44,6 @@ distinct_push (y ∷ names) x kept none =
     go false true d m kept none is rest = absurd cc
     go false false d m kept none is rest =
         ap (λ b. not b && are_distinct (names ++ x ∷ [])) is ∙ rest kept none
-
-found_some : (a : Option ℕ) (b : Bool) (k : ℕ) → is_some (option_or a (if b then Some k else None)) ≡ (is_some a || b)
-found_some None true k = refl
-found_some None false k = refl
-found_some (Some n) b k = refl
 
 -- a symbol that is not there is put at the end
 pub known_push : (before after : List (Name × ℕ)) (symbols more : List HostSymbol) (s : HostSymbol) (k : ℕ) → AreKnown before symbols
@@ -67,9 +54,9 @@ known_push before after symbols more s k are none entered grown =
     let names : symbol_names more ≡ symbol_names symbols ++ s.symbol ∷ [] =
     ap symbol_names grown ∙ map-append (λ (h : HostSymbol). h.symbol) symbols (s ∷ []) in
     record {
-      known = λ q. ap is_some (entered q) ∙ found_some (named q before) (bytes_eq s.symbol q) k
+      known = λ q. ap is_some (entered q) ∙ some_or_if k (named q before) (bytes_eq s.symbol q)
           ∙ ap (λ b. b || bytes_eq s.symbol q) (are.known q)
-          ∙ ap (λ b. is_among q (symbol_names symbols) || b) (same_both_ways s.symbol q)
+          ∙ ap (λ b. is_among q (symbol_names symbols) || b) (bytes_eq-sym s.symbol q)
           ∙ sym (among_push q (symbol_names symbols) s.symbol) ∙ ap (is_among q) (sym names);
       distinct = ap are_distinct names
           ∙ distinct_push (symbol_names symbols) s.symbol are.distinct (sym (are.known s.symbol) ∙ none);

@@ -233,8 +233,7 @@ module _ {H : Type 0} (m : HostModule H) (old : Engine H) where
           refl next.depth (units_at next) asks (now.left - next.left) calls rest are old.left within u out)
       last_came outcome.OutOfSteps spent never out =
           let none : next.left ≡ 0 = spent refl in
-          let fewer = ran.fewer in
-          let all : (old.left - now.left) + (now.left - next.left) ≡ old.left = omega (arith, fewer, less, none) in
+          let all : (old.left - now.left) + (now.left - next.left) ≡ old.left = omega (arith, ran.fewer, less, none) in
           here outcome.OutOfSteps
           (out_of_steps p now.depth (units_at now) now.hosts.journal (old.left - now.left) (take k init_entries) (Init (k - 1)) so_far
           ran.behind x f
@@ -245,11 +244,10 @@ module _ {H : Type 0} (m : HostModule H) (old : Engine H) where
           → (more : List Ask) × (asks_in (c_run p calls old.left (replies_in next.hosts.journal)).events
           ≡ map ask_of next.hosts.journal ++ more)
       last_part part =
-          let came = subst (λ q. PartIn q f) (same_program m old now ran.same) (subst (PartIn (program_in m now)) address
-          (part (waits rest) [] so_far)) in
+          let came = subst (λ q. PartIn q f) (same_program m old now ran.same)
+          (subst (PartIn (program_in m now)) address (part (waits rest) [] so_far)) in
           let most : came.0 ≤ now.left = came.1 in
-          let fewer = ran.fewer in
-          let enough : (old.left - now.left) + came.0 ≤ old.left = omega (arith, fewer, most) in
+          let enough : (old.left - now.left) + came.0 ≤ old.left = omega (arith, ran.fewer, most) in
           subst (λ j. (more : List Ask) × (asks_in (c_run p calls old.left (replies_in j)).events ≡ map ask_of j ++ more))
           (sym asked.written)
           (still_going p now.depth (units_at now) now.hosts.journal (old.left - now.left) (take k init_entries) (Init (k - 1)) so_far
@@ -270,8 +268,7 @@ module _ {H : Type 0} (m : HostModule H) (old : Engine H) where
 
     pub all_behind : BehindAt p now.depth (units_at now) now.hosts.journal (old.left - now.left) (entries_of p []) (Init (k - 1))
         (events_in now.hosts.journal)
-    all_behind = subst (λ es. BehindAt p now.depth (units_at now) now.hosts.journal (old.left - now.left) es (Init (k - 1))
-        (events_in now.hosts.journal)) entries_are ran.behind
+    all_behind = rw entries_are at ran.behind
 
     pub all_came : IsOutcome (outcome.Ended None) (Init (k - 1)) now.hosts.journal (events_in now.hosts.journal) (units_at now)
         (c_run p [] old.left (replies_in now.hosts.journal))

@@ -1,13 +1,13 @@
 -- A run whose journal was written, and that is replayed, is the same run.
-use Rattle.crun_cli.proofs.Common.{◌≡◌, ℕ, Bool, List, [], ◌∷◌, map, Some, None, Option, MatchOption, sym, refl, ap, ◌∙◌, subst, inl, inr}
-use Rattle.crun_cli.proofs.Common.{get, Host, Contents, Name, extended, holding, SymbolCall, CRun, Stopped, c_run, Stuck, Trapped}
-use Rattle.crun_cli.proofs.Common.{Undefined, lines_of, hosts_of, replies_in, HostModule, Asked, asks_again, hosts_same, none_distinct}
-use Rattle.crun_cli.proofs.Common.{one_read, IsJournal, empty, journal_lines_of, AreReplays, replaying, IsAnsweredRun, run_with, Recorded}
-use Rattle.crun_cli.proofs.Common.{journal_text, ReplayHost, Line, RunLine, line_of, runs, AllRead, AreInputs, Held, IsJournalReading}
-use Rattle.crun_cli.proofs.Common.{JournalReading, LongCalls, LongJournal, LongUnit, NoJournal, NotThere, IsTextsJob, Job, Run, Stops}
-use Rattle.crun_cli.proofs.Common.{Write, Usage, AsksAgain, GainsTheSame, IsTheSame, ReplaysJournal, RunsAgain, By_refusal, By_run, By_unit}
-use Rattle.crun_cli.proofs.Common.{HasAnswer, HasPlayed, IsAnswered, IsJobWith, IsJournaled, IsRun, Ran, WithHosts, HoldsJournal}
-use Rattle.crun_cli.proofs.Common.{IsJobOfTexts, IsLineJob, IsReplayJob, IsRunJob, symbols_of, Outside, HasStatus}
+use Rattle.crun_cli.proofs.Common.{◌≡◌, ℕ, Bool, List, [], ◌∷◌, map, Some, None, Option, MatchOption, sym, refl, ap, ◌∙◌, subst, inl, get}
+use Rattle.crun_cli.proofs.Common.{Host, Contents, Name, extended, holding, SymbolCall, CRun, Stopped, c_run, Stuck, lines_of, hosts_of}
+use Rattle.crun_cli.proofs.Common.{replies_in, HostModule, Asked, asks_again, hosts_same, none_distinct, one_read, IsJournal, empty}
+use Rattle.crun_cli.proofs.Common.{journal_lines_of, AreReplays, replaying, IsAnsweredRun, run_with, Recorded, journal_text, ReplayHost}
+use Rattle.crun_cli.proofs.Common.{Line, RunLine, line_of, runs, AllRead, AreInputs, Held, IsJournalReading, JournalReading, IsTextsJob}
+use Rattle.crun_cli.proofs.Common.{Job, Run, Stops, Write, Usage, AsksAgain, GainsTheSame, IsTheSame, ReplaysJournal, RunsAgain, By_refusal}
+use Rattle.crun_cli.proofs.Common.{By_run, By_unit, HasAnswer, HasPlayed, IsAnswered, IsJobWith, IsJournaled, IsRun, Ran, WithHosts}
+use Rattle.crun_cli.proofs.Common.{HoldsJournal, IsJobOfTexts, IsLineJob, IsReplayJob, IsRunJob, symbols_of, Outside, HasStatus}
+use Rattle.crun_cli.proofs.Common.{LongJournal, NoJournal, inr}
 use Rattle.w2c_io.proofs.Names.{get_here}
 use Rattle.w2c_files.specs.Reading.{AreHeld}
 use Rattle.c_tree.specs.Tree as tree
@@ -20,8 +20,6 @@ same_journal text a b first second = one_read empty a b (journal_lines_of text) 
 
 -- a run has one status
 one_status : (o : Outcome) (a b : ℕ) → HasStatus o a → HasStatus o b → a ≡ b
-one_status (Stopped (Trapped kind)) a b x y = x ∙ sym y
-one_status (Stopped (Undefined kind place)) a b x y = x ∙ sym y
 one_status (Stopped Asks) a b x y = absurd x
 one_status (Stopped Stuck) a b x y = absurd x
 one_status _ a b x y = x ∙ sym y
@@ -66,8 +64,7 @@ module _ {G : Type 0} (n : HostModule G) (gs : List G) (line : RunLine) (units :
   left_text : (m left : Contents) (name : Name) (text : List ℕ) → old.files.told ≡ Some m → new.files.told ≡ Some left
       → line.journal ≡ Some name → get left name ≡ Some text → (text ≡ journal_text journal) × IsJournal text journal
   left_text m left name text told told' named held =
-      let written : IsJournaled (Some name) journal old.files.told new.files.told =
-      subst (λ o. IsJournaled o journal old.files.told new.files.told) named played.written in
+      let written : IsJournaled (Some name) journal old.files.told new.files.told = rw named at played.written in
       let files : Some left ≡ holding (Some m) name (journal_text journal) =
       sym told' ∙ written.0 ∙ ap (λ t. holding t name (journal_text journal)) told in
       let same : get left name ≡ Some (journal_text journal) =
@@ -89,8 +86,7 @@ module _ {G : Type 0} (n : HostModule G) (gs : List G) (line : RunLine) (units :
   module _ (steps : ℕ) (same_steps : steps ≡ line.steps) (replays : List ReplayHost) (are : AreReplays journal replays) (asks : List Asked)
       (second_run : IsAnsweredRun replaying replays units calls steps asks) where
     same_asks : asks ≡ played.run.asks
-    same_asks = asks_again n gs units calls line.steps played.run.asks asks replays first_run are
-        (subst (λ s. IsAnsweredRun replaying replays units calls s asks) same_steps second_run)
+    same_asks = asks_again n gs units calls line.steps played.run.asks asks replays first_run are (rw same_steps at second_run)
 
     same_hosts : hosts_of replaying replays ≡ hosts_of n gs
     same_hosts = hosts_same journal replays are
@@ -125,9 +121,7 @@ found : (line : RunLine) (handed : List Host) (m : Contents) (units : List (List
     (shown : Bool)
     → IsRunJob line handed m (Run units calls steps shown) → Found line handed m (Run units calls steps shown)
 found line handed m units calls steps shown (AllRead texts text, is, of) = record { texts = texts; text = text; read = is; of = of }
-found line handed m units calls steps shown (NotThere file, is, of) = cc
-found line handed m units calls steps shown (LongUnit file, is, of) = cc
-found line handed m units calls steps shown (LongCalls, is, of) = cc
+found line handed m units calls steps shown (_, is, of) = cc
 
 same_held : (m : Contents) (name : Name) (a b : List ℕ) → get m name ≡ Some a → get m name ≡ Some b → a ≡ b
 same_held m name a b x y = cc
@@ -271,9 +265,7 @@ module _ {H : Type 0} (hm : HostModule H) (words' : List Name) (line again : Run
           gained = lines_of (hosts_of n gs) line.shows_state (run_with n gs units calls line.steps played.run.asks);
           first = played.run.lines;
           second = same_gains n gs line units calls old new status played again.steps same.steps replays are p.run.asks
-              (answered_run old' new' other replays p) line.shows_state new'.out.told old'.out.told
-              (subst (λ shown. new'.out.told ≡ extended old'.out.told (lines_of (hosts_of replaying replays) shown
-              (run_with replaying replays units calls again.steps p.run.asks))) same.shows_state p.run.lines);
+              (answered_run old' new' other replays p) line.shows_state new'.out.told old'.out.told (rw same.shows_state at p.run.lines);
         }
 
         journal_again : (old' new' : Outside) (other : ℕ) (to : Name) (replays : List ReplayHost)
@@ -282,10 +274,7 @@ module _ {H : Type 0} (hm : HostModule H) (words' : List Name) (line again : Run
             → new'.files.told ≡ holding old'.files.told to text
         journal_again old' new' other to replays are p named =
             let written : IsJournaled (Some to)
-            (record { hosts = hosts_of replaying replays; entries = p.run.asks }) old'.files.told new'.files.told =
-            subst (λ o. IsJournaled o (record { hosts = hosts_of replaying replays; entries = p.run.asks }) old'.files.told new'.files.told)
-            named
-            p.written in
+            (record { hosts = hosts_of replaying replays; entries = p.run.asks }) old'.files.told new'.files.told = rw named at p.written in
             written.0 ∙ ap (holding old'.files.told to)
             (same_text n gs line units calls old new status played again.steps same.steps replays are p.run.asks
             (answered_run old' new' other replays p) ∙ sym the_text.0)
@@ -309,8 +298,7 @@ module _ {H : Type 0} (hm : HostModule H) (words' : List Name) (line again : Run
       → IsTheSame hm hosts' words' again m' text old new status
   by_hosts_of hosts None of played = is_the_same hm hosts played of
   by_hosts_of hosts (Some name) (reading, is, of) (j, replays, holds, are, played) = is_the_same replaying replays played
-      (subst (λ hs. IsTextsJob line (symbols_of hs) texts calls_text (Run units calls line.steps line.shows_state))
-      (sym (hosts_same j replays are)) (replay_texts name reading j of is holds))
+      (rw (hosts_same j replays are) (replay_texts name reading j of is holds))
 
 module _ {H : Type 0} (hm : HostModule H) (hosts : List H) (words : List Name) where
   pub runs_again : (m left : Contents) (old new : Outside) (status : ℕ) → old.files.told ≡ Some m → new.files.told ≡ Some left
@@ -326,5 +314,4 @@ module _ {H : Type 0} (hm : HostModule H) (hosts : List H) (words : List Name) w
       lines = (let both : ◌≡◌ {A = Option Line} (Some (runs line')) (Some (runs line)) = sym is_line ∙ is in cc)
 
       run_job : IsRunJob line (hosts_of hm hosts) m (Run units calls line.steps line.shows_state)
-      run_job = subst (λ o. MatchOption o (Run units calls line.steps line.shows_state ≡ Stops Usage)
-          (λ l. IsLineJob (hosts_of hm hosts) m l (Run units calls line.steps line.shows_state))) is job
+      run_job = rw is at job

@@ -57,8 +57,7 @@ module _ {H : Type 0} (m : HostModule H) (e : State H) where
     linked = linked ∙ since.linked;
     steps = steps ∙ since.steps;
     hosts = same ∙ since.hosts;
-    answered = subst (λ js. Answered m e.hosts js s'.hosts) (sym asked.written)
-        (answered_append m e.hosts s.hosts s'.hosts s.journal asks since.answered asked.answered);
+    answered = rw asked.written (answered_append m e.hosts s.hosts s'.hosts s.journal asks since.answered asked.answered);
   }
 
   program_same : (s : State H) → IsSince m e s → program_of m s ≡ program_of m e
@@ -217,8 +216,7 @@ module _ {H : Type 0} (m : HostModule H) (e : State H) where
 
       here : (rest : List SymbolCall) → IsLast o rest
           → IsOutcome o (Call (length done)) s'.journal told' (objects_of s') (run_at m e s' (done ++ c ∷ rest))
-      here rest last = subst (IsOutcome o (Call (length done)) s'.journal told' (objects_of s'))
-          (run_is s (done ++ c ∷ rest) s'.journal behind.since) (ran rest last)
+      here rest last = rw (run_is s (done ++ c ∷ rest) s'.journal behind.since) at (ran rest last)
 
       pub call_behind : status_of_outcome o ≡ None → IsStored s' → Stands m s' (done ++ c ∷ []) told' → now ≡ extended before call_text
           → IsBehind m e s' (done ++ c ∷ []) old now
@@ -382,8 +380,7 @@ module _ {H : Type 0} (m : HostModule H) (e : State H) where
           more = [];
           first = asks_are the_run.events s.journal played.asks ∙ sym (append-nil (map ask_of s.journal));
           part = subst (SaysPart old now) (all_lines true)
-              (part_behind old middle now (lines_at m e s calls) (state_lines hosts the_run.units) played.printed
-              (subst (SaysPart middle now) state_is part));
+              (part_behind old middle now (lines_at m e s calls) (state_lines hosts the_run.units) played.printed (rw state_is at part));
         };
         hosts_are = refl;
       }

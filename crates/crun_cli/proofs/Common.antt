@@ -47,12 +47,12 @@ pub use Rattle.host_replay.proofs.Distinct.{symbols_distinct}
 pub use Rattle.host_replay.proofs.Given.{hosts_same}
 pub use Rattle.host_replay.proofs.Verdicts.{none_distinct, one_read, one_refused, read_distinct, read_or_refused}
 pub use Rattle.host_replay.specs.Fitting.{fits}
-pub use Rattle.host_replay.specs.Reading.{IsJournal, IsRefusedAt, empty, lines_of as journal_lines_of, symbol_of}
+pub use Rattle.host_replay.specs.Reading.{IsJournal, empty, lines_of as journal_lines_of, symbol_of}
 pub use Rattle.host_replay.specs.Recording.{recorded}
 pub use Rattle.host_replay.specs.Replayed.{AreReplays, replaying}
 pub use Rattle.host_replay.specs.Runs.{IsAnsweredRun, asked_events, run_with}
 pub use Rattle.host_replay.specs.Texts.{Recorded, journal_text}
-pub use Rattle.host_replay.specs.Writable.{AreDistinct, symbols_of as symbols_of_modules}
+pub use Rattle.host_replay.specs.Writable.{AreDistinct}
 pub use Rattle.host_replay.specs.declared.file.JournalFile.{JournalFile}
 pub use Rattle.host_replay.specs.declared.replay.ReplayHost.{ReplayHost}
 pub use Rattle.crun.specs.Engines.{machine_with, place_of}
@@ -74,7 +74,7 @@ pub use Rattle.crun_job.specs.Job.{IsTextsJob, Job, Run, Stops, Write}
 pub use Rattle.crun_job.specs.Lines.{CallsLine, CallsTooLong, JournalLine, JournalTooLong, Reason, Refused, Unread, Unwritten, Usage}
 pub use Rattle.crun_job.specs.Lines.{WantOfMemory, error_line, status_of}
 pub use Rattle.crun_job.specs.Seen.{call_seen, calls_seen, reason_of, stop_for}
-pub use Rattle.crun_job.specs.Stopping.{StopsTexts, job_of}
+pub use Rattle.crun_job.specs.Stopping.{StopsTexts}
 pub use Rattle.crun_units.proofs.Passing.{by_so, units_so, units_wanting}
 pub use Rattle.crun_units.specs.Files.{AreUntouched, FilesSeen, files_seen}
 pub use Rattle.crun_units.specs.Jobs.{IsBehindUnits, IsMergeJob, IsMerged, IsTrimJob, IsTrimmedText, IsUnitsJob}

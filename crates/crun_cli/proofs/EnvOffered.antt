@@ -11,8 +11,7 @@ env_distinct : Distinct env_host
 env_distinct = refl
 
 env_alone : {H : Type 0} (m : HostModule H) (h : H) → m.name_of h ≡ env_name → m.functions_of h ≡ env_functions → AreOffered m (h ∷ [])
-env_alone m h name functions =
-    subst Distinct (env_seen m h name functions) env_distinct
+env_alone m h name functions = subst Distinct (env_seen m h name functions) env_distinct
 
 -- such a host is pushed onto none
 pub env_pushed : {H : Type 0} (m : HostModule H) (h : H) (before hosts : List H) → before ≡ [] → hosts ≡ before ++ h ∷ []

@@ -1,24 +1,18 @@
 -- README's run of a unit: what two.c spells, what the calls file says, and what its run prints.
-use Rattle.crun_cli.proofs.Common.{◌≡◌, ℕ, ◌+◌, ◌<◌, Bool, true, false, List, [], ◌∷◌, map, length, Some, None, codes, Option, MatchOption}
-use Rattle.crun_cli.proofs.Common.{sym, refl, ap, ◌∙◌, subst, inl, inr, arith, leb-true, get, CallEnded, Host, Reply, Value, I32, Contents}
-use Rattle.crun_cli.proofs.Common.{Name, extended, CSpells, print_of, SymbolCall, CRun, Ended, c_run, lines_of, hosts_of, replies_in}
-use Rattle.crun_cli.proofs.Common.{HostModule, one_reading, Line, RunLine, line_of, runs, AllRead, IsReading, Reading, most_calls_bytes}
-use Rattle.crun_cli.proofs.Common.{most_unit_bytes, most_units_bytes, IsTextsJob, Job, Run, Stops, Write, Usage, Finished, HasPlayed, Ran}
-use Rattle.crun_cli.proofs.Common.{WithHosts, IsJob, IsJobBehind, IsLineJob, IsRunJob, symbols_of, Outside, HasStatus}
+use Rattle.crun_cli.proofs.Common.{◌≡◌, ℕ, ◌+◌, ◌<◌, false, List, [], ◌∷◌, map, length, Some, None, codes, Option, MatchOption, sym, refl}
+use Rattle.crun_cli.proofs.Common.{ap, ◌∙◌, subst, inl, inr, arith, leb-true, get, CallEnded, Host, Reply, Value, I32, Contents, extended}
+use Rattle.crun_cli.proofs.Common.{print_of, SymbolCall, CRun, Ended, c_run, lines_of, hosts_of, replies_in, HostModule, one_reading, Line}
+use Rattle.crun_cli.proofs.Common.{RunLine, line_of, runs, AllRead, IsReading, Reading, most_calls_bytes, most_unit_bytes, most_units_bytes}
+use Rattle.crun_cli.proofs.Common.{IsTextsJob, Job, Run, Stops, Write, Usage, Finished, HasPlayed, Ran, WithHosts, IsJob, IsJobBehind}
+use Rattle.crun_cli.proofs.Common.{IsLineJob, IsRunJob, symbols_of, Outside, HasStatus}
 use Rattle.std.specs.Fmt.{digits}
 use Rattle.std.proofs.lemmas.List.Elements.{All-from_recursion}
 use Rattle.clap.proofs.OnLiterals.{clap_on_literals}
 use Rattle.w2c_base.specs.Run.{Call as InCall}
 use Rattle.w2c_base.specs.Values.{number_of}
-use Rattle.c_tree.specs.declared.tree.CType.{CType}
-use Rattle.c_tree.specs.declared.tree.CType.TheVariants as c_type
-use Rattle.c_tree.specs.declared.tree.Num.TheVariants.{N32}
-use Rattle.c_tree.specs.declared.tree.COp.TheVariants as op
 use Rattle.c_tree.specs.Tree as tree
 use Rattle.c_tree.proofs.OneUnit.{one_unit}
-use Rattle.c_tree.proofs.TestsTell.{unit_tells}
-use Rattle.c_tree.proofs.WellFormedUnits.{formed}
-use Rattle.c_print.proofs.Spells as print
+use Rattle.c_print.proofs.WorkedUnit.{two_spelled_by, two_unit}
 use Rattle.crun_words.specs.CallLine.{Call, IsBytes, SaysCall}
 use Rattle.program_words.specs.Command.{rows_read}
 use Rattle.crun_words.specs.Command.{values_of}
@@ -49,57 +43,14 @@ same_line a b e = cc
 
 -- ---- the unit
 
-abbrev function : Bool → CType → List ℕ → Option tree.Body → tree.Item
-function is_static result name body =
-    tree.Function (record { is_static = is_static; result = result; name = name; params = (c_type.Void, None) ∷ []; body = body })
-
-abbrev n32 : ℕ → tree.Expr
-n32 n = tree.Number (N32 n)
-
-abbrev set : List ℕ → tree.Expr → tree.Stmt
-set name value = tree.Set name (tree.Value value)
-
-abbrev depth : tree.Expr
-depth = tree.Name (codes "w2c_depth")
-
-abbrev slot : tree.Expr
-slot = tree.Name (codes "i0")
-
-abbrev pub two_unit : List tree.Item
-two_unit =
-    function true c_type.U32 (codes "f0") None
-    ∷ function true c_type.U32 (codes "f0") (Some (record {
-      locals = (c_type.U32, codes "i0", N32 0) ∷ (c_type.U32, codes "i1", N32 0) ∷ [];
-      stmts =
-          tree.If op.Lt depth (n32 1024) (codes "L0")
-          ∷ tree.Call None (tree.Called (codes "w2c_trap")) (tree.Value (n32 8) ∷ [])
-          ∷ tree.Return (tree.Value slot)
-          ∷ tree.Label (codes "L0")
-          ∷ set (codes "w2c_depth") (tree.Op op.Add depth (n32 1))
-          ∷ set (codes "i0") (n32 40)
-          ∷ set (codes "i1") (n32 2)
-          ∷ set (codes "i0") (tree.Op op.Add slot (tree.Name (codes "i1")))
-          ∷ set (codes "w2c_depth") (tree.Op op.Sub depth (n32 1))
-          ∷ tree.Return (tree.Value slot)
-          ∷ [];
-    }))
-    ∷ function false c_type.U32 (codes "w2cZ_twoZ_fZ_f") (Some (record {
-      locals = (c_type.U32, codes "r", N32 0) ∷ [];
-      stmts = tree.Call (Some (codes "r")) (tree.Called (codes "f0")) [] ∷ tree.Return (tree.Value (tree.Name (codes "r"))) ∷ [];
-    }))
-    ∷ function false c_type.Void (codes "w2cZ_twoZ_i") (Some (record { locals = []; stmts = tree.Null ∷ tree.ReturnNone ∷ [] }))
-    ∷ []
-
 two_printed : print_of two_unit ≡ two_c
 unfolding digits
 two_printed = refl
 
-two_spells : CSpells two_unit two_c
-two_spells = subst (CSpells two_unit) two_printed (print.spells two_unit (formed two_unit (unit_tells two_unit refl)))
-
 units_are : (units : List (List tree.Item)) → AreEach IsUnitText (two_c ∷ []) units → units ≡ two_unit ∷ []
 units_are [] are = absurd are
-units_are (unit ∷ []) ((spelled, keeps), others) = ap (λ (u : List tree.Item). u ∷ []) (one_unit unit two_unit two_c spelled two_spells)
+units_are (unit ∷ []) ((spelled, keeps), others) =
+    ap (λ (u : List tree.Item). u ∷ []) (one_unit unit two_unit two_c spelled (two_spelled_by two_c two_printed))
 units_are (unit ∷ other ∷ units) (is, others) = absurd others
 
 -- ---- the call
@@ -222,8 +173,7 @@ module _ {H : Type 0} (m : HostModule H) (hosts : List H) (contents : Contents)
       let units_same = units_are units texts.0.0 in
       let calls_same = calls_are units calls texts.1 in
       printed old new status (subst (λ (l : RunLine). Of old new status l (two_unit ∷ []) (two_call ∷ [])) line_same
-      (subst (λ (us : List (List tree.Item)). Of old new status line us (two_call ∷ [])) units_same
-      (subst (λ (cs : List SymbolCall). Of old new status line units cs) calls_same played)))
+      (subst (λ (us : List (List tree.Item)). Of old new status line us (two_call ∷ [])) units_same (rw calls_same at played)))
 
   pub two_finished : (old new : Outside) (status : ℕ) → Finished m hosts two_words contents old new status → IsPrinted old new status
   two_finished old new status (inl ran) = by_run old new status ran

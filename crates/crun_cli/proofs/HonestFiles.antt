@@ -1,18 +1,18 @@
 -- Over files that behave as files what passed says what a call comes to over what they hold.
-use Rattle.crun_cli.proofs.Common.{◌≡◌, ℕ, ◌≤◌, Bool, true, false, ◌&&◌, ◌⊎◌, List, [], ◌∷◌, ◌++◌, length, if◌then◌else◌, Some, None}
+use Rattle.crun_cli.proofs.Common.{if◌then◌else◌, ◌≡◌, ℕ, ◌≤◌, Bool, true, false, ◌&&◌, ◌⊎◌, List, [], ◌∷◌, ◌++◌, length, Some, None}
 use Rattle.crun_cli.proofs.Common.{Option, MatchOption, option_and_then, sym, refl, ap, ◌∙◌, subst, inl, inr, append-nil, arith, Host}
 use Rattle.crun_cli.proofs.Common.{Contents, Name, Told, holding, BreaksOff, WritesFile, Tells, WriteAnswer, first_in_order, FailsLast}
 use Rattle.crun_cli.proofs.Common.{ReadsInOrder, limited, IsBegun, print_of, SymbolCall, hosts_of, HostModule, Recorded, journal_text, Line}
 use Rattle.crun_cli.proofs.Common.{MergeLine, RunLine, TrimLine, line_of, merges, runs, trims, AllRead, Held, IsJournalReading, IsReading}
-use Rattle.crun_cli.proofs.Common.{IsUnitsReading, JournalReading, LongCalls, LongJournal, LongUnit, NoJournal, NoUnit, NotThere, Reading}
-use Rattle.crun_cli.proofs.Common.{UnitTooLong, UnitsRead, UnitsReading, most_unit_bytes, GivesJournal, IsTextsJob, Job, Run, Stops, Write}
-use Rattle.crun_cli.proofs.Common.{Reason, Unread, Unwritten, Usage, WantOfMemory, error_line, status_of, IsBehindUnits, IsMerged}
-use Rattle.crun_cli.proofs.Common.{IsTrimmedText, IsUnitsJob, IsUnitsJobOver, PassesUnits, WritesOutput, reason_for, RunsAgain, Begun}
-use Rattle.crun_cli.proofs.Common.{BegunIfAny, By_refusal, Finished, HasPlayed, HasPlayedPart, IsAnswered, IsJobWith, IsJournaled, IsKept}
-use Rattle.crun_cli.proofs.Common.{IsRunStatus, WithHosts, WithHostsBy, journal_of, IsToWrite, IsJob, IsJobBy, IsLineJob, IsReplayJob}
-use Rattle.crun_cli.proofs.Common.{IsRunJob, symbols_of, IsUntouched, Outside, BreaksJournal, IsReadLast, IsRunJobOver, PassesFor}
-use Rattle.crun_cli.proofs.Common.{PassesLine, PassesRun, ReadsMore, StopsFor, StopsQuietly, WritesJournal, WritesOfRun, WritesRun}
-use Rattle.crun_cli.proofs.Common.{run_reads, HasPart, HasRun}
+use Rattle.crun_cli.proofs.Common.{IsUnitsReading, JournalReading, LongJournal, NoJournal, NoUnit, NotThere, Reading, UnitTooLong}
+use Rattle.crun_cli.proofs.Common.{UnitsRead, UnitsReading, most_unit_bytes, GivesJournal, IsTextsJob, Job, Run, Stops, Write, Reason}
+use Rattle.crun_cli.proofs.Common.{Unread, Unwritten, Usage, WantOfMemory, error_line, status_of, IsBehindUnits, IsMerged, IsTrimmedText}
+use Rattle.crun_cli.proofs.Common.{IsUnitsJob, IsUnitsJobOver, PassesUnits, WritesOutput, reason_for, RunsAgain, Begun, BegunIfAny}
+use Rattle.crun_cli.proofs.Common.{By_refusal, Finished, HasPlayed, HasPlayedPart, IsAnswered, IsJobWith, IsJournaled, IsKept, IsRunStatus}
+use Rattle.crun_cli.proofs.Common.{WithHosts, WithHostsBy, journal_of, IsToWrite, IsJob, IsJobBy, IsLineJob, IsReplayJob, IsRunJob}
+use Rattle.crun_cli.proofs.Common.{symbols_of, IsUntouched, Outside, BreaksJournal, IsReadLast, IsRunJobOver, PassesFor, PassesLine}
+use Rattle.crun_cli.proofs.Common.{PassesRun, ReadsMore, StopsFor, StopsQuietly, WritesJournal, WritesOfRun, WritesRun, run_reads, HasPart}
+use Rattle.crun_cli.proofs.Common.{HasRun}
 use Rattle.w2c_io.specs.Events.{Event}
 use Rattle.w2c_io.specs.Honest.{AreHonest}
 use Rattle.w2c_io.specs.declared.answers.WriteAnswer.TheVariants as answer
@@ -62,8 +62,7 @@ few_and false units is = absurd cc
 few_run : (steps : Option ℕ) (calls : Option Name) (v : Values) (line : Line) → run_with steps calls v ≡ Some line → HasFew line
 few_run (Some steps) (Some calls) v line is =
     let found = by_if (are_units v.units) _ line is in subst HasFew found.1 (few_units v.units found.0)
-few_run (Some steps) None v line is = absurd cc
-few_run None calls v line is = absurd cc
+few_run _ _ v line is = absurd cc
 
 few_merge : (output : Name) (v : Values) (line : Line) → line_of_merge output v ≡ Some line → HasFew line
 few_merge output v line is =
@@ -132,8 +131,7 @@ module _ (m : Contents) (line : RunLine) (handed : List Host) where
   run_job_honest : length line.units ≤ 16 → (given : List Event) (job : Job) (current : Option Name) (new : Told) (after : Option Name)
       → AreHonest given (Some m) current new after → IsRunJobOver line handed given job → IsRunJob line handed m job ⊎ Unreads job given
   run_job_honest few given job current new after honest (r, first, last, split, gives, more, of) =
-      let both = honest_both first last (Some m) new current after
-      (subst (λ (l : List Event). AreHonest l (Some m) current new after) split honest) in
+      let both = honest_both first last (Some m) new current after (rw split at honest) in
       let found = inputs_honest m line.units few current both.0 both.1 line.calls r first gives both.2 in
       go r more of found.0
       (by_behind r last job both.1 new after (subst (λ (t : Told). AreHonest last t both.1 new after) found.1 both.3) of)
@@ -175,11 +173,8 @@ run_steps m line handed units calls steps shown (AllRead texts text, is, of) = b
     by None of = (of.2, of.3)
     by (Some name) (Held journal, is, inl (j, is_journal, of)) = (of.2, of.3)
     by (Some name) (Held journal, is, inr (k, refused, of)) = absurd cc
-    by (Some name) (NoJournal, is, of) = absurd cc
-    by (Some name) (LongJournal, is, of) = absurd cc
-run_steps m line handed units calls steps shown (NotThere file, is, of) = absurd cc
-run_steps m line handed units calls steps shown (LongUnit file, is, of) = absurd cc
-run_steps m line handed units calls steps shown (LongCalls, is, of) = absurd cc
+    by (Some name) (_, is, of) = absurd cc
+run_steps m line handed units calls steps shown (_, is, of) = absurd cc
 
 -- ---- no words ask for a line that is not written
 
@@ -192,17 +187,13 @@ module _ (handed : List Host) (m : Contents) where
       by None of = of
       by (Some name) (Held journal, is, inl (j, is_journal, of)) = of
       by (Some name) (Held journal, is, inr (k, refused, of)) = absurd cc
-      by (Some name) (NoJournal, is, of) = absurd cc
-      by (Some name) (LongJournal, is, of) = absurd cc
-  run_is_no_fault line (NotThere file, is, of) = absurd cc
-  run_is_no_fault line (LongUnit file, is, of) = absurd cc
-  run_is_no_fault line (LongCalls, is, of) = absurd cc
+      by (Some name) (_, is, of) = absurd cc
+  run_is_no_fault line (_, is, of) = absurd cc
 
   units_are_no_fault : (units : List Name) (IsOf : List (List ℕ) → Job → Type 0)
       → ((texts : List (List ℕ)) → IsOf texts (Stops Unwritten) → ⊥) → IsUnitsJob m units IsOf (Stops Unwritten) → ⊥
   units_are_no_fault units IsOf none (UnitsRead texts, is, of) = none texts of
-  units_are_no_fault units IsOf none (NoUnit file, is, of) = absurd cc
-  units_are_no_fault units IsOf none (UnitTooLong file, is, of) = absurd cc
+  units_are_no_fault units IsOf none (_, is, of) = absurd cc
 
   merge_is_no_fault : (line : MergeLine) (texts : List (List ℕ)) → IsMerged line (symbols_of handed) texts (Stops Unwritten) → ⊥
   merge_is_no_fault line texts (inl (units, linked, is)) = absurd cc
@@ -287,8 +278,7 @@ module _ {H : Type 0} (hm : HostModule H) (hosts : List H) (words : List Name) (
         record { files = record { told = kept.0 ∙ same.0; current = kept.1 ∙ same.1 }; lines = quiet }
 
     none_written : written ≡ [] → new.files.told ≡ old.files.told
-    none_written none =
-        (subst (λ (l : List Event). AreHonest l middle current new.files.told new.files.current) none honest).0 ∙ same.0
+    none_written none = (rw none at honest).0 ∙ same.0
 
     file_written : (name : Name) (text : List ℕ) → WritesFile name text written → new.files.told ≡ holding old.files.told name text
     file_written name text writes =
@@ -394,8 +384,7 @@ module _ {H : Type 0} (hm : HostModule H) (hosts : List H) (words : List Name) (
           )
       plays (inr (part, none, stopped)) = inr (
         inl (
-          subst (λ b. HasPart n gs units calls line.steps b old.out.told new.out.told) shown_is
-              (subst (λ k. HasPart n gs units calls k shown old.out.told new.out.told) steps_are part),
+          subst (λ b. HasPart n gs units calls line.steps b old.out.told new.out.told) shown_is (rw steps_are at part),
           none_written none,
         ),
         stopped,
@@ -409,12 +398,10 @@ module _ {H : Type 0} (hm : HostModule H) (hosts : List H) (words : List Name) (
   with_honest None files given current middle after reads honest P Q so of = so _ hm hosts of
   with_honest (Some name) files given current middle after reads honest P Q so
       (j, replays, (text, (first, last, split, gives), is_journal), are, of) =
-      let both = honest_both first last (Some m) middle current after
-      (subst (λ (l : List Event). AreHonest l (Some m) current middle after) split honest) in
+      let both = honest_both first last (Some m) middle current after (rw split at honest) in
       let kept = in_order_keep files first (Some m) both.0 current both.1
       (first_in_order files first last (subst (ReadsInOrder files) split reads)) both.2 in
-      let held = journal_held m name text last both.1 middle after gives
-      (subst (λ (t : Told). AreHonest last t both.1 middle after) kept.0 both.3) in
+      let held = journal_held m name text last both.1 middle after gives (rw kept.0 at both.3) in
       (j, replays, (text, held, is_journal), are, so _ _ replays of)
 
   run_comes : (line : RunLine) → line_of words ≡ Some (runs line) → (given written : List Event) (current name : Option Name)
@@ -431,9 +418,7 @@ module _ {H : Type 0} (hm : HostModule H) (hosts : List H) (words : List Name) (
       let A : (G : Type 0) → HostModule G → List G → Type 0 = λ G n gs. HasPlayed n gs line units calls old new status in
       let B : (G : Type 0) → HostModule G → List G → Type 0 = λ G n gs. HasPlayedPart n gs line units calls old new in
       let asks : IsJobWith hm hosts words m (Run units calls line.steps line.shows_state) =
-      there (runs line) is (Run units calls line.steps line.shows_state)
-      (subst (λ b. IsRunJob line (hosts_of hm hosts) m (Run units calls line.steps b)) are.1
-      (subst (λ k. IsRunJob line (hosts_of hm hosts) m (Run units calls k shown)) are.0 job)) in
+      there (runs line) is (Run units calls line.steps line.shows_state) (rw (are.0, are.1) at job) in
       by asks (split_with hm hosts m line.replayed A B (IsRunStatus status)
       (StopsFor status Said Unwritten ⊎ StopsFor status Said WantOfMemory)
       (with_honest line.replayed (run_reads line) given current middle name reads honest P
@@ -455,8 +440,7 @@ module _ {H : Type 0} (hm : HostModule H) (hosts : List H) (words : List Name) (
       → events ≡ given ++ written → (job : Job) → Unreads job given
       → WritesOfRun hm hosts line old.out.told new.out.told (λ s. status ≡ s) (StopsFor status Said) given job written → Comes
   run_fails line given written name middle same behind split job (file, is, last) writes =
-      let of = subst (λ (j : Job). WritesOfRun hm hosts line old.out.told new.out.told (λ s. status ≡ s) (StopsFor status Said) given j
-      written) is writes in
+      let of = rw is at writes in
       fails file (fails_first file given written events split of.0 last) (untouched middle name same written behind of.0 of.1.0) of.1.1
 
   pub comes : AreHonest events old.files.told old.files.current new.files.told new.files.current
@@ -548,8 +532,7 @@ module _ {H : Type 0} (hm : HostModule H) (hosts : List H) (words : List Name) (
           → ((texts : List (List ℕ)) → IsOf texts (Write output unit) → output ≡ written)
           → IsUnitsJob m units IsOf (Write output unit) → output ≡ written
       of_units units IsOf written found (UnitsRead texts, is, of) = found texts of
-      of_units units IsOf written found (NoUnit file, is, of) = absurd cc
-      of_units units IsOf written found (UnitTooLong file, is, of) = absurd cc
+      of_units units IsOf written found (_, is, of) = absurd cc
 
       merged_to : (line : MergeLine) (texts : List (List ℕ)) → IsMerged line (symbols_of (hosts_of hm hosts)) texts (Write output unit)
           → output ≡ line.output

@@ -1,11 +1,12 @@
 -- Hosts whose symbols differ have none that comes twice.
-use Rattle.crun_cli.proofs.Common.{◌≡◌, ℕ, zero, suc, Bool, true, false, not, ◌&&◌, ◌||◌, List, [], ◌∷◌, ◌++◌, take, drop, slice_get, Some}
-use Rattle.crun_cli.proofs.Common.{bytes_eq, sym, refl, ap, ◌∙◌, append_assoc, map-append, Host, are_distinct, symbol_names, HostSymbol}
-use Rattle.crun_cli.proofs.Common.{IsTwiceAt, symbols_of_host, symbols_of_hosts}
+use Rattle.crun_cli.proofs.Common.{◌≡◌, ℕ, suc, Bool, true, false, not, ◌&&◌, ◌||◌, List, [], ◌∷◌, ◌++◌, take, drop, bytes_eq, sym, refl}
+use Rattle.crun_cli.proofs.Common.{ap, ◌∙◌, append_assoc, map-append, Host, are_distinct, symbol_names, HostSymbol, IsTwiceAt}
+use Rattle.crun_cli.proofs.Common.{symbols_of_host, symbols_of_hosts}
 use Rattle.std.proofs.lemmas.Grind.{flat_map-append}
 use Rattle.std.proofs.lemmas.Slice.Eq.{bytes_eq-Decides}
 use Rattle.std.proofs.Math.Bool.{or-true}
 use Rattle.w2c_base.proofs.Conjunctions.{right_holds}
+use Rattle.w2c_base.proofs.Places.{around}
 use Rattle.c_tree.specs.Scope.{Name, is_among}
 use Rattle.name_table.proofs.Lookups.{among-append}
 
@@ -30,11 +31,6 @@ twice_apart (x ∷ front) behind again there distinct =
         ap (λ b. b || is_among x behind) ((bytes_eq-Decides x again).1 (sym same)) in
         found (among-append x front (again ∷ behind) ∙ ap (λ b. is_among x front || b) here ∙ or-true (is_among x front))
 
-hosts_split : (hosts : List Host) (k : ℕ) (h : Host) → slice_get hosts k ≡ Some h → hosts ≡ take k hosts ++ h ∷ drop (suc k) hosts
-hosts_split [] k h at = absurd cc
-hosts_split (x ∷ hosts) zero h at = (let same : x ≡ h = cc in ap (λ y. y ∷ hosts) same)
-hosts_split (x ∷ hosts) (suc k) h at = ap (λ l. x ∷ l) (hosts_split hosts k h at)
-
 pub none_twice : (hosts : List Host) (k : ℕ) → are_distinct (symbol_names (symbols_of_hosts hosts)) ≡ true → IsTwiceAt hosts k → ⊥
 none_twice hosts k distinct twice =
     twice_apart (symbol_names (before ++ twice.first.front)) (symbol_names (twice.first.behind ++ rest)) twice.first.again.symbol
@@ -48,7 +44,7 @@ none_twice hosts k distinct twice =
 
     symbols_are : symbols_of_hosts hosts ≡ (before ++ twice.first.front) ++ twice.first.again ∷ (twice.first.behind ++ rest)
     symbols_are =
-        ap symbols_of_hosts (hosts_split hosts k twice.host twice.at)
+        ap symbols_of_hosts (around hosts k twice.host twice.at)
         ∙ flat_map-append symbols_of_host (take k hosts) (twice.host ∷ drop (suc k) hosts)
         ∙ ap (λ l. before ++ (l ++ rest)) twice.first.is
         ∙ ap (λ l. before ++ l) (append_assoc twice.first.front (twice.first.again ∷ twice.first.behind) rest)

@@ -64,41 +64,45 @@ module _ {H : Type 0} (m : HostModule H) (hosts : List H) where
     texts_stopped WantOfMemory stop stopped = inl (refl, stopped)
     texts_stopped _ stop stopped = absurd stop
 
-    module _ (units : List (List tree.Item)) (calls : List SymbolCall) (steps : ℕ) (shown : Bool)
-        (job : IsTextsJob line (symbols_of (hosts_of m hosts)) texts text (Run units calls steps shown)) where
+    -- the task was made for hosts that are these
+    module _ (units : List (List tree.Item)) (calls : List SymbolCall) (steps : ℕ) (shown : Bool) (made : List H) (same : made ≡ hosts)
+        (given : IsTextsJob line (symbols_of (hosts_of m made)) texts text (Run units calls steps shown)) where
+      of_task : (written : List Event) → WritesOfTextsJob m hosts line old new Ends Stopped (Run units calls steps shown) written
+          → Writes written
+      of_task written writes = inr (
+        Run units calls steps shown,
+        subst (λ hs. IsTextsJob line (symbols_of (hosts_of m hs)) texts text (Run units calls steps shown)) same given,
+        writes,
+      )
+
       -- a part of its lines is written
       pub run_left : HasPart m hosts units calls steps shown old new → Stopped Unwritten ⊎ Stopped WantOfMemory → Writes []
-      run_left part stopped = inr (Run units calls steps shown, job, inr (part, refl, stopped))
+      run_left part stopped = of_task [] (inr (part, refl, stopped))
 
       module _ (status : ℕ) (file filled : Option JournalFile)
           (ran : HasRecorded m hosts units calls steps shown old new status file filled)
-          (blank : IsBlankFor m hosts line.journal file) where
+          (begun : List H) (begun_same : begun ≡ hosts) (begun_blank : IsBlankFor m begun line.journal file) where
+        blank : IsBlankFor m hosts line.journal file
+        blank = subst (λ hs. IsBlankFor m hs line.journal file) begun_same begun_blank
+
         pub run_written : (before after : Told) (written : List Event) → AreDistinct (hosts_of m hosts)
             → IsWritten line.journal filled before after → PutsJournal line.journal filled written → Ends status → Writes written
-        run_written before after written distinct holds puts ends = inr (
-          Run units calls steps shown,
-          job,
-          inl (record {
-            status = status;
-            run = ran.run;
-            ends = inl (
-              journal_whole line.journal file filled ran.run.asks before after written distinct blank ran.filled_is holds puts,
-              ends,
-            );
-          }),
-        )
+        run_written before after written distinct holds puts ends = of_task written (inl (record {
+          status = status;
+          run = ran.run;
+          ends = inl (
+            journal_whole line.journal file filled ran.run.asks before after written distinct blank ran.filled_is holds puts,
+            ends,
+          );
+        }))
 
         pub run_broken : (why : WriteAnswer) (written : List Event) → PutsJournalPart line.journal filled why written
             → Stopped (reason_for why) → Writes written
-        run_broken why written part stopped = inr (
-          Run units calls steps shown,
-          job,
-          inl (record {
-            status = status;
-            run = ran.run;
-            ends = inr (why, journal_broken line.journal file filled ran.run.asks why written blank ran.filled_is part, stopped);
-          }),
-        )
+        run_broken why written part stopped = of_task written (inl (record {
+          status = status;
+          run = ran.run;
+          ends = inr (why, journal_broken line.journal file filled ran.run.asks why written blank ran.filled_is part, stopped);
+        }))
 
 -- ---- a run
 
@@ -165,9 +169,7 @@ module _ {H : Type 0} (m : HostModule H) (hosts : List H) (line : RunLine) (old 
       where
         behind : (job : Job) → WritesOfTextsJob m hosts line old new Ends Stopped job last
             → WritesOfRun m hosts line old new Ends Stopped first job last
-        behind (Run units calls steps shown) of =
-            subst (λ o. WithHostsBy m hosts o (IsReadLast first)
-            (λ G n gs. WritesRun n gs line.journal units calls steps shown old new Ends Stopped last)) (sym none) of
+        behind (Run units calls steps shown) of = rw none of
         behind _ of = of
 
         go : WritesOfTexts m hosts line texts text old new Ends Stopped last
@@ -183,8 +185,7 @@ module _ {H : Type 0} (m : HostModule H) (hosts : List H) (line : RunLine) (old 
             sym (append-nil first),
             gave,
             no_more line.replayed (AllRead texts text),
-            subst (λ o. MatchOption o (IsTextsJob line (symbols_of (hosts_of m hosts)) texts text job)
-                (λ name. (r : JournalReading) × GivesJournal name r [] × IsReplayJob line name texts text r job)) (sym none) is,
+            rw none is,
           ),
           behind job of,
         )
@@ -277,8 +278,7 @@ pub replayed_both : {H : Type 0} (m : HostModule H) (hosts : List H) (line : Run
     → WritesOfTexts replaying replays line texts text old new Ends Stopped last
     → PassesRun m hosts line old new Ends Stopped (given ++ last)
 replayed_both m hosts line old new Ends Stopped texts text name named replays given last (first, middle, is, gave, replay) writes =
-    subst (λ (e : List Event). PassesRun m hosts line old new Ends Stopped (e ++ last)) (sym is)
-    (replayed_passed m hosts line old new Ends Stopped texts text first gave name named middle replays replay last writes)
+    rw is (replayed_passed m hosts line old new Ends Stopped texts text first gave name named middle replays replay last writes)
 
 -- ---- what words ask for
 

@@ -1,14 +1,11 @@
 -- A run whose journal is written: from what its steps say to what the line asks for.
-use Rattle.crun_cli.proofs.Common.{◌≡◌, ℕ, Bool, ◌⊎◌, List, [], ◌∷◌, ◌++◌, map, Some, None, Option, sym, refl, ap, ◌∙◌, subst, inl, inr}
-use Rattle.crun_cli.proofs.Common.{map-append, Host, HostFunction, Name, Told, holding, IsBegun, are_distinct, SymbolCall, Ended}
-use Rattle.crun_cli.proofs.Common.{OutOfSteps, Stopped, Stuck, Trapped, Undefined, symbol_names, HostSymbol, hosts_of, HostModule, Asked}
-use Rattle.crun_cli.proofs.Common.{symbols_distinct, symbol_of, recorded, Recorded, journal_text, AreDistinct, symbols_of_modules}
-use Rattle.crun_cli.proofs.Common.{JournalFile, symbol_in, symbols_of_host, symbols_of_hosts, RunLine, IsTextsJob, Run, CallsLine, Reason}
-use Rattle.crun_cli.proofs.Common.{Refused, WantOfMemory, StopsTexts, AreOffered, HasPlayed, HasPlayedPart, IsJournaled, IsRunStatus}
+use Rattle.crun_cli.proofs.Common.{◌≡◌, ℕ, Bool, ◌⊎◌, List, [], ◌∷◌, ◌++◌, Some, None, Option, refl, ◌∙◌, subst, inl, inr, Name, Told}
+use Rattle.crun_cli.proofs.Common.{holding, IsBegun, SymbolCall, Ended, OutOfSteps, Stopped, Trapped, Undefined, hosts_of, HostModule}
+use Rattle.crun_cli.proofs.Common.{Asked, recorded, Recorded, journal_text, AreDistinct, JournalFile, RunLine, IsTextsJob, Run, CallsLine}
+use Rattle.crun_cli.proofs.Common.{Reason, Refused, WantOfMemory, StopsTexts, HasPlayed, HasPlayedPart, IsJournaled, IsRunStatus}
 use Rattle.crun_cli.proofs.Common.{journal_of, symbols_of, IsUntouched, Outside, HasRecorded, IsBlank, IsBlankFor, IsFilled, IsNamed}
 use Rattle.crun_cli.proofs.Common.{IsText, IsWritten, IsWrittenPart, HasPart, HasRun, HasStatus, IsTextsPart, IsTextsRun, StopsRun}
 use Rattle.c_tree.specs.Tree as tree
-use Rattle.c_meaning.specs.State.{Asks}
 use Rattle.c_meaning.specs.Run.{Outcome}
 
 -- ---- the status
@@ -18,8 +15,7 @@ status_of_run Ended status is = inl is
 status_of_run OutOfSteps status is = inr (inr (inl is))
 status_of_run (Stopped (Trapped kind)) status is = inr (inl is)
 status_of_run (Stopped (Undefined kind place)) status is = inr (inr (inr is))
-status_of_run (Stopped Asks) status is = absurd is
-status_of_run (Stopped Stuck) status is = absurd is
+status_of_run _ status is = absurd is
 
 pub ran_status : {H : Type 0} (m : HostModule H) (hosts : List H) (units : List (List tree.Item)) (calls : List SymbolCall) (steps : ℕ)
     (shown : Bool) (old new : Option (List ℕ)) (status : ℕ) → HasRun m hosts units calls steps shown old new status → IsRunStatus status
@@ -29,17 +25,15 @@ ran_status m hosts units calls steps shown old new status ran = status_of_run _ 
 
 module _ {H : Type 0} (m : HostModule H) (hosts : List H) where
   pub is_blank : (name : Option Name) (file : Option JournalFile) → IsBlankFor m hosts name file → IsBlank m hosts file
-  is_blank None None blank = tt
   is_blank None (Some file) blank = absurd cc
-  is_blank (Some name) None blank = tt
   is_blank (Some name) (Some file) blank = blank
+  is_blank _ _ blank = tt
 
   pub is_named : (name : Option Name) (file filled : Option JournalFile) (asks : List Asked) → IsBlankFor m hosts name file
       → IsFilled m hosts asks file filled → IsNamed name filled
-  is_named None file filled asks blank is = tt
   is_named (Some name) None filled asks blank is = absurd blank
   is_named (Some name) (Some file) None asks blank is = absurd is
-  is_named (Some name) (Some file) (Some filled) asks blank is = tt
+  is_named _ _ _ asks blank is = tt
 
   is_journaled : (name : Option Name) (file filled : Option JournalFile) (asks : List Asked) (old new : Told)
       → AreDistinct (hosts_of m hosts) → IsBlankFor m hosts name file → IsFilled m hosts asks file filled → IsWritten name filled old new
@@ -70,10 +64,9 @@ module _ {H : Type 0} (m : HostModule H) (hosts : List H) where
 -- no file changes but the one that is named
 pub kept_part : (name : Option Name) (file : Option JournalFile) (old new : Told) → IsWrittenPart name file old new
     → (new ≡ old) ⊎ ((other : Name) × (text : List ℕ) × (name ≡ Some other) × (new ≡ holding old other text))
-kept_part None file old new part = absurd part
-kept_part (Some name) None old new part = absurd part
 kept_part (Some name) (Some file) old new (inl same) = inl same
 kept_part (Some name) (Some file) old new (inr (text, prefix, is)) = inr (name, text, refl, is)
+kept_part _ _ old new part = absurd part
 
 pub kept_whole : (name : Option Name) (file : Option JournalFile) (old new : Told) → IsWritten name file old new
     → (new ≡ old) ⊎ ((other : Name) × (text : List ℕ) × (name ≡ Some other) × (new ≡ holding old other text))
@@ -81,28 +74,15 @@ kept_whole None file old new same = inl same
 kept_whole (Some name) None old new is = absurd is
 kept_whole (Some name) (Some file) old new (is, text) = inr (name, journal_text (recorded file), refl, is)
 
--- ---- symbols
-
-own_symbols : (h : Host) (functions : List HostFunction) → symbol_names (map (symbol_in h.name) functions) ≡ map (symbol_of h) functions
-own_symbols h [] = refl
-own_symbols h (f ∷ functions) = ap (λ l. symbol_of h f ∷ l) (own_symbols h functions)
-
-symbols_are : (hosts : List Host) → symbol_names (symbols_of_hosts hosts) ≡ symbols_of_modules hosts
-symbols_are [] = refl
-symbols_are (h ∷ hosts) =
-    map-append (λ (s : HostSymbol). s.symbol) (symbols_of_host h) (symbols_of_hosts hosts)
-    ∙ (λ i. own_symbols h h.functions i ++ symbols_are hosts i)
-
--- where no symbol comes twice, each belongs to one function
-pub offered_distinct : {H : Type 0} (m : HostModule H) (hosts : List H) → AreOffered m hosts → AreDistinct (hosts_of m hosts)
-offered_distinct m hosts offered =
-    symbols_distinct (hosts_of m hosts) (ap are_distinct (sym (symbols_are (hosts_of m hosts))) ∙ offered)
-
 -- ---- the run that the texts come to
 
 module _ {H : Type 0} (m : HostModule H) (hosts : List H) (line : RunLine) (texts : List (List ℕ)) (text : List ℕ) (old new : Outside) where
-  module _ (units : List (List tree.Item)) (calls : List SymbolCall) (steps : ℕ) (shown : Bool)
-      (job : IsTextsJob line (symbols_of (hosts_of m hosts)) texts text (Run units calls steps shown)) where
+  -- the task was made for hosts that are these
+  module _ (units : List (List tree.Item)) (calls : List SymbolCall) (steps : ℕ) (shown : Bool) (made : List H) (same : made ≡ hosts)
+      (given : IsTextsJob line (symbols_of (hosts_of m made)) texts text (Run units calls steps shown)) where
+    job : IsTextsJob line (symbols_of (hosts_of m hosts)) texts text (Run units calls steps shown)
+    job = subst (λ hs. IsTextsJob line (symbols_of (hosts_of m hs)) texts text (Run units calls steps shown)) same given
+
     -- with the line's number of statements, and the state where the line shows it
     of_line : (P : ℕ → Bool → Type 0) → P steps shown → P line.steps line.shows_state
     of_line P of = subst (P line.steps) job.3 (subst (λ n. P n shown) job.2 of)
@@ -117,7 +97,10 @@ module _ {H : Type 0} (m : HostModule H) (hosts : List H) (line : RunLine) (text
 
     module _ (status : ℕ) (file filled : Option JournalFile)
         (ran : HasRecorded m hosts units calls steps shown old.out.told new.out.told status file filled)
-        (blank : IsBlankFor m hosts line.journal file) where
+        (begun : List H) (begun_same : begun ≡ hosts) (begun_blank : IsBlankFor m begun line.journal file) where
+      blank : IsBlankFor m hosts line.journal file
+      blank = subst (λ hs. IsBlankFor m hs line.journal file) begun_same begun_blank
+
       recorded_run : HasRecorded m hosts units calls line.steps line.shows_state old.out.told new.out.told status file filled
       recorded_run = of_line (λ n b. HasRecorded m hosts units calls n b old.out.told new.out.told status file filled) ran
 
@@ -142,9 +125,13 @@ module _ {H : Type 0} (m : HostModule H) (hosts : List H) (line : RunLine) (text
           }))
 
   -- the texts come to no task
-  pub texts_stop : IsUntouched old new → (why : Reason) → StopsTexts line (symbols_of (hosts_of m hosts)) texts text why
-      → StopsRun m hosts line texts text old new why
-  texts_stop untouched (Refused file cause) stop = (stop, untouched)
-  texts_stop untouched (CallsLine number) stop = (stop, untouched)
-  texts_stop untouched WantOfMemory stop = inl untouched
-  texts_stop untouched _ stop = absurd stop
+  pub texts_stop : IsUntouched old new → (why : Reason) (made : List H) → made ≡ hosts
+      → StopsTexts line (symbols_of (hosts_of m made)) texts text why → StopsRun m hosts line texts text old new why
+  texts_stop untouched why made same given =
+      by why (subst (λ hs. StopsTexts line (symbols_of (hosts_of m hs)) texts text why) same given)
+    where
+      by : (why : Reason) → StopsTexts line (symbols_of (hosts_of m hosts)) texts text why → StopsRun m hosts line texts text old new why
+      by (Refused file cause) stop = (stop, untouched)
+      by (CallsLine number) stop = (stop, untouched)
+      by WantOfMemory stop = inl untouched
+      by _ stop = absurd stop

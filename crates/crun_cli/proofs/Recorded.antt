@@ -14,10 +14,9 @@ to_fill m hosts (Some file) asks blank fit = ap (λ (j : Recorded). list_all (fi
 
 pub is_filled : {H : Type 0} (m : HostModule H) (hosts : List H) (file filled : Option JournalFile) (asks : List Asked)
     → IsBlank m hosts file → HasTaken file asks filled → IsFilled m hosts asks file filled
-is_filled m hosts None filled asks blank taken = taken
-is_filled m hosts (Some file) None asks blank taken = taken
 is_filled m hosts (Some file) (Some filled) asks blank taken =
     taken ∙ ap (λ (j : Recorded). record { hosts = j.hosts; entries = j.entries ++ asks }) blank
+is_filled m hosts _ _ asks blank taken = taken
 
 module _ {H : Type 0} (m : HostModule H) (hosts : List H) (units : List (List tree.Item)) (calls : List SymbolCall) (steps : ℕ)
     (shown : Bool) (old new : Option (List ℕ)) (status : ℕ) where

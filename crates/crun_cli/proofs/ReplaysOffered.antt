@@ -1,8 +1,8 @@
 -- The hosts of a journal that is read offer each symbol once.
-use Rattle.crun_cli.proofs.Common.{◌≡◌, true, List, [], ◌∷◌, ◌++◌, map, sym, refl, ap, ◌∙◌, subst, map-append, Host, HostFunction}
-use Rattle.crun_cli.proofs.Common.{are_distinct, symbol_names, HostSymbol, hosts_of, symbols_distinct, hosts_same, none_distinct}
-use Rattle.crun_cli.proofs.Common.{read_distinct, IsJournal, empty, symbol_of, AreReplays, replaying, Recorded, AreDistinct, ReplayHost}
-use Rattle.crun_cli.proofs.Common.{symbol_in, symbols_of_host, symbols_of_hosts, AreOffered}
+use Rattle.crun_cli.proofs.Common.{◌≡◌, true, List, [], ◌∷◌, ◌++◌, map, sym, refl, ap, ◌∙◌, map-append, Host, HostFunction, are_distinct}
+use Rattle.crun_cli.proofs.Common.{symbol_names, HostSymbol, hosts_of, symbols_distinct, hosts_same, none_distinct, read_distinct}
+use Rattle.crun_cli.proofs.Common.{IsJournal, empty, symbol_of, AreReplays, replaying, Recorded, AreDistinct, ReplayHost, symbol_in}
+use Rattle.crun_cli.proofs.Common.{symbols_of_host, symbols_of_hosts, AreOffered}
 use Rattle.host_replay.specs.Reading.{lines_of}
 use Rattle.host_replay.specs.Writable.{symbols_of}
 use Rattle.host_replay.proofs.Apart.{distinct_symbols}
@@ -22,8 +22,7 @@ pub replays_offered : (text : List _) (j : Recorded) (replays : List ReplayHost)
     → AreOffered replaying replays
 replays_offered text j replays is are =
     ap are_distinct (names_same (hosts_of replaying replays))
-    ∙ distinct_symbols (hosts_of replaying replays)
-    (subst AreDistinct (sym (hosts_same j replays are)) (read_distinct empty j (lines_of text) none_distinct is))
+    ∙ distinct_symbols (hosts_of replaying replays) (rw (hosts_same j replays are) (read_distinct empty j (lines_of text) none_distinct is))
 
 -- hosts that offer each symbol once have a journal whose text is read back
 pub offered_distinct : (hosts : List Host) → are_distinct (symbol_names (symbols_of_hosts hosts)) ≡ true → AreDistinct hosts

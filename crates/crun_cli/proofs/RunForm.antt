@@ -1,14 +1,13 @@
 -- The run form: from what its steps say over texts and hosts to what the words ask for.
 use Rattle.crun_cli.proofs.Common.{◌≡◌, ℕ, ◌≤◌, List, Some, None, string_bytes, Option, MatchOption, sym, refl, ap, ◌∙◌, subst, inl, inr}
-use Rattle.crun_cli.proofs.Common.{Faulted, Contents, Name, Told, Tells, IsBegun, IsOneOf, SymbolCall, hosts_of, HostModule, hosts_same}
-use Rattle.crun_cli.proofs.Common.{AreReplays, replaying, Recorded, journal_text, ReplayHost, Line, RunLine, line_of, runs, AllRead}
-use Rattle.crun_cli.proofs.Common.{AreInputs, Held, IsInput, IsJournalReading, JournalReading, LongCalls, LongJournal, LongUnit, NoJournal}
-use Rattle.crun_cli.proofs.Common.{NotThere, StopsInputs, InputStop, IsTextsJob, Job, Stops, CallsLine, CallsTooLong, JournalLine}
-use Rattle.crun_cli.proofs.Common.{JournalTooLong, Reason, Refused, Unread, Unwritten, Usage, WantOfMemory, reason_of, stop_for, FilesSeen}
-use Rattle.crun_cli.proofs.Common.{HasPlayed, HasPlayedPart, IsJobWith, IsJournaled, IsUnwritten, Ran, RanPart, WithHosts, HasReading}
-use Rattle.crun_cli.proofs.Common.{IsReadBy, IsToRead, IsToWrite, IsUnitFile, HoldsJournal, IsJobOfTexts, IsLineJob, IsReplayJob, IsRunJob}
-use Rattle.crun_cli.proofs.Common.{symbols_of, IsUntouched, Outside, SinkSeen, IsRunUnwritten, IsTextsPart, IsTextsRun, StopsReplay}
-use Rattle.crun_cli.proofs.Common.{StopsRun, StopsWork}
+use Rattle.crun_cli.proofs.Common.{Faulted, Contents, Name, Told, Tells, IsOneOf, SymbolCall, hosts_of, HostModule, hosts_same, AreReplays}
+use Rattle.crun_cli.proofs.Common.{replaying, Recorded, ReplayHost, Line, RunLine, line_of, runs, AllRead, AreInputs, Held, IsInput}
+use Rattle.crun_cli.proofs.Common.{IsJournalReading, JournalReading, LongCalls, LongJournal, LongUnit, NoJournal, NotThere, StopsInputs}
+use Rattle.crun_cli.proofs.Common.{InputStop, IsTextsJob, Job, Stops, CallsLine, CallsTooLong, JournalLine, JournalTooLong, Reason, Refused}
+use Rattle.crun_cli.proofs.Common.{Unread, Unwritten, Usage, WantOfMemory, reason_of, stop_for, FilesSeen, HasPlayed, HasPlayedPart}
+use Rattle.crun_cli.proofs.Common.{IsJobWith, IsUnwritten, Ran, RanPart, WithHosts, HasReading, IsReadBy, IsToRead, IsToWrite, IsUnitFile}
+use Rattle.crun_cli.proofs.Common.{HoldsJournal, IsJobOfTexts, IsLineJob, IsReplayJob, IsRunJob, symbols_of, IsUntouched, Outside, SinkSeen}
+use Rattle.crun_cli.proofs.Common.{IsRunUnwritten, IsTextsPart, IsTextsRun, StopsReplay, StopsRun, StopsWork}
 use Rattle.w2c_io.proofs.Telling.{rose_from}
 use Rattle.c_tree.specs.Tree as tree
 use Rattle.crun_words.specs.declared.inputs.InputStop.TheVariants as input
@@ -29,8 +28,7 @@ module _ {G : Type 0} (n : HostModule G) (gs : List G) (line : RunLine) (start m
       → HasPlayed n gs line units calls Old new status
   played_from units calls status played = record {
     run = played.run;
-    written = subst (λ t. IsJournaled line.journal (record { hosts = hosts_of n gs; entries = played.run.asks }) t new.files.told) told
-        played.written;
+    written = rw told at played.written;
   }
 
   pub part_from : (units : List (List tree.Item)) (calls : List SymbolCall) → HasPlayedPart n gs line units calls Mid new
@@ -41,8 +39,7 @@ module _ {G : Type 0} (n : HostModule G) (gs : List G) (line : RunLine) (start m
     run = j.run;
     name = j.name;
     named = j.named;
-    begun = subst (λ t. IsBegun t new.files.told j.name (journal_text (record { hosts = hosts_of n gs; entries = j.run.asks })))
-        told j.begun;
+    begun = rw told at j.begun;
   })
 
   pub ran_from : (texts : List (List ℕ)) (text : List ℕ) (status : ℕ)
@@ -234,9 +231,7 @@ module _ {H : Type 0} (hm : HostModule H) (hosts : List H) (line : RunLine) (wor
       module _ (none : line.replayed ≡ None) where
         handed_job : (m : Contents) → told ≡ Some m → (job : Job) → IsTextsJob line (symbols_of (hosts_of hm hosts)) texts text job
             → IsJobWith hm hosts words m job
-        handed_job m tells job of = texts_job m tells job
-            (subst (λ o. MatchOption o (IsTextsJob line (symbols_of (hosts_of hm hosts)) texts text job)
-            (λ name. (r : JournalReading) × IsJournalReading m name r × IsReplayJob line name texts text r job)) (sym none) of)
+        handed_job m tells job of = texts_job m tells job (rw none of)
 
         with_handed : (m : Contents) → told ≡ Some m → (P : (K : Type 0) → HostModule K → List K → Type 0) → P H hm hosts
             → WithHosts hm hosts line.replayed m P

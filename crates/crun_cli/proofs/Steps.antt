@@ -1,8 +1,8 @@
 -- What the calls of a session and the lines that were written of them make of where a run stands.
-use Rattle.crun_cli.proofs.Common.{◌≡◌, ℕ, List, [], ◌∷◌, ◌++◌, map, length, drop, IfSome, Some, None, Option, sym, ap, ◌∙◌, subst, Ask}
-use Rattle.crun_cli.proofs.Common.{Call, Event, Init, asks_in, extended, SaysPart, SymbolCall, c_run, hosts_of, ask_of, events_in}
-use Rattle.crun_cli.proofs.Common.{replies_in, Asks, HostModule, Asked, IsLast, IsOutcome, Stands, State, objects_of, program_of}
-use Rattle.crun_cli.proofs.Common.{standing_of, told_by, Outcome, lines_behind, status_of_outcome}
+use Rattle.crun_cli.proofs.Common.{◌≡◌, ℕ, List, [], ◌∷◌, ◌++◌, map, length, drop, IfSome, Some, None, Option, sym, ap, ◌∙◌, Ask, Call}
+use Rattle.crun_cli.proofs.Common.{Event, Init, asks_in, extended, SaysPart, SymbolCall, c_run, hosts_of, ask_of, events_in, replies_in}
+use Rattle.crun_cli.proofs.Common.{Asks, HostModule, Asked, IsLast, IsOutcome, Stands, State, objects_of, program_of, standing_of, told_by}
+use Rattle.crun_cli.proofs.Common.{Outcome, lines_behind, status_of_outcome}
 use Rattle.crun.specs.declared.outcome.Standing.TheVariants as standing
 use Rattle.crun_cli.specs.Playing.{HasPlayed, IsBehind, IsLeft, IsSince, IsStored}
 use Rattle.crun_cli.proofs.Behind.{
@@ -41,9 +41,7 @@ module _ {H : Type 0} (m : HostModule H) (before s : State H) (x c : SymbolCall)
       → (more : List SymbolCall) → IsLeft m e s (done ++ c ∷ more) old now
   call_wants wanting more =
       let found = wanting done more behind.told behind.stands in
-      call_wanting m e before s done c old now behind since asked.0 asked.1.written more
-      (subst (λ y. (rest : List Ask) × (asks_in (c_run (program_of m before) (done ++ y ∷ more) before.steps (replies_in s.journal)).events
-      ≡ map ask_of s.journal ++ rest)) seen found)
+      call_wanting m e before s done c old now behind since asked.0 asked.1.written more (rw seen at found)
 
   module _ (o : Outcome)
       (ran : (calls rest : List SymbolCall) (told : List Event) (asks : List Asked) → Stands m before calls told → s.journal
@@ -59,13 +57,10 @@ module _ {H : Type 0} (m : HostModule H) (before s : State H) (x c : SymbolCall)
     here : (rest : List SymbolCall) → IsLast o rest
         → IsOutcome o (Call (length done)) s.journal (told_by behind.told asked.0 o) (objects_of s)
         (c_run (program_of m before) (done ++ c ∷ rest) before.steps (replies_in s.journal))
-    here rest last = subst (λ y. IsOutcome o (Call (length done)) s.journal (told_by behind.told asked.0 o) (objects_of s)
-        (c_run (program_of m before) (done ++ y ∷ rest) before.steps (replies_in s.journal))) seen
-        (ran done rest behind.told asked.0 behind.stands asked.1.written last)
+    here rest last = rw seen at (ran done rest behind.told asked.0 behind.stands asked.1.written last)
 
     stand : IsEnded o → Stands m s (done ++ c ∷ []) (told_by behind.told asked.0 o)
-    stand is = subst (λ y. Stands m s (done ++ y ∷ []) (told_by behind.told asked.0 o)) seen
-        (stands (standing_is ∙ ready_of_end o is) done behind.told asked.0 behind.stands asked.1.written)
+    stand is = rw seen at (stands (standing_is ∙ ready_of_end o is) done behind.told asked.0 behind.stands asked.1.written)
 
     text_is : text ≡ lines_behind (hosts_of m s.hosts) (drop (length before.journal) s.journal) (Call (length done)) o
     text_is = (λ i. lines_behind (hosts_of m s.hosts) (drop (from_is i) s.journal) (Call (sym count i)) o)
@@ -83,8 +78,7 @@ module _ {H : Type 0} (m : HostModule H) (before s : State H) (x c : SymbolCall)
 
     pub call_is_left : SaysPart now new text → (more : List SymbolCall) → IsLeft m e s (done ++ c ∷ more) old new
     call_is_left part more =
-        call_left m e before s done c old now behind since asked.0 asked.1.written o new here stand
-        (subst (SaysPart now new) text_is part) more
+        call_left m e before s done c old now behind since asked.0 asked.1.written o new here stand (rw text_is at part) more
 
 -- the status, as an answer where there is one
 pub played_if_some : (r : Option ℕ) (o : Outcome) (P : ℕ → Type 0) → r ≡ status_of_outcome o
@@ -130,5 +124,4 @@ module _ {H : Type 0} (m : HostModule H) (e s : State H) (none : e.journal ≡ [
 
     pub inits_are_left : SaysPart old new (lines_behind (hosts_of m s.hosts) (drop 0 s.journal) (Init j) o)
         → (calls : List SymbolCall) → IsLeft m e s calls old new
-    inits_are_left part calls = inits_left m e s since_inits old new o k ran stand_inits
-        (subst (λ n. SaysPart old new (inits_text n)) number part) calls
+    inits_are_left part calls = inits_left m e s since_inits old new o k ran stand_inits (rw number at part) calls

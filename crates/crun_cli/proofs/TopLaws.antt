@@ -1,11 +1,11 @@
 -- What the top call says, from why its work stopped or what it came to.
 use Rattle.crun_cli.proofs.Common.{◌≡◌, ℕ, ◌≤◌, ◌⊎◌, List, Some, None, Option, MatchOption, sym, refl, ◌∙◌, subst, inl, inr, arith, Faulted}
 use Rattle.crun_cli.proofs.Common.{Rose, Contents, Name, Tells, SymbolCall, hosts_of, HostModule, RunLine, line_of, runs, AllRead, Held}
-use Rattle.crun_cli.proofs.Common.{IsJournalReading, JournalReading, LongCalls, LongJournal, LongUnit, NoJournal, NotThere, IsTextsJob, Job}
-use Rattle.crun_cli.proofs.Common.{Run, Stops, Write, Reason, Refused, Unread, Unwritten, Usage, WantOfMemory, status_of, RunsAgain, Begun}
-use Rattle.crun_cli.proofs.Common.{BegunIfAny, By_refusal, By_run, By_unit, Finished, HasAnswer, HasPlayed, IsAnswered, IsJobWith}
-use Rattle.crun_cli.proofs.Common.{IsRunStatus, IsUnread, IsUnwritten, Refuses, WithHosts, HasReading, IsToRead, IsUnitFile, IsLineJob}
-use Rattle.crun_cli.proofs.Common.{IsReplayJob, IsRunJob, symbols_of, IsUntouched, Outside, StopsWork}
+use Rattle.crun_cli.proofs.Common.{IsJournalReading, JournalReading, IsTextsJob, Job, Run, Stops, Write, Reason, Refused, Unread, Unwritten}
+use Rattle.crun_cli.proofs.Common.{Usage, WantOfMemory, status_of, RunsAgain, Begun, BegunIfAny, By_refusal, By_run, By_unit, Finished}
+use Rattle.crun_cli.proofs.Common.{HasAnswer, HasPlayed, IsAnswered, IsJobWith, IsRunStatus, IsUnread, IsUnwritten, Refuses, WithHosts}
+use Rattle.crun_cli.proofs.Common.{HasReading, IsToRead, IsUnitFile, IsLineJob, IsReplayJob, IsRunJob, symbols_of, IsUntouched, Outside}
+use Rattle.crun_cli.proofs.Common.{StopsWork}
 use Rattle.c_tree.specs.Tree as tree
 use Rattle.crun_cli.proofs.AgainLaws.{runs_again}
 use Rattle.crun_cli.proofs.OneJob.{one_job}
@@ -35,8 +35,7 @@ pub written_by_no_run : {H : Type 0} (hm : HostModule H) (hosts : List H)
     (words : List Name) (m : Contents) (line : RunLine) (output : Name)
     (unit : List tree.Item) → line_of words ≡ Some (runs line) → IsJobWith hm hosts words m (Write output unit) → ⊥
 written_by_no_run hm hosts words m line output unit is job =
-    of_line (subst (λ o. MatchOption o (Write output unit ≡ Stops Usage) (λ l. IsLineJob (hosts_of hm hosts) m l (Write output unit))) is
-    job)
+    of_line (rw is at job)
   where
     of_texts : (texts : List (List ℕ)) (text : List ℕ) (o : Option Name)
         → MatchOption o (IsTextsJob line (symbols_of (hosts_of hm hosts)) texts text (Write output unit))
@@ -45,14 +44,11 @@ written_by_no_run hm hosts words m line output unit is job =
     of_texts texts text None of = of
     of_texts texts text (Some name) (Held t, is, inl (j, is_j, of)) = of
     of_texts texts text (Some name) (Held t, is, inr (k, refused, of)) = cc
-    of_texts texts text (Some name) (NoJournal, is, of) = cc
-    of_texts texts text (Some name) (LongJournal, is, of) = cc
+    of_texts texts text (Some name) (_, is, of) = cc
 
     of_line : IsRunJob line (hosts_of hm hosts) m (Write output unit) → ⊥
     of_line (AllRead texts text, is, of) = of_texts texts text line.replayed of
-    of_line (NotThere file, is, of) = cc
-    of_line (LongUnit file, is, of) = cc
-    of_line (LongCalls, is, of) = cc
+    of_line (_, is, of) = cc
 
 module _ {H : Type 0} (hm : HostModule H) (hosts : List H) (words : List Name) where
   abbrev Asks : Contents → Job → Type 0
@@ -171,7 +167,6 @@ module _ {H : Type 0} (hm : HostModule H) (hosts : List H) (words : List Name) w
     -- a refusal is the first, and of words without a reading it is a bad command line
     refused_job : (why : Reason) → Refuses hm hosts words old.files.told why → Tells old.files.told (λ m. Asks m (Stops why))
     refused_job Usage none = λ m tells. usage_job m none
-    refused_job (Refused file cause) refuses = refuses.1
     refused_job (Unread file) refuses = absurd refuses
     refused_job Unwritten refuses = absurd refuses
     refused_job WantOfMemory refuses = absurd refuses

@@ -11,8 +11,7 @@ use std::cell::Cell;
 use std::rc::Rc;
 use std::test::Fail;
 use units::{
-    A_C, ADD_C, ASKS_C, B_C, DIVISION_C, JOURNAL, KEPT_C, LOADS_C, MERGED_C, REAL_C, SEGMENTS_C,
-    SPARE_C,
+    A_C, ADD_C, ASKS_C, B_C, DIVISION_C, JOURNAL, KEPT_C, LOADS_C, MERGED_C, SEGMENTS_C, SPARE_C,
 };
 use w2c_base::{Memory, Value};
 use w2c_io::{MemFiles, MemSink};
@@ -31,7 +30,7 @@ struct Row {
     file: Option<(&'static str, &'static str)>,
 }
 
-const FILES: [(&str, &str); 10] = [
+const FILES: [(&str, &str); 9] = [
     ("add.c", ADD_C),
     ("m.c", LOADS_C),
     ("a.c", A_C),
@@ -39,7 +38,6 @@ const FILES: [(&str, &str); 10] = [
     ("s.c", SEGMENTS_C),
     ("u.c", DIVISION_C),
     ("spare.c", SPARE_C),
-    ("real.c", REAL_C),
     ("h.c", ASKS_C),
     ("kept.c", KEPT_C),
 ];
@@ -128,11 +126,11 @@ const ROWS: [Row; 22] = [
         file: None,
     },
     Row {
-        words: "--steps 100000 --calls calls --state real.c",
-        calls: "real f 5\n",
+        words: "--steps 100000 --calls calls --state a.c",
+        calls: "a inc\n",
         failing: 0,
         status: 0,
-        out: "call 1 = i32:25\nstate 0 g0 u32:66560\nstate 0 m0 pages 2\nstate 0 m0 at 66544 00000000000000000000000005000000\nstate 0 t0 length 1\n",
+        out: "call 1 = i32:6\nstate 0 g0 u32:6\nstate 0 m0 pages 1\n",
         err: "",
         file: None,
     },

@@ -27,9 +27,8 @@ arguments_fit units call ty is fit =
     let of_types : Bool = same_types ty.params (c_params_of (types_of call.args)) in
     let of_result : Bool = list_any (same_type ty.result) (Void ∷ U32 ∷ U64 ∷ []) in
     let parts = and_parts (of_types && of_result) (list_all is_number call.args) taken in
-    let types = and_parts of_types of_result parts.0 in
     record {
-      types_are = types_same ty.params (c_params_of (types_of call.args)) types.0;
+      types_are = types_same ty.params (c_params_of (types_of call.args)) (and_parts of_types of_result parts.0).0;
       numbers_are = refl;
       fit = all_numbers call.args parts.1;
     }
@@ -53,9 +52,8 @@ all_fit units lines calls are p same = each lines calls are
 
     each : (lines : List NumberedLine) (calls : List NamedCall) → AreCalls units lines (calls_seen calls) → All Fits calls
     each [] [] are = All-nil Fits
-    each [] (call ∷ calls) are = absurd are
-    each (line ∷ lines) [] are = absurd are
     each (line ∷ lines) (call ∷ calls) (names, rest) = All-cons Fits call calls (fits_there call names.fit) (each lines calls rest)
+    each _ _ are = absurd are
 
 -- ---- a line that says a symbol and numbers
 
@@ -76,9 +74,7 @@ module _ (units : List (List tree.Item)) (line : List ℕ) (said : Call) (says :
 
   -- the numbers are arguments for its type
   pub has_arguments : (ty : tree.FuncType) → signature_of units said.symbol ≡ Some ty → AreArguments ty.params said.numbers call.args
-  has_arguments ty found =
-      subst (λ ns. AreArguments ty.params ns call.args) (sym numbers_are)
-      (arguments_fit units call ty (ap (signature_of units) (sym symbol_is) ∙ found) names.fit)
+  has_arguments ty found = rw numbers_are (arguments_fit units call ty (ap (signature_of units) (sym symbol_is) ∙ found) names.fit)
 
   -- and these arguments are those that fit
   pub has_fit : (ty : tree.FuncType) (args : List Value) → signature_of units said.symbol ≡ Some ty

@@ -9,9 +9,8 @@ use Rattle.crun_job.proofs.Taken.{split_at, in_front}
 module _ {A B : Type 0} (R : A → B → Type 0) where
   pub each_push : (xs : List A) (ys : List B) (x : A) (y : B) → AreEach R xs ys → R x y → AreEach R (xs ++ x ∷ []) (ys ++ y ∷ [])
   each_push [] [] x y are is = (is, tt)
-  each_push [] (b ∷ ys) x y are is = absurd are
-  each_push (a ∷ xs) [] x y are is = absurd are
   each_push (a ∷ xs) (b ∷ ys) x y (first, rest) is = (first, each_push xs ys x y rest is)
+  each_push _ _ x y are is = absurd are
 
   -- the same where the other list is seen through a map
   pub each_pushed : {D : Type 0} (f : D → B) (xs : List A) (zs : List D) (x : A) (z : D) → AreEach R xs (map f zs) → R x (f z)
@@ -25,19 +24,17 @@ module _ {A B : Type 0} (R : A → B → Type 0) where
 
   pub many_each : (xs : List A) (ys : List B) → AreEach R xs ys → length xs ≡ length ys
   many_each [] [] are = refl
-  many_each [] (y ∷ ys) are = absurd are
-  many_each (x ∷ xs) [] are = absurd are
   many_each (x ∷ xs) (y ∷ ys) (is, rest) = ap (λ n. suc n) (many_each xs ys rest)
+  many_each _ _ are = absurd are
 
   -- one list where each element has one
   pub one_each : ((x : A) (y z : B) → R x y → R x z → y ≡ z) → (xs : List A) (ys zs : List B) → AreEach R xs ys → AreEach R xs zs → ys ≡ zs
   one_each once [] [] [] are are' = refl
-  one_each once [] (y ∷ ys) zs are are' = absurd are
   one_each once [] [] (z ∷ zs) are are' = absurd are'
-  one_each once (x ∷ xs) [] zs are are' = absurd are
   one_each once (x ∷ xs) (y ∷ ys) [] are are' = absurd are'
   one_each once (x ∷ xs) (y ∷ ys) (z ∷ zs) (is, rest) (is', rest') =
       ap (λ e. e ∷ ys) (once x y z is is') ∙ ap (λ l. z ∷ l) (one_each once xs ys zs rest rest')
+  one_each once _ _ zs are are' = absurd are
 
 module _ {A B C : Type 0} (R : A → B → Type 0) (Refuses : A → C → Type 0) where
   -- the first that is refused, where a list is gone through
@@ -57,8 +54,7 @@ module _ {A B C : Type 0} (R : A → B → Type 0) (Refuses : A → C → Type 0
   -- it is one of the list
   pub first_within : (xs : List A) (k : ℕ) (why : C) → IsFirst R Refuses xs k why → k < length xs
   first_within xs k why first =
-      let many = ap length first.split ∙ length-append first.front (first.first ∷ first.rest) in
-      omega (arith, many, first.number_is)
+      omega (arith, ap length first.split ∙ length-append first.front (first.first ∷ first.rest), first.number_is)
 
   module _ (apart : (x : A) (y : B) (why : C) → R x y → Refuses x why → ⊥) where
     behind_front : (front : List A) (x : A) (rest : List A) (ys : List B) (why : C) → AreEach R (front ++ x ∷ rest) ys → Refuses x why → ⊥
@@ -75,16 +71,13 @@ module _ {A B C : Type 0} (R : A → B → Type 0) (Refuses : A → C → Type 0
       same_first : (f g : List A) (x y : A) (rest others : List A) (ys zs : List B) (why other : C) → f ++ x ∷ rest ≡ g ++ y ∷ others
           → AreEach R f ys → AreEach R g zs → Refuses x why → Refuses y other → (length f ≡ length g) × (why ≡ other)
       same_first [] [] x y rest others ys zs why other e are are' refused refused' =
-          let both = same_parts x y rest others e in
-          (refl, once y why other (subst (λ z. Refuses z why) both.0 refused) refused')
+          (refl, once y why other (subst (λ z. Refuses z why) (same_parts x y rest others e).0 refused) refused')
       same_first [] (b ∷ g) x y rest others ys zs why other e are are' refused refused' =
-          let both = same_parts x b rest (g ++ y ∷ others) e in
           let has = first_has R b g zs are' in
-          absurd (apart b has.0 why has.1 (subst (λ z. Refuses z why) both.0 refused))
+          absurd (apart b has.0 why has.1 (subst (λ z. Refuses z why) (same_parts x b rest (g ++ y ∷ others) e).0 refused))
       same_first (a ∷ f) [] x y rest others ys zs why other e are are' refused refused' =
-          let both = same_parts a y (f ++ x ∷ rest) others e in
           let has = first_has R a f ys are in
-          absurd (apart a has.0 other has.1 (subst (λ z. Refuses z other) (sym both.0) refused'))
+          absurd (apart a has.0 other has.1 (subst (λ z. Refuses z other) (sym (same_parts a y (f ++ x ∷ rest) others e).0) refused'))
       same_first (a ∷ f) (b ∷ g) x y rest others ys zs why other e are are' refused refused' =
           let both = same_parts a b (f ++ x ∷ rest) (g ++ y ∷ others) e in
           let has = first_has R a f ys are in

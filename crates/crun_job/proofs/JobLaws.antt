@@ -61,8 +61,7 @@ module _ (line : RunLine) (symbols : Symbols) (texts : List (List ℕ)) (text : 
   one_seen a b (All_named units calls linked are is) (Unit_refused k file why named refused is') =
       absurd (linked_apart texts symbols k why units refused linked)
   one_seen a b (Line_refused units n linked first is) (Line_refused others m linked' first' is') =
-      let same = one_units texts others units linked'.0 linked.0 in
-      let there = subst (λ us. IsFirstRefusedLine us (call_lines_of text) m) same first' in
+      let there = subst (λ us. IsFirstRefusedLine us (call_lines_of text) m) (one_units texts others units linked'.0 linked.0) first' in
       is ∙ ap (λ i. Stops (CallsLine i)) (one_number units (call_lines_of text) n m first there) ∙ sym is'
   one_seen a b (Line_refused units n linked first is) (All_named others calls linked' are is') =
       let same = one_units texts others units linked'.0 linked.0 in
@@ -72,8 +71,7 @@ module _ (line : RunLine) (symbols : Symbols) (texts : List (List ℕ)) (text : 
       absurd (lines_apart units (call_lines_of text) n calls first (subst (λ us. AreCalls us (call_lines_of text) calls) same are))
   one_seen a b (All_named units cs linked are is) (All_named others ds linked' are' is') =
       let same = one_units texts units others linked.0 linked'.0 in
-      let there = subst (λ us. AreCalls us (call_lines_of text) cs) same are in
-      let calls = one_call_list others (call_lines_of text) cs ds there are' in
+      let calls = one_call_list others (call_lines_of text) cs ds (subst (λ us. AreCalls us (call_lines_of text) cs) same are) are' in
       is ∙ (λ i. Run (same i) (calls i) line.steps line.shows_state) ∙ sym is'
 
   pub one_texts_job : (a b : Job) → IsTextsJob line symbols texts text a → IsTextsJob line symbols texts text b → a ≡ b

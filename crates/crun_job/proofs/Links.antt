@@ -44,7 +44,6 @@ pub refused_within : (texts : List (List ℕ)) (symbols : Symbols) (r : UnitsRef
     → IsWithin (length texts) r
 refused_within texts symbols (refusal.Unit k why) (inl first) = first_within IsUnitText IsRefusedText texts k why first
 refused_within texts symbols (refusal.Unit k why) (inr unlinked) =
-    let less = concern_within unlinked.units symbols unlinked.refusal k why unlinked.first unlinked.concerns in
     let each = many_each IsUnitText texts unlinked.units unlinked.texts_are in
-    omega (arith, less, each)
+    omega (arith, concern_within unlinked.units symbols unlinked.refusal k why unlinked.first unlinked.concerns, each)
 refused_within texts symbols refusal.Memory refuses = tt

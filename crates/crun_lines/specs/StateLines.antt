@@ -9,8 +9,8 @@ use Rattle.w2c_base.specs.declared.value.Value.TheVariants.{I32, I64}
 use Rattle.w2c_base.specs.LittleEndian.{bytes_at}
 use Rattle.w2c_base.specs.Lookup.{numbered}
 use Rattle.w2c_base.specs.Run.{Host}
-use Rattle.c_meaning.specs.State.{Name, CValue, Number, Pointer, FuncPointer, FuncAddress, UnitFunc, HostFunc}
-use Rattle.c_meaning.specs.State.{Memory, Element, Table, Objects}
+use Rattle.c_meaning.specs.State.{Name, CValue, Number, Pointer, FuncPointer, FuncAddress, UnitFunc, HostFunc, Memory, Element, Table}
+use Rattle.c_meaning.specs.State.{Objects}
 use Rattle.crun_lines.specs.Words.{name_text}
 use Rattle.crun_lines.specs.HostLines.{function_name}
 use Rattle.crun_lines.specs.NameOrder.{in_order}

@@ -144,15 +144,13 @@ ids_hosts k (n ∷ counts) =
 host_found : (q : Name) (xs : List Name) (ids : List FuncId) (u i : ℕ) → list_all is_host ids ≡ true
     → named q (zip xs ids) ≡ Some (func.Unit u i) → ⊥
 unfolding is_host
-host_found q [] ids u i all e = cc
-host_found q (x ∷ xs) [] u i all e = cc
-host_found q (x ∷ xs) (func.Unit v j ∷ ids) u i all e = cc
 host_found q (x ∷ xs) (func.Host h f ∷ ids) u i all e = by_test (bytes_eq x q) (host_found q xs ids u i all) e
   where
     by_test : (b : Bool) → (named q (zip xs ids) ≡ Some (func.Unit u i) → ⊥)
         → (if b then Some (func.Host h f) else named q (zip xs ids)) ≡ Some (func.Unit u i) → ⊥
     by_test true later e = cc
     by_test false later e = later e
+host_found q _ _ u i all e = cc
 
 -- ---- the definition of a symbol
 
@@ -237,8 +235,7 @@ module _ (names : Naming) (p : Program) (s : Symbols) (are : AreSymbols names p 
       at None e =
           let nothing : defined_for_all (items_at p u) q ≡ None =
           ap (λ (o : Option (List tree.Item)). defined_for_all (elim o [ None ↦ [] | Some items ↦ items ]) q) e in
-          let seen = there.seen in
-          absurd (some_none there.definition (sym seen ∙ nothing))
+          absurd (some_none there.definition (sym there.seen ∙ nothing))
       at (Some items) e =
           let whole : defined_for_all items q ≡ Some there.definition =
           sym (ap (λ (o : Option (List tree.Item)). defined_for_all (elim o [ None ↦ [] | Some items ↦ items ]) q) e) ∙ there.seen in

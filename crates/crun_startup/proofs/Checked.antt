@@ -9,6 +9,7 @@ use Rattle.w2c_base.proofs.Tests.{test_at}
 use Rattle.c_tree.specs.Tree as tree
 use Rattle.c_tree.specs.Rules.{are_alike}
 use Rattle.c_meaning.proofs.Lookups.{bytes_equal}
+use Rattle.std.proofs.lemmas.Option.{same_Some}
 
 -- ---- items that define
 
@@ -25,10 +26,7 @@ function_of : (is_static : Bool) (result : CType) (name : Name) (params : List t
     → Defines (tree.Function (record { is_static = is_static; result = result; name = name; params = params; body = o })) q
 function_of is_static result name params None q e = absurd cc
 function_of is_static result name params (Some body) q e =
-    record { func = _; body = body; is = refl; has = refl; named = some_is name q e }
-  where
-    some_is : (x y : Name) → Some x ≡ Some y → x ≡ y
-    some_is x y e = cc
+    record { func = _; body = body; is = refl; has = refl; named = same_Some name q e }
 
 pub defines : (item : tree.Item) (q : Name) → defined_name item ≡ Some q → Defines item q
 defines (tree.Function f) q e = function_of f.is_static f.result f.name f.params f.body q e

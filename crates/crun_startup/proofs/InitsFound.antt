@@ -130,8 +130,7 @@ found_in_units k (items ∷ us) n f at =
         u = 0;
         items = items;
         at = refl;
-        found = subst (λ m. IsFound m 0 items f) here
-            (found_in k 0 items found.0 f found.1);
+        found = rw here at (found_in k 0 items found.0 f found.1);
       }
       | inr found ↦ later (found_in_units (k + 1) us found.0 f found.1)
     ]

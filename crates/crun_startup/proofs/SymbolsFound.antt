@@ -161,9 +161,6 @@ module _ (names : Naming) where
       → map (λ (s : linking.HostSymbol). s.symbol) hs ≡ xs → map address_in hs ≡ map (func_of names) ids
       → option_map (func_of names) (named q (zip xs ids)) ≡ option_map address_in (slice_get (filter (under q) hs) 0)
   hosts_found q [] [] ids e f = refl
-  hosts_found q [] (x ∷ xs) ids e f = absurd cc
-  hosts_found q (s ∷ hs) [] ids e f = absurd cc
-  hosts_found q (s ∷ hs) (x ∷ xs) [] e f = absurd cc
   hosts_found q (s ∷ hs) (x ∷ xs) (id ∷ ids) e f =
       let symbol : s.symbol ≡ x = cc in
       let symbols : map (λ (s : linking.HostSymbol). s.symbol) hs ≡ xs = cc in
@@ -178,6 +175,7 @@ module _ (names : Naming) where
           ≡ option_map address_in (slice_get (if b then s ∷ filter (under q) hs else filter (under q) hs) 0)
       go true here rest = ap Some (sym here)
       go false here rest = rest
+  hosts_found q _ _ _ e f = absurd cc
 
   -- the functions of one host, and of all
   functions_numbered : (h : ℕ × Host) (k : ℕ) (fs : List HostFunction)

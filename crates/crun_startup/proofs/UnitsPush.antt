@@ -11,8 +11,7 @@ each_push P k (y ∷ made) l each one zero x at = each zero x at
 each_push P k (y ∷ made) l each one (suc u) x at =
     let move : (n : ℕ) → (k + 1) + n ≡ k + suc n = λ n. omega arith in
     subst (λ n. P n x) (move u)
-    (each_push P (k + 1) made l (λ v z e. subst (λ n. P n z) (sym (move v)) (each (suc v) z e))
-    (subst (λ n. P n l) (sym (move (length made))) one) u x at)
+    (each_push P (k + 1) made l (λ v z e. subst (λ n. P n z) (sym (move v)) (each (suc v) z e)) (rw (move (length made)) one) u x at)
 
 pub units_push : (symbols : Symbols) (units : List (List tree.Item)) (items : List tree.Item) (made : List LinkedUnit) (l : LinkedUnit)
     → unit_of l.items.value ≡ items → IsUnit symbols (length made) l → AreUnits symbols units made

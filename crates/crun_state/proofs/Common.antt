@@ -2,7 +2,7 @@
 pub use Rattle.std.proofs.Common.{◌≡◌, ℕ, zero, suc, ◌+◌, ◌-◌, ◌/◌, ◌<◌, ◌≤◌, List, [], ◌∷◌, ◌++◌, map, length, get_or, take, drop}
 pub use Rattle.std.proofs.Common.{slice_get, Some, None, Ok, Err, Option, option_map, zip, flat_map, option_copied, sym, refl, ap, ◌∙◌}
 pub use Rattle.std.proofs.Common.{subst, arith, rules, zero-add}
-pub use Rattle.std.proofs.lemmas.List.{length-map}
+pub use Rattle.std.proofs.lemmas.List.{get_or-map, length-map}
 pub use Rattle.std.proofs.lemmas.Option.{slice_get-map}
 pub use Rattle.std.specs.List.{AllByRecursion, range_with_len}
 pub use Rattle.w2c_base.specs.Run.{Host}
@@ -16,7 +16,7 @@ pub use Rattle.crun_lines.specs.StateLines.{state_lines, table_lines, unit_lines
 pub use Rattle.crun_lines.specs.Views.{entry_of}
 pub use Rattle.c_hosts.specs.Asking.{host_of, hosts_of}
 pub use Rattle.crun_startup.specs.Names.{function_name as name_of_function, names_in, naming_of, unit_names}
-pub use Rattle.program_words.proofs.Loops.{AreWritten, all_written, mapped_get, one_more, range_next, range_split, stopped_at}
+pub use Rattle.program_words.proofs.Loops.{AreWritten, all_written, one_more, range_next, range_split, stopped_at}
 pub use Rattle.program_words.proofs.Written.{line_as, stops_writing, then_writes, writes_text, wrote_nothing}
 pub use Rattle.crun_state.specs.Showing.{cell_lines, entry_at, entry_lines, held_lines, items_at, length_and_elements, lines_at}
 pub use Rattle.crun_state.specs.Showing.{lines_at_place, lines_if_made, lines_if_there, lines_in_order, lines_of_objects, lines_of_unit}

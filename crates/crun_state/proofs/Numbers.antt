@@ -1,8 +1,8 @@
 -- The lines of objects by the numbers of their names.
 use Rattle.crun_state.proofs.Common.{◌≡◌, ℕ, zero, suc, ◌+◌, ◌<◌, ◌≤◌, List, [], ◌∷◌, ◌++◌, map, length, get_or, slice_get, Some, None}
-use Rattle.crun_state.proofs.Common.{Option, option_map, zip, flat_map, sym, refl, ap, ◌∙◌, arith, length-map, AllByRecursion}
+use Rattle.crun_state.proofs.Common.{Option, option_map, zip, flat_map, sym, refl, ap, ◌∙◌, arith, get_or-map, length-map, AllByRecursion}
 use Rattle.crun_state.proofs.Common.{range_with_len, Host, element_of, Naming, value_of, element_lines, length_line, variable_lines}
-use Rattle.crun_state.proofs.Common.{entry_of, mapped_get, entry_at, entry_lines, held_lines, length_and_elements, lines_at, lines_at_place}
+use Rattle.crun_state.proofs.Common.{entry_of, entry_at, entry_lines, held_lines, length_and_elements, lines_at, lines_at_place}
 use Rattle.crun_state.proofs.Common.{lines_if_there, lines_in_order, table_cell_lines}
 use Rattle.std.specs.declared.cmp.Ordering.{Ordering}
 use Rattle.std.specs.declared.cmp.Ordering.TheVariants.{Less, Equal, Greater}
@@ -63,9 +63,7 @@ module _ {A B : Type 0} (view : A → B) (lines : Name × B → List ℕ) (own :
       → flat_map lines (map (beside (λ i. get_or (map view objects) i (view d))) order) ≡ flat_map (lines_at own objects) order
   each_at objects d [] all = refl
   each_at objects d (e ∷ order) all =
-      let first = at_number objects e.1 d e.0 all.0 in
-      let others = each_at objects d order all.1 in
-      (λ i. first i ++ others i)
+      (λ i. (at_number objects e.1 d e.0 all.0) i ++ (each_at objects d order all.1) i)
 
   pub by_number : (names : List Name) (objects : List A) → length names ≡ length objects
       → flat_map lines (in_order (zip names (map view objects))) ≡ lines_in_order own names objects
@@ -86,7 +84,7 @@ pub found_named : {A : Type 0} (lines : Name × A → List ℕ) (objects stood :
     → lines_if_there lines (get_or names k n).name.now found ≡ lines_at lines objects (entry_at names k)
 found_named lines objects stood names k n found less is same =
     ap (lines_if_there lines (get_or names k n).name.now) (is ∙ ap (λ xs. slice_get xs (get_or names k n).number) same)
-    ∙ ap (lines_at lines objects) (sym (mapped_get entry_of names k ([], 0) n less))
+    ∙ ap (lines_at lines objects) (sym (get_or-map entry_of names k n ([], 0) less))
 
 -- ---- the elements of a table
 
@@ -104,15 +102,13 @@ module _ (hosts : List Host) (names : Naming) (u : ℕ) (name : Name) where
   elements_from k elements (e ∷ rest) same =
       let here : k ≡ k + 0 = omega arith in
       let next : (j : ℕ) → k + 1 + j ≡ k + suc j = λ j. omega arith in
-      let first = one k e ∙ ap (entry_lines hosts names u name k) (sym (same 0) ∙ ap (at_index elements) (sym here)) in
       let others = elements_from (k + 1) elements rest (λ j. ap (at_index elements) (next j) ∙ same (suc j)) in
-      (λ i. first i ++ others i)
+      (λ i. (one k e ∙ ap (entry_lines hosts names u name k) (sym (same 0) ∙ ap (at_index elements) (sym here))) i ++ others i)
 
   pub table_by_place : (table : TableCell)
       → length_and_elements hosts names u name table.elements.items ≡ table_cell_lines hosts names u (name, table)
   table_by_place table =
       let elements : List (Option Entry) = table.elements.items in
       let none : (j : ℕ) → 0 + j ≡ j = λ j. omega arith in
-      let many = sym (length-map elements (option_map (element_of names))) in
       let each = sym (elements_from 0 elements elements (λ j. ap (at_index elements) (none j))) in
-      (λ i. length_line u name (many i) ++ each i)
+      (λ i. length_line u name ((sym (length-map elements (option_map (element_of names)))) i) ++ each i)

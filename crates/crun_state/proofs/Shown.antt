@@ -31,8 +31,6 @@ module _ (hosts : List Host) (units : List (List tree.Item)) where
         (zip (range_with_len k (length (units_of names (map unit_names rest) os))) (units_of names (map unit_names rest) os))
         ≡ flat_map (lines_of_unit hosts units objects) (range_with_len k (length rest))
     shown_from k [] [] stored objects_are units_are = refl
-    shown_from k [] (own ∷ os) stored objects_are units_are = absurd stored
-    shown_from k (items ∷ rest) [] stored objects_are units_are = absurd stored
     shown_from k (items ∷ rest) (own ∷ os) stored objects_are units_are =
         let here : k ≡ k + 0 = omega arith in
         let at : slice_get objects k ≡ Some own = ap (slice_get objects) here ∙ objects_are 0 in
@@ -44,6 +42,7 @@ module _ (hosts : List Host) (units : List (List tree.Item)) where
         let others = shown_from (k + 1) rest os stored.1 (λ j. ap (slice_get objects) (next j) ∙ objects_are (suc j))
         (λ j. ap (slice_get units) (next j) ∙ units_are (suc j)) in
         (λ i. first i ++ others i)
+    shown_from k _ _ stored objects_are units_are = absurd stored
 
     all_shown : AreStored names objects
         → state_lines hosts (units_of names names objects) ≡ flat_map (lines_of_unit hosts units objects) (range_with_len 0 (length units))

@@ -32,8 +32,7 @@ module _ (units : List Name) (IsOf : List (List ℕ) → Job → Type 0) where
         → ((number : ℕ) (why : Cause) (file : Name) → r ≡ refusal.Unit number why → slice_get units number ≡ Some file
         → IsOf texts (Stops (Refused file why)))
         → StopsUnit units r reason → TriesUnit units IsOf reason events
-    refusal_tried (refusal.Unit k why) reason of (inl memory) =
-        subst (λ w. TriesUnit units IsOf w events) (sym memory) wanting_tried
+    refusal_tried (refusal.Unit k why) reason of (inl memory) = rw memory wanting_tried
     refusal_tried (refusal.Unit k why) reason of (inr (file, at, is)) =
         subst (λ w. TriesUnit units IsOf w events) (sym is)
         (units_in_order units (UnitsRead texts) events gave, inr (UnitsRead texts, gave, of k why file refl at))

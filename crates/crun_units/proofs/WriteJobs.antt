@@ -20,8 +20,7 @@ module _ (IsOf : List (List ℕ) → Job → Type 0)
 
   one_units_job : (m : Contents) (units : List Name) (a b : Job) → IsUnitsJob m units IsOf a → IsUnitsJob m units IsOf b → a ≡ b
   one_units_job m units a b (reading, is, behind) (other, is', behind') =
-      one_behind reading a b behind
-      (subst (λ r. IsBehindUnits IsOf r b) (one_units_reading m units other reading is' is) behind')
+      one_behind reading a b behind (rw (one_units_reading m units other reading is' is) at behind')
 
 -- ---- units that are merged
 

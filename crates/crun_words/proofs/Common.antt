@@ -18,7 +18,7 @@ pub use Rattle.w2c_io.specs.Events.{Event, Read}
 pub use Rattle.w2c_io.specs.declared.answers.ReadAnswer.{ReadAnswer}
 pub use Rattle.w2c_files.proofs.InOrder.{all_in_order, all_then, both_limited, last_read, longer, some_in_order, unto_last}
 pub use Rattle.w2c_files.specs.Passing.{FailsLast, ReadsAll, ReadsInOrder, ReadsSome, StopsBy, limited}
-pub use Rattle.w2c_files.specs.Reading.{AreHeld, AreRead, IsUnreadable, Missing, Past, StopsReading, TooLong, total}
+pub use Rattle.w2c_files.specs.Reading.{AreRead, IsUnreadable, Missing, Past, StopsReading, TooLong, total}
 pub use Rattle.w2c_files.specs.Words.{names_of, texts}
 pub use Rattle.w2c_files.specs.declared.reading.ReadStop.{ReadStop}
 pub use Rattle.c_tree.specs.Runtime.{same_type, same_types}
@@ -28,7 +28,7 @@ pub use Rattle.program_words.specs.Command.{rows_read, word_option, words_left}
 pub use Rattle.crun_words.specs.Arguments.{AreArguments, IsArgument}
 pub use Rattle.crun_words.specs.CallLine.{AreNumbers, Call, IsBytes, IsSymbolOf, SayCall, SaysCall, word_of_name, words_in}
 pub use Rattle.crun_words.specs.CallsFile.{numbered}
-pub use Rattle.crun_words.specs.CommandLine.{line_of, line_of_values, merges, runs, trims}
+pub use Rattle.crun_words.specs.CommandLine.{line_of, line_of_values}
 pub use Rattle.crun_words.specs.Inputs.{AllRead, AreUnits, HasUnits, Held, IsJournalReading, IsLongUnit, IsReading, IsUnitsReading}
 pub use Rattle.crun_words.specs.Inputs.{JournalReading, LongCalls, LongJournal, LongUnit, NoJournal, NoUnit, NotThere, Reading, StopsCalls}
 pub use Rattle.crun_words.specs.Inputs.{StopsInputs, StopsUnits, UnitTooLong, UnitsRead, UnitsReading, most_calls_bytes, most_journal_bytes}

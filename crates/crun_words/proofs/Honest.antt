@@ -1,13 +1,13 @@
 -- Over files that behave as files reading comes to what it comes to over what they hold, but where the last read failed.
 use Rattle.crun_words.proofs.Common.{◌≡◌, ℕ, ◌+◌, ◌-◌, ◌≤◌, ◌⊎◌, List, [], ◌∷◌, ◌++◌, length, Some, Ok, Err, Option, Result, sym, refl, ap}
-use Rattle.crun_words.proofs.Common.{◌∙◌, subst, inl, inr, arith, length-append, AllByRecursion, Contents, Name, Told, Event, Read}
-use Rattle.crun_words.proofs.Common.{ReadAnswer, FailsLast, ReadsAll, AreHeld, AreRead, total, AllRead, Held, IsJournalReading, IsReading}
-use Rattle.crun_words.proofs.Common.{IsUnitsReading, JournalReading, LongCalls, LongJournal, LongUnit, NoJournal, NoUnit, NotThere, Reading}
-use Rattle.crun_words.proofs.Common.{UnitTooLong, UnitsRead, UnitsReading, most_calls_bytes, most_journal_bytes, most_unit_bytes}
-use Rattle.crun_words.proofs.Common.{most_units_bytes, GivesInputs, GivesJournal, GivesUnits, IsAway, IsOver, ReadsUnto}
+use Rattle.crun_words.proofs.Common.{◌∙◌, subst, inl, inr, arith, length-append, Contents, Name, Told, Event, Read, ReadAnswer, FailsLast}
+use Rattle.crun_words.proofs.Common.{ReadsAll, AreRead, total, AllRead, Held, IsJournalReading, IsReading, IsUnitsReading, JournalReading}
+use Rattle.crun_words.proofs.Common.{LongCalls, LongJournal, LongUnit, NoJournal, NoUnit, NotThere, Reading, UnitTooLong, UnitsRead}
+use Rattle.crun_words.proofs.Common.{UnitsReading, most_calls_bytes, most_journal_bytes, most_unit_bytes, most_units_bytes, GivesInputs}
+use Rattle.crun_words.proofs.Common.{GivesJournal, GivesUnits, IsAway, IsOver, ReadsUnto}
 use Rattle.w2c_io.specs.Honest.{AreHonest, Does}
 use Rattle.w2c_io.specs.declared.answers.ReadAnswer.TheVariants as reading
-use Rattle.w2c_files.proofs.Honest.{honest_both, reads_fit, reads_held, reads_kept, as_many}
+use Rattle.w2c_files.proofs.Honest.{honest_both, reads_are, as_many}
 use Rattle.crun_words.proofs.InputStops.{units_bytes}
 
 -- ---- the file that was read last could not be read
@@ -37,25 +37,20 @@ module _ (m : Contents) where
       → AreHonest (Read name most answer ∷ []) (Some m) current new after → Finds name most answer new after
   one_read name most answer current new after (told, n, does, same) = (
     current,
-    subst (λ (t : Told). Does (Read name most answer) (Some m) current t after) (sym same.0)
-        (subst (λ (x : Option Name). Does (Read name most answer) (Some m) current told x) (sym same.1) does),
+    subst (λ (t : Told). Does (Read name most answer) (Some m) current t after) (sym same.0) (rw same.1 does),
   )
 
   -- no more than 16 files are read
-  are_read : (names : List Name) (all : List (List ℕ)) → length names ≤ 16 → AreHeld m names all
-      → AllByRecursion (λ bytes. length bytes ≤ most_unit_bytes) all → AreRead most_unit_bytes most_units_bytes m names all
-  are_read names all few held fit = record {
-    held = held;
-    fit = fit;
-    together = (let sum = units_bytes all fit in let many = as_many m names all held in omega (arith, sum, many, few));
-  }
-
   all_read : (names : List Name) (all : List (List ℕ)) (events : List Event) (current : Option Name) (new : Told) (after : Option Name)
       → length names ≤ 16 → ReadsAll most_unit_bytes names all events → AreHonest events (Some m) current new after
       → AreRead most_unit_bytes most_units_bytes m names all
-  all_read names all events current new after few gave honest = are_read names all few
-      (reads_held most_unit_bytes names all events m (Some m) new current after refl gave honest)
-      (reads_fit most_unit_bytes names all events (Some m) new current after gave honest)
+  all_read names all events current new after few gave honest =
+      let (held, kept, fit) = reads_are most_unit_bytes names all events m (Some m) new current after refl gave honest in
+      record {
+        held = held;
+        fit = fit;
+        together = (let sum = units_bytes all fit in let many = as_many m names all held in omega (arith, sum, many, few));
+      }
 
   -- files that gave bytes, and then one
   then_one : (names : List Name) (all : List (List ℕ)) (first events : List Event) (name : Name) (most : ℕ)
@@ -65,9 +60,8 @@ module _ (m : Contents) where
       → AreRead most_unit_bytes most_units_bytes m names all × Finds name most answer new after
   then_one names all first events name most answer current new after few gave is honest =
       let last : List Event = Read name most answer ∷ [] in
-      let both = honest_both first last (Some m) new current after
-      (subst (λ (e : List Event). AreHonest e (Some m) current new after) is honest) in
-      let kept = reads_kept most_unit_bytes names all first (Some m) both.0 current both.1 gave both.2 in (
+      let both = honest_both first last (Some m) new current after (rw is at honest) in
+      let kept = (reads_are most_unit_bytes names all first m (Some m) both.0 current both.1 refl gave both.2).1 in (
         all_read names all first current both.0 both.1 few gave both.2,
         one_read name most answer both.1 new after (subst (λ (t : Told). AreHonest last t both.1 new after) kept both.3),
       )
@@ -94,7 +88,7 @@ module _ (m : Contents) where
         → (IsUnitsReading m units r ⊎ FailsUnits r events) × (new ≡ Some m)
     units_honest (UnitsRead texts) events gave honest = (
       inl (all_read units texts events current new after few gave honest),
-      reads_kept most_unit_bytes units texts events (Some m) new current after gave honest,
+      (reads_are most_unit_bytes units texts events m (Some m) new current after refl gave honest).1,
     )
     units_honest (NoUnit name) events (texts, answer, away, u) honest =
         by answer away u.front (the_last name texts answer events u honest) u.rest u.split u.first u.calls
@@ -161,8 +155,7 @@ module _ (m : Contents) where
   pub journal_held : (name : Name) (text : List ℕ) (events : List Event) (current : Option Name) (new : Told) (after : Option Name)
       → GivesJournal name (Held text) events → AreHonest events (Some m) current new after → IsJournalReading m name (Held text)
   journal_held name text events current new after is honest =
-      let found = one_read name most_journal_bytes (Ok text) current new after
-      (subst (λ (e : List Event). AreHonest e (Some m) current new after) is honest) in
+      let found = one_read name most_journal_bytes (Ok text) current new after (rw is at honest) in
       (found.1.0, found.1.3)
 
   pub journal_honest : (name : Name) (r : JournalReading) (events : List Event) (current : Option Name) (new : Told) (after : Option Name)
@@ -170,8 +163,7 @@ module _ (m : Contents) where
       → IsJournalReading m name r ⊎ FailsJournal name r events
   journal_honest name (Held text) events current new after is honest = inl (journal_held name text events current new after is honest)
   journal_honest name NoJournal events current new after (answer, away, is) honest =
-      by answer away (one_read name most_journal_bytes answer current new after
-      (subst (λ (e : List Event). AreHonest e (Some m) current new after) is honest)) is
+      by answer away (one_read name most_journal_bytes answer current new after (rw is at honest)) is
     where
       by : (answer : Result (List ℕ) ReadAnswer) → IsAway answer → Finds name most_journal_bytes answer new after
           → events ≡ Read name most_journal_bytes answer ∷ [] → IsJournalReading m name NoJournal ⊎ FailsLast name events
@@ -181,6 +173,4 @@ module _ (m : Contents) where
       by (Err reading.TooLong) away found calls = absurd away
       by (Err reading.Memory) away found calls = absurd away
   journal_honest name LongJournal events current new after is honest =
-      let found = one_read name most_journal_bytes (Err reading.TooLong) current new after
-      (subst (λ (e : List Event). AreHonest e (Some m) current new after) is honest) in
-      inl found.1.0
+      inl (one_read name most_journal_bytes (Err reading.TooLong) current new after (rw is at honest)).1.0

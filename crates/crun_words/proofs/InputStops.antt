@@ -15,9 +15,6 @@ use Rattle.w2c_files.proofs.Stops.{one_stop, no_stop, same_bytes}
 use Rattle.w2c_files.proofs.Honest.{as_many}
 use Rattle.crun_words.specs.declared.inputs.InputStop.TheVariants as stop
 
-same_name : (names : List Name) (k : ℕ) (name other : Name) → slice_get names k ≡ Some name → slice_get names k ≡ Some other → other ≡ name
-same_name names k name other at is = same_Some other name (sym is ∙ at)
-
 module _ (each most : ℕ) (told : Told) (names : List Name) (before after : ℕ) (named : Option Name) (k : ℕ) (why : ReadStop)
     (stops : StopsAt each most told names before after named why) where
   pub long_within : why ≡ read.TooLong k → k < length names
@@ -43,10 +40,8 @@ pub never_past : (contents : Contents) (names : List Name) (name : Name) (place 
     → StopsReading most_unit_bytes most_units_bytes contents names name (Past place) → ⊥
 never_past contents names name place few s =
     let stops : IsUnreadable most_unit_bytes most_units_bytes (total s.all) contents name (Past place) = s.stops in
-    let sum = units_bytes s.all s.read.fit in
-    let many = as_many contents s.front s.all s.read.held in
     let split = ap length s.split ∙ length-append s.front (name ∷ s.rest) in
-    omega (arith, few, sum, many, split, stops.2, stops.3)
+    omega (arith, few, units_bytes s.all s.read.fit, as_many contents s.front s.all s.read.held, split, stops.2, stops.3)
 
 -- ---- the units
 
@@ -63,7 +58,7 @@ module _ (told : Told) (names : List Name) (before after : ℕ) (named : Option 
       by_name (other, at_other, unread) = subst
           (λ (n : Name). Faulted n before after named
           ⊎ ((contents : Contents) × (told ≡ Some contents) × StopsReading most_unit_bytes most_units_bytes contents names n Missing))
-          (same_name names k name other at at_other) unread
+          (same_Some other name (sym at_other ∙ at)) unread
 
   pub too_long : (why : ReadStop) → why ≡ read.TooLong k → StopsAt most_unit_bytes most_units_bytes told names before after named why
       → Tells told (λ contents. IsLongUnit contents names name)
@@ -71,8 +66,7 @@ module _ (told : Told) (names : List Name) (before after : ℕ) (named : Option 
     where
       by_name : StopsAt most_unit_bytes most_units_bytes told names before after named (read.TooLong k)
           → Tells told (λ contents. IsLongUnit contents names name)
-      by_name (other, at_other, long) =
-          subst (λ (n : Name). Tells told (λ contents. IsLongUnit contents names n)) (same_name names k name other at at_other) long
+      by_name (other, at_other, long) = rw (same_Some other name (sym at_other ∙ at)) at long
 
   pub past : (why : ReadStop) (place : ℕ) → why ≡ read.Past k place → length names ≤ 16
       → StopsAt most_unit_bytes most_units_bytes told names before after named why → Tells told (λ contents. IsLongUnit contents names name)
@@ -125,11 +119,10 @@ module _ (contents : Contents) (name : Name) where
   one_journal_reading (Held text) NoJournal r s = absurd (no_text text s r.0)
   one_journal_reading (Held text) LongJournal r (other, is, long) = absurd (too_long_and_fit most_journal_bytes text other r.0 is r.1 long)
   one_journal_reading NoJournal (Held text) r s = absurd (no_text text r s.0)
-  one_journal_reading NoJournal NoJournal r s = refl
   one_journal_reading NoJournal LongJournal r (other, is, long) = absurd (no_text other r is)
   one_journal_reading LongJournal (Held text) (other, is, long) s = absurd (too_long_and_fit most_journal_bytes text other s.0 is s.1 long)
   one_journal_reading LongJournal NoJournal (other, is, long) s = absurd (no_text other s is)
-  one_journal_reading LongJournal LongJournal r s = refl
+  one_journal_reading _ _ r s = refl
 
 module _ (contents : Contents) (units : List Name) where
   read_all : (name : Name) (texts : List (List ℕ)) → AreUnits contents units texts

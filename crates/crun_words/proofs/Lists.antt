@@ -15,19 +15,17 @@ module _ {A B : Type 0} (f : A → Option B) where
 
   -- an item for which nothing is given
   pub not_given : (xs : List A) (k : ℕ) (x : A) (ys : List B) → slice_get xs k ≡ Some x → f x ≡ None → Gives xs ys → ⊥
-  not_given [] k x ys at none gives = cc
-  not_given (z ∷ xs) k x [] at none gives = cc
   not_given (z ∷ xs) zero x (y ∷ ys) at none gives =
       let head : f z ≡ Some y = (same_parts (f z) (Some y) (map f xs) (map (λ y. Some y) ys) gives).0 in
       let both : ◌≡◌ {A = Option B} None (Some y) = sym none ∙ ap f (sym (same_Some z x at)) ∙ head in
       cc
   not_given (z ∷ xs) (suc k) x (y ∷ ys) at none gives =
       not_given xs k x ys at none (same_parts (f z) (Some y) (map f xs) (map (λ y. Some y) ys) gives).1
+  not_given _ k x _ at none gives = cc
 
 pub same_items : {B : Type 0} (ys zs : List B) → map (λ y. Some y) ys ≡ map (λ y. Some y) zs → ys ≡ zs
 same_items [] [] e = refl
-same_items [] (z ∷ zs) e = absurd (cc)
-same_items (y ∷ ys) [] e = absurd (cc)
 same_items (y ∷ ys) (z ∷ zs) e =
     let parts = same_parts (Some y) (Some z) (map (λ y. Some y) ys) (map (λ y. Some y) zs) e in
     λ i. same_Some y z parts.0 i ∷ same_items ys zs parts.1 i
+same_items _ _ e = absurd (cc)

@@ -53,8 +53,7 @@ journal_in_order units calls texts text journal first last (front, gave, is) (an
     (inl (
       text,
       refl,
-      subst (ReadsInOrder ((journal, most_journal_bytes) ∷ [])) (sym last_is)
-          (last_read journal most_journal_bytes [] answer),
+      rw last_is (last_read journal most_journal_bytes [] answer),
     ))))
   where
     Two : List (Name × ℕ)
@@ -72,9 +71,7 @@ last_name : (each : ℕ) (front : List Name) (all : List (List ℕ)) (first : Li
     → ReadsAll each front all first → slice_get (front ++ name ∷ after) (length all) ≡ Some name
 last_name each [] [] first name after gave = refl
 last_name each (n ∷ front) (b ∷ all) (e ∷ events) name after gave = last_name each front all events name after gave.1
-last_name each [] (b ∷ all) first name after gave = absurd gave
-last_name each (n ∷ front) [] first name after gave = absurd gave
-last_name each (n ∷ front) (b ∷ all) [] name after gave = absurd gave
+last_name each _ _ _ name after gave = absurd gave
 
 module _ (names : List Name) (k : ℕ) (name : Name) (at : slice_get names k ≡ Some name) (events : List Event) where
   unto : (front rest : List Name) (all : List (List ℕ)) (first last : List Event) (other : Name) (after : List Name)
@@ -96,18 +93,14 @@ module _ (names : List Name) (k : ℕ) (name : Name) (at : slice_get names k ≡
 
   is_away : (left number : ℕ) (answer : Result (List ℕ) ReadAnswer) → StopsBy left number answer (read.Unread k)
       → IsAway answer × (k ≡ number)
-  is_away left number (Ok bytes) stops = absurd stops
   is_away left number (Err reading.Absent) stops = (tt, stops)
   is_away left number (Err reading.Failed) stops = (tt, stops)
-  is_away left number (Err reading.TooLong) stops = absurd stops
-  is_away left number (Err reading.Memory) stops = absurd stops
+  is_away left number _ stops = absurd stops
 
   is_long : (left number : ℕ) (answer : Result (List ℕ) ReadAnswer) → StopsBy left number answer (read.TooLong k)
       → IsOver left answer × (k ≡ number)
-  is_long left number (Ok bytes) stops = absurd stops
-  is_long left number (Err reading.Absent) stops = absurd stops
   is_long left number (Err reading.TooLong) stops = (tt, stops)
-  is_long left number (Err _) stops = absurd stops
+  is_long left number _ stops = absurd stops
 
   is_past : (left number place : ℕ) (answer : Result (List ℕ) ReadAnswer) → StopsBy left number answer (read.Past k place)
       → IsOver left answer × (k ≡ number)

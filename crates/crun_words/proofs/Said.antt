@@ -18,8 +18,7 @@ pub said_by : (words : List (List ℕ)) (m x : List ℕ) (numbers : List (List �
 said_by words m x numbers call is said =
     let first = same_parts m said.module_word (x ∷ numbers) (said.export_word ∷ said.number_words) (sym is ∙ said.words_are) in
     let second = same_parts x said.export_word numbers said.number_words first.1 in (
-      subst (λ w. IsSymbolOf w x call.symbol) (sym first.0)
-          (subst (λ w. IsSymbolOf said.module_word w call.symbol) (sym second.0) said.symbol),
+      subst (λ w. IsSymbolOf w x call.symbol) (sym first.0) (rw second.0 said.symbol),
       subst (λ l. AreNumbers l call.numbers) (sym second.1) said.numbers,
     )
 

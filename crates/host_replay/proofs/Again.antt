@@ -24,10 +24,9 @@ asked_many (CallEnded value ∷ events) = asked_many events
 
 behind_as_many : {A : Type 0} (xs ys us vs : List A) → length xs ≡ length ys → xs ++ us ≡ ys ++ vs → us ≡ vs
 behind_as_many [] [] us vs n e = e
-behind_as_many [] (y ∷ ys) us vs n e = absurd (omega (arith, n))
-behind_as_many (x ∷ xs) [] us vs n e = absurd (omega (arith, n))
 behind_as_many (x ∷ xs) (y ∷ ys) us vs n e =
     let rest : xs ++ us ≡ ys ++ vs = cc in behind_as_many xs ys us vs (omega (arith, n)) rest
+behind_as_many _ _ us vs n e = absurd (omega (arith, n))
 
 -- ---- journals by their events
 
@@ -40,13 +39,11 @@ event_same a b e =
 
 events_same : (xs ys : List Asked) → events_in xs ≡ events_in ys → xs ≡ ys
 events_same [] [] e = refl
-events_same [] (y ∷ ys) e = absurd cc
-events_same (x ∷ xs) [] e = absurd cc
 events_same (x ∷ xs) (y ∷ ys) e =
     let first : event_in x ≡ event_in y = cc in
     let rest : events_in xs ≡ events_in ys = cc in
-    let same = event_same x y first in
-    λ i. same i ∷ events_same xs ys rest i
+    λ i. (event_same x y first) i ∷ events_same xs ys rest i
+events_same _ _ e = absurd cc
 
 -- ---- runs
 
@@ -78,9 +75,8 @@ module _ (p : Program) (calls : List SymbolCall) (steps : ℕ) where
     same_run : (seen todo todo' : List Asked) → asks ≡ seen ++ todo → asks' ≡ seen ++ todo' → in_parts seen todo ≡ in_parts seen todo'
         → asks ≡ asks'
     same_run seen todo todo' are are' same =
-        let first = tells_parts asks seen todo are told in
         let second = tells_parts asks' seen todo' are' told' in
-        let events = sym first ∙ ap (λ (r : CRun). asked_events r.events) same ∙ second in
+        let events = sym (tells_parts asks seen todo are told) ∙ ap (λ (r : CRun). asked_events r.events) same ∙ second in
         events_same asks asks' (ap events_in are ∙ map-append event_in seen todo ∙ events ∙ sym (map-append event_in seen todo')
         ∙ ap events_in (sym are'))
 

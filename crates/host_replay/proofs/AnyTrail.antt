@@ -10,7 +10,7 @@ use Rattle.w2c_base.specs.declared.value.ValType.TheVariants as type
 use Rattle.w2c_base.specs.declared.value.Value.TheVariants.{I32, I64}
 use Rattle.w2c_base.specs.Trap.{code_of}
 use Rattle.c_tree.specs.Tree as tree
-use Rattle.c_tree.specs.Runtime.{same_func_type}
+use Rattle.c_tree.specs.Runtime.{depth_name, same_func_type}
 use Rattle.c_meaning.specs.State.{Name, UnitFunc, HostFunc, ObjectAddress, Memory, Table, Objects, Running, Place, Stop, Undefined}
 use Rattle.c_meaning.specs.State.{Evaluated, Is, Bad, NoRule, then_evaluate, found, of_one_type}
 use Rattle.c_meaning.specs.Operators.{operate}
@@ -222,7 +222,6 @@ goes m r below = (step.next m r below, λ t. refl)
 
 assign_depth_free : (m : Machine) (r : Running) (v : CValue) (below : List Frame) → Free (λ t. step.assign_depth (with_trail m t) r v below)
 assign_depth_free m r (Number (I32 n)) below = (step.assign_depth m r (Number (I32 n)) below, λ t. refl)
-assign_depth_free m r (Number (I64 n)) below = stops m Stuck
 assign_depth_free m r _ below = stops m Stuck
 
 put_in_free : (m : Machine) (held : Option CValue) (v : CValue) (does : Trail → step.Step) → Free does
@@ -238,7 +237,7 @@ put_var_free m a v r below = put_in_free m (var_in m a) v _
 assign_free : (m : Machine) (r : Running) (name : Name) (v : CValue) (below : List Frame)
     → Free (λ t. step.assign (with_trail m t) r name v below)
 assign_free m r name v below =
-    either Free (bytes_eq name step.depth_name) (assign_depth_free m r v below)
+    either Free (bytes_eq name depth_name) (assign_depth_free m r v below)
     (either Free (is_some (named name r.vars)) (put_in_free m (named name r.vars) v _ (goes m _ below))
     (put_var_free m (step.in_unit r name) v r below))
 

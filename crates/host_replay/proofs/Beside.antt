@@ -4,8 +4,8 @@ use Rattle.host_replay.proofs.Common.{None, Option, option_map, sym, refl, ap, �
 use Rattle.host_replay.proofs.Common.{CallEnded, Event, Gave, HostTrapped, Init, Phase, Reply, Trail, asked, asks_in, equal_types}
 use Rattle.host_replay.proofs.Common.{is_result, types_of, FuncType, Value, machine_of, Program, SymbolCall, host_type, fresh, with_trail}
 use Rattle.host_replay.proofs.Common.{CRun, Entry, Going, Over, Pending, Progress, Stopped, after, begin_entry, begun, c_run, c_start}
-use Rattle.host_replay.proofs.Common.{came_back, entries_of, go_on, over, run_of, Asks, CValue, Frame, FuncAddress, FuncPointer, Machine}
-use Rattle.host_replay.proofs.Common.{Number, Pointer, State, Stuck, Trapped, events_of}
+use Rattle.host_replay.proofs.Common.{came_back, entries_of, go_on, over, run_of, Asks, CValue, Frame, FuncAddress, Machine, Number, State}
+use Rattle.host_replay.proofs.Common.{Stuck, Trapped, events_of}
 use Rattle.w2c_base.specs.Run.{Asked}
 use Rattle.w2c_base.specs.declared.trap.TrapKind.TheVariants.{HostTrap}
 use Rattle.c_meaning.specs.Step as step
@@ -84,10 +84,7 @@ module _ (p : Program) (rest others : List Reply) (n : ℕ) where
       (tells : (o : step.Step) → TellsMore p (machine_of o).trail.events (events_of (then_ o))) where
     free_beside : (does : Trail → step.Step) → Free does → (told : List Event) (front : List Reply) → SoMany told front
         → Beside (then_ (does (Left told front))) (then_ (does (Right told front)))
-    free_beside does h told front so =
-        subst (λ o. Beside (then_ o) (then_ (does (Right told front)))) (sym (h.1 (Left told front)))
-        (subst (λ o. Beside (then_ (in_trail (Left told front) h.0)) (then_ o)) (sym (h.1 (Right told front)))
-        (in_both h.0 told front so))
+    free_beside does h told front so = rw (h.1 (Left told front)) (rw (h.1 (Right told front)) (in_both h.0 told front so))
 
     -- the same is asked, with other replies
     parted : (ty : FuncType) (told : List Event) (a : Ask) (m m' : Machine) (below : List Frame)
@@ -136,10 +133,7 @@ module _ (p : Program) (rest others : List Reply) (n : ℕ) where
     does_beside does (inl h) told front so = free_beside does h told front so
     does_beside does (inr h) told front so =
         subst (λ o. Beside (then_ o) (then_ (does (Right told front)))) (sym (h.is (Left told front)))
-        (subst (λ o. Beside
-        (then_ (step.replied h.ty (front ++ rest) told h.ask (with_trail h.machine (Left told front)) h.below)) (then_ o))
-        (sym (h.is (Right told front)))
-        (replied_beside h.ty told front so h.ask h.machine h.below h.type_is h.takes))
+        (rw (h.is (Right told front)) (replied_beside h.ty told front so h.ask h.machine h.below h.type_is h.takes))
 
   -- ---- runs
 
@@ -178,9 +172,7 @@ module _ (p : Program) (rest others : List Reply) (n : ℕ) where
       (omega (arith, so, asks_kept told None))
   back_beside pending m (Call k) (Some (Number v)) told front so =
       entry_beside m (Call k) pending.entries (told ++ CallEnded (Some v) ∷ []) front (omega (arith, so, asks_kept told (Some v)))
-  back_beside pending m (Call k) (Some (Pointer to)) told front so = both_over _
-  back_beside pending m (Call k) (Some (FuncPointer to)) told front so = both_over _
-  back_beside pending m (Init k) (Some v) told front so = both_over _
+  back_beside pending m _ _ told front so = both_over _
 
   on_in_both : (pending : Pending) (o : step.Step) (told : List Event) (front : List Reply) → SoMany told front
       → Beside (go_on p pending (in_trail (Left told front) o)) (go_on p pending (in_trail (Right told front) o))

@@ -89,8 +89,7 @@ module _ (name : List ℕ) where
       (λ (fs : List HostFunction). record { hosts = front ++ with_functions name fs ∷ []; entries = [] }) (append-nil done)
   functions_chain front more done (f ∷ rest) d =
       let same : (done ++ f ∷ []) ++ rest ≡ done ++ f ∷ rest = append_assoc done (f ∷ []) rest in
-      let behind = functions_chain front more (done ++ f ∷ []) rest
-      (subst (λ (fs : List HostFunction). AreDistinct (front ++ with_functions name fs ∷ more)) (sym same) d) in (
+      let behind = functions_chain front more (done ++ f ∷ []) rest (rw same d) in (
         record { hosts = front ++ with_functions name (done ++ f ∷ []) ∷ []; entries = [] },
         record {
           front = front;
@@ -106,9 +105,7 @@ module _ (name : List ℕ) where
               let both_hold = sym none ∙ offered.2 in
               cc;
         },
-        subst (λ (fs : List HostFunction). Chain
-            (record { hosts = front ++ with_functions name (done ++ f ∷ []) ∷ []; entries = [] }) (map function_said rest)
-            (record { hosts = front ++ with_functions name fs ∷ []; entries = [] })) same behind,
+        rw same at behind,
       )
 
 modules_chain : (front rest : List Host) → AreDistinct (front ++ rest)
@@ -116,9 +113,7 @@ modules_chain : (front rest : List Host) → AreDistinct (front ++ rest)
 modules_chain front [] d = ap (λ (hosts : List Host). record { hosts = hosts; entries = [] }) (append-nil front)
 modules_chain front (m ∷ rest) d =
     let same : (front ++ m ∷ []) ++ rest ≡ front ++ m ∷ rest = append_assoc front (m ∷ []) rest in
-    let behind = subst (λ (hosts : List Host). Chain (record { hosts = front ++ m ∷ []; entries = [] })
-    (flat_map module_said rest) (record { hosts = hosts; entries = [] })) same
-    (modules_chain (front ++ m ∷ []) rest (subst AreDistinct (sym same) d)) in (
+    let behind = rw same at (modules_chain (front ++ m ∷ []) rest (subst AreDistinct (sym same) d)) in (
       record { hosts = front ++ with_functions m.name [] ∷ []; entries = [] },
       record { no_entries = refl; after_is = refl },
       chain_join (record { hosts = front ++ with_functions m.name [] ∷ []; entries = [] })
@@ -171,9 +166,7 @@ entries_chain hosts done (a ∷ rest) fit =
             parts.0;
         after_is = refl;
       },
-      subst (λ (es : List Asked). Chain (record { hosts = hosts; entries = done ++ a ∷ [] }) (map (entry_said hosts) rest)
-          (record { hosts = hosts; entries = es }))
-          (append_assoc done (a ∷ []) rest) (entries_chain hosts (done ++ a ∷ []) rest parts.1),
+      rw (append_assoc done (a ∷ []) rest) at (entries_chain hosts (done ++ a ∷ []) rest parts.1),
     )
 
 pub journal_chain : (j : Recorded) → AreDistinct j.hosts → list_all (fits j.hosts) j.entries ≡ true

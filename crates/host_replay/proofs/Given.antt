@@ -14,12 +14,11 @@ use Rattle.host_replay.proofs.Used.{other_call, own_call, set_other, set_same}
 list_same : {A : Type 0} (xs ys : List A) → length xs ≡ length ys
     → ((k : ℕ) (x : A) → slice_get xs k ≡ Some x → slice_get ys k ≡ Some x) → xs ≡ ys
 list_same [] [] n h = refl
-list_same [] (y ∷ ys) n h = absurd (omega (arith, n))
-list_same (x ∷ xs) [] n h = absurd (omega (arith, n))
 list_same (x ∷ xs) (y ∷ ys) n h =
     let first = h 0 x refl in
     let same : x ≡ y = cc in
     λ i. same i ∷ list_same xs ys (omega (arith, n)) (λ k a at. h (suc k) a at) i
+list_same _ _ n h = absurd (omega (arith, n))
 
 -- nothing more
 stays : (r s : ReplayHost) → r ≡ s → HasMore r [] s
@@ -115,8 +114,7 @@ given_at before after a old new at is more = record {
       ∙ ap (slice_get after) same ∙ found' in
       let r_same : old ≡ r = cc in
       let s_same : new ≡ s = cc in
-      subst (λ calls. HasMore r calls s) (sym (own_call k a [] same))
-      (subst (λ r. HasMore r (a ∷ []) s) r_same (subst (λ s. HasMore old (a ∷ []) s) s_same more))))
+      subst (λ calls. HasMore r calls s) (sym (own_call k a [] same)) (rw r_same at (subst (λ s. HasMore old (a ∷ []) s) s_same more))))
       (λ other. (let apart = eqb-false a.host k other in
       let s_is : Some r ≡ Some s = sym found ∙ sym (set_other before a.host k new (λ e. apart (sym e)))
       ∙ ap (λ l. slice_get l k) (sym is) ∙ found' in
@@ -139,8 +137,7 @@ none_given before a past = record {
 
 module _ {A : Type 0} (xs seen : List A) (k : ℕ) (x : A) (same : seen ≡ xs) (within : k < length seen) (is : x ≡ get_or seen k x) where
   pub next_item : take (k + 1) xs ≡ take k xs ++ x ∷ []
-  next_item = subst (λ (l : List A). take (k + 1) l ≡ take k l ++ x ∷ []) same
-      (take_more seen k x within ∙ ap (λ y. take k seen ++ y ∷ []) (sym is))
+  next_item = rw same at (take_more seen k x within ∙ ap (λ y. take k seen ++ y ∷ []) (sym is))
 
   pub test_passed : (test : A → Bool) → list_all test xs ≡ true → test x ≡ true
   test_passed test all = by_test (test x) (λ yes_. yes_) (λ no_.

@@ -6,6 +6,7 @@ use Rattle.host_replay.proofs.Common.{lacks, joined, IsLine, line_text, line_wor
 use Rattle.host_replay.proofs.Common.{Recorded}
 use Rattle.std.proofs.lemmas.List.Sums.{count_by-le-length}
 use Rattle.std.proofs.Math.Bool.{and-false}
+use Rattle.std.proofs.Common.{take_all as take_whole}
 
 abbrev pub with_newline : List ℕ → List ℕ
 with_newline text = text ++ codes "\n"
@@ -22,14 +23,12 @@ read_more before middle after (x ∷ lines) text l read says adds =
 
 -- the last part stands behind the last newline
 pub ended_some : (parts : List (List ℕ)) (b : ℕ) (rest : List ℕ) → ended (parts ++ (b ∷ rest) ∷ []) ≡ with_newlines parts ++ (b ∷ rest) ∷ []
-ended_some [] b rest = refl
-ended_some (p ∷ []) b rest = refl
 ended_some (p ∷ q ∷ parts) b rest = ap (λ (l : List (List ℕ)). with_newline p ∷ l) (ended_some (q ∷ parts) b rest)
+ended_some _ b rest = refl
 
 pub ended_none : (parts : List (List ℕ)) → ended (parts ++ [] ∷ []) ≡ with_newlines parts
-ended_none [] = refl
-ended_none (p ∷ []) = refl
 ended_none (p ∷ q ∷ parts) = ap (λ (l : List (List ℕ)). with_newline p ∷ l) (ended_none (q ∷ parts))
+ended_none _ = refl
 
 pub ended_any : (parts : List (List ℕ)) (rest : List ℕ) → ended (parts ++ rest ∷ []) ≡ with_newlines parts ++ ended (rest ∷ [])
 ended_any parts [] = ended_none parts ∙ sym (append-nil (with_newlines parts))
@@ -45,10 +44,7 @@ part_read parts k text known after at read it =
     (read_more empty known after (with_newlines (take k parts)) (with_newline text) it.0 read it.1 it.2)
 
 pub take_all : (xs : List (List ℕ)) (k : ℕ) → k ≡ length xs → take k xs ≡ xs
-take_all [] zero e = refl
-take_all [] (suc k) e = refl
-take_all (x ∷ xs) zero e = absurd (omega (arith, e))
-take_all (x ∷ xs) (suc k) e = ap (λ (l : List (List ℕ)). x ∷ l) (take_all xs k (omega (arith, e)))
+take_all xs k e = take_whole k xs (omega (arith, e))
 
 split : (parts : List (List ℕ)) (k : ℕ) (text : List ℕ) → slice_get parts k ≡ Some text
     → with_newlines parts ≡ with_newlines (take k parts) ++ with_newline text ∷ with_newlines (drop (suc k) parts)

@@ -11,11 +11,9 @@ set_same (x ∷ xs) zero old new at = refl
 set_same (x ∷ xs) (suc i) old new at = set_same xs i old new at
 
 pub set_other : {A : Type 0} (xs : List A) (i k : ℕ) (new : A) → (k ≡ i → ⊥) → slice_get (set xs i new) k ≡ slice_get xs k
-set_other [] i k new other = refl
 set_other (x ∷ xs) zero zero new other = absurd (other refl)
-set_other (x ∷ xs) zero (suc k) new other = refl
-set_other (x ∷ xs) (suc i) zero new other = refl
 set_other (x ∷ xs) (suc i) (suc k) new other = set_other xs i k new (λ e. other (ap suc e))
+set_other _ _ _ new other = refl
 
 -- ---- the calls of a module
 
@@ -105,9 +103,7 @@ module _ {R : Type 0} (m : HostModule R) (entries : List Asked) where
       at_old = at u.host x.old (ap (slice_get before) (sym host_is) ∙ x.old_is)
 
       next : RepliesNext seen u a.reply (m.state x.new)
-      next = next_reply seen rest u x.old a.reply (m.state x.new) are at_old
-          (subst (λ f. m.may x.old (m.state x.old) f u.args a.reply (m.state x.new)) function_is
-          (subst (λ args. m.may x.old (m.state x.old) a.function args a.reply (m.state x.new)) args_are x.may))
+      next = next_reply seen rest u x.old a.reply (m.state x.new) are at_old (rw (args_are, function_is) at x.may)
 
       asked_host : (k : ℕ) (r : R) → u.host ≡ k → slice_get after k ≡ Some r → IsAt k (seen ++ u ∷ []) r
       asked_host k r is found =
@@ -115,8 +111,7 @@ module _ {R : Type 0} (m : HostModule R) (entries : List Asked) where
           ∙ set_same before a.host x.old x.new x.old_is in
           let here : r ≡ x.new = cc in
           subst (IsAt k (seen ++ u ∷ [])) (sym here) (record {
-            may = λ b i args answer aft may. subst (λ k. Replays (calls_of k entries) b i args answer aft) is
-                (at_old.may b i args answer aft ((x.keeps.may b i args answer aft).0 may));
+            may = λ b i args answer aft may. rw is at (at_old.may b i args answer aft ((x.keeps.may b i args answer aft).0 may));
             used = next.1 ∙ ap (λ n. n ∷ []) (one_more u.host seen u refl ∙ ap (λ k. length (calls_of k (seen ++ u ∷ []))) is);
           })
 

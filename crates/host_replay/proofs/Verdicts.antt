@@ -31,23 +31,19 @@ function_distinct front last x d new h f k g s a b = elim (function_more last x 
 ]
 
 pub stay_distinct : (before after : Recorded) (l : JournalLine) → AreDistinct before.hosts → Adds before l after → AreDistinct after.hosts
-stay_distinct before after (line.Module name) d adds =
-    subst (λ (j : Recorded). AreDistinct j.hosts) (sym adds.after_is) (module_distinct before.hosts name d)
+stay_distinct before after (line.Module name) d adds = rw adds.after_is (module_distinct before.hosts name d)
 stay_distinct before after (line.Function f) d adds =
     subst (λ (j : Recorded). AreDistinct j.hosts) (sym adds.after_is)
     (function_distinct adds.front adds.last (named_function f) (subst AreDistinct adds.hosts_are d)
-    (λ offered. adds.is_new (subst (λ (hosts : List Host). IsOffered hosts (symbol_of adds.last (named_function f)))
-    (sym adds.hosts_are) offered)))
-stay_distinct before after (line.Host call) d adds =
-    subst (λ (j : Recorded). AreDistinct j.hosts) (sym adds.after_is) d
+    (λ offered. adds.is_new (rw adds.hosts_are offered)))
+stay_distinct before after (line.Host call) d adds = rw adds.after_is d
 
 -- ---- a line adds one thing at most
 
 pub reply_same : (r s : HostReply) → reply_of r ≡ reply_of s → r ≡ s
 reply_same (reply.Value v) (reply.Value w) e = let same : v ≡ w = cc in ap reply.Value same
-reply_same (reply.Value v) reply.Trap e = absurd cc
-reply_same reply.Trap (reply.Value w) e = absurd cc
 reply_same reply.Trap reply.Trap e = refl
+reply_same _ _ e = absurd cc
 
 one_function : (before a b : Recorded) (f : FunctionLine) → AddsFunction before f a → AddsFunction before f b → a ≡ b
 one_function before a b f x y =
@@ -78,8 +74,7 @@ pub one_read : (before a b : Recorded) (lines : List (List ℕ)) → AreDistinct
     → Read before lines b → a ≡ b
 one_read before a b [] d x y = x ∙ sym y
 one_read before a b (text ∷ lines) d x y =
-    let said = one_said text x.0 y.0 x.2 y.2 in
-    let adds : Adds before x.0 y.1 = subst (λ (l : JournalLine). Adds before l y.1) (sym said) y.3 in
+    let adds : Adds before x.0 y.1 = subst (λ (l : JournalLine). Adds before l y.1) (sym (one_said text x.0 y.0 x.2 y.2)) y.3 in
     let middle = one_after before x.1 y.1 x.0 d x.3 adds in
     one_read x.1 a b lines (stay_distinct before x.1 x.0 d x.3) x.4 (subst (λ (j : Recorded). Read j lines b) (sym middle) y.4)
 

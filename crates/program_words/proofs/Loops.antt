@@ -2,7 +2,7 @@
 use Rattle.std.proofs.Common.{◌≡◌, ℕ, suc, zero, ◌+◌, ◌-◌, ◌<◌, List, [], ◌∷◌, ◌++◌, drop, get_or, length, map, take, Option, refl, sym, ap}
 use Rattle.std.proofs.Common.{◌∙◌, subst, arith, Ok, Err, flat_map, append-nil}
 use Rattle.std.specs.List.{range_with_len}
-use Rattle.std.proofs.lemmas.List.{length-map}
+use Rattle.std.proofs.lemmas.List.{get_or-map, length-map}
 use Rattle.std.proofs.lemmas.Grind.{flat_map-append}
 use Rattle.w2c_base.proofs.Places.{front_split}
 use Rattle.w2c_io.specs.declared.answers.WriteAnswer.{WriteAnswer}
@@ -56,28 +56,19 @@ module _ {A : Type 0} (lines : A → List ℕ) where
   pub all_written : (old now : Option (List ℕ)) (before after : ℕ) (done all : List A) → done ≡ all
       → AreWritten lines old now before after done
       → Writes {A = Unit {0}} old now before after (flat_map lines all) (Ok tt)
-  all_written old now before after done all same are =
-      subst (λ xs. Writes {A = Unit {0}} old now before after (flat_map lines xs) (Ok tt)) same (as_call old now before after done are)
+  all_written old now before after done all same are = rw same at (as_call old now before after done are)
 
 -- ---- the front of a list
 
 -- the same through a view
 pub mapped_at : {A B : Type 0} (view : A → B) (xs : List A) (k : ℕ) (x : A) → k < length xs → x ≡ get_or xs k x
     → view x ≡ get_or (map view xs) k (view x)
-mapped_at view [] k x less at = absurd (omega (arith, less))
-mapped_at view (y ∷ xs) zero x less at = ap view at
-mapped_at view (y ∷ xs) (suc k) x less at = mapped_at view xs k x (omega (arith, less)) at
+mapped_at view xs k x less at = ap view at ∙ sym (get_or-map view xs k x (view x) less)
 
 pub mapped_split : {A B : Type 0} (view : A → B) (xs : List A) (k : ℕ) (x : A) → k < length xs → x ≡ get_or xs k x
     → map view xs ≡ take k (map view xs) ++ view x ∷ drop (k + 1) (map view xs)
 mapped_split view xs k x less at =
     front_split (map view xs) k (view x) (omega (arith, less, length-map xs view)) (mapped_at view xs k x less at)
-
-pub mapped_get : {A B : Type 0} (view : A → B) (xs : List A) (k : ℕ) (d : B) (x : A) → k < length xs
-    → get_or (map view xs) k d ≡ view (get_or xs k x)
-mapped_get view [] k d x less = absurd (omega (arith, less))
-mapped_get view (y ∷ xs) zero d x less = refl
-mapped_get view (y ∷ xs) (suc k) d x less = mapped_get view xs k d x (omega (arith, less))
 
 -- ---- the front of a range
 

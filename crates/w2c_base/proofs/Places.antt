@@ -93,6 +93,11 @@ drop_front [] i x at = absurd cc
 drop_front (y ∷ xs) zero x at = let e : y ≡ x = cc in ap (λ z. z ∷ xs) e
 drop_front (y ∷ xs) (suc i) x at = drop_front xs i x at ∙ ap (λ n. x ∷ drop n xs) (add-one i) ∙ rw (add-one (suc i)) refl
 
+pub around : {A : Type 0} (xs : List A) (i : ℕ) (x : A) → slice_get xs i ≡ Some x → xs ≡ take i xs ++ x ∷ drop (suc i) xs
+around [] i x at = absurd cc
+around (y ∷ xs) zero x at = let e : y ≡ x = cc in ap (λ z. z ∷ xs) e
+around (y ∷ xs) (suc i) x at = ap (λ zs. y ∷ zs) (around xs i x at)
+
 -- ---- by an index
 
 pub front_next : {A : Type 0} (xs : List A) (i : ℕ) (x : A) → i < length xs → x ≡ get_or xs i x → take (i + 1) xs ≡ take i xs ++ x ∷ []

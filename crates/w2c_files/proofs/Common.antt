@@ -4,7 +4,7 @@ pub use Rattle.std.proofs.Common.{◌==◌, slice_get, slice_index_or, Some, Non
 pub use Rattle.std.proofs.Common.{inl, inr, append_assoc, append-nil, arith, take-append-drop, Bor, rules}
 pub use Rattle.std.specs.FinMap.{get, insert}
 pub use Rattle.std.specs.List.{AllByRecursion}
-pub use Rattle.w2c_base.proofs.Places.{take_next}
+pub use Rattle.w2c_base.proofs.Places.{around, take_next}
 pub use Rattle.w2c_io.proofs.Names.{get_here, get_other, insert_again}
 pub use Rattle.w2c_io.proofs.Passed.{begun_in_vain, both_put, file_written, finished_in_vain, nothing_put, one_put, part_behind}
 pub use Rattle.w2c_io.proofs.Passed.{part_written, put_in_vain}

@@ -2,27 +2,6 @@
 use Rattle.w2c_files.proofs.Common.{◌≡◌, ℕ, ◌+◌, List, [], ◌∷◌, ◌++◌, length, Ok, Result, sym, refl, ap, ◌∙◌, subst, arith, Name, Event}
 use Rattle.w2c_files.proofs.Common.{Read, ReadAnswer, ReadsAll, total}
 
--- ---- lists of calls
-
-tails : (a b : Event) (xs ys : List Event) → a ∷ xs ≡ b ∷ ys → xs ≡ ys
-tails a b xs ys is = cc
-
-heads : (a b : Event) (xs ys : List Event) → a ∷ xs ≡ b ∷ ys → a ≡ b
-heads a b xs ys is = cc
-
-no_end : (xs : List Event) (a : Event) → [] ≡ xs ++ a ∷ [] → ⊥
-no_end [] a is = cc
-no_end (b ∷ xs) a is = cc
-
--- the last of them, and those in front of it
-pub one_last : (xs ys : List Event) (a b : Event) → xs ++ a ∷ [] ≡ ys ++ b ∷ [] → (xs ≡ ys) × (a ≡ b)
-one_last [] [] a b is = (refl, heads a b [] [] is)
-one_last [] (y ∷ ys) a b is = absurd (no_end ys b (tails a y [] (ys ++ b ∷ []) is))
-one_last (x ∷ xs) [] a b is = absurd (no_end xs a (sym (tails x b (xs ++ a ∷ []) [] is)))
-one_last (x ∷ xs) (y ∷ ys) a b is =
-    let first = heads x y (xs ++ a ∷ []) (ys ++ b ∷ []) is in
-    let rest = one_last xs ys a b (tails x y (xs ++ a ∷ []) (ys ++ b ∷ []) is) in ((λ i. first i ∷ rest.0 i), rest.1)
-
 -- ---- one read
 
 pub one_answer : (name other : Name) (each : ℕ) (answer another : Result (List ℕ) ReadAnswer)
@@ -44,15 +23,12 @@ none_given each (n ∷ names) (b ∷ all) gave = absurd gave
 pub one_given : (each : ℕ) (names others : List Name) (all more : List (List ℕ)) (events : List Event)
     → ReadsAll each names all events → ReadsAll each others more events → all ≡ more
 one_given each [] others [] more events gave gave' = sym (none_given each others more (subst (ReadsAll each others more) gave gave'))
-one_given each [] others (b ∷ all) more events gave gave' = absurd gave
-one_given each (n ∷ names) others [] more events gave gave' = absurd gave
-one_given each (n ∷ names) others (b ∷ all) more [] gave gave' = absurd gave
 one_given each (n ∷ names) [] (b ∷ all) [] (e ∷ events) gave gave' = absurd cc
 one_given each (n ∷ names) [] (b ∷ all) (c ∷ more) (e ∷ events) gave gave' = absurd gave'
 one_given each (n ∷ names) (o ∷ others) (b ∷ all) [] (e ∷ events) gave gave' = absurd gave'
 one_given each (n ∷ names) (o ∷ others) (b ∷ all) (c ∷ more) (e ∷ events) (is, gave) (is', gave') =
-    let first = one_bytes n o each b c (sym is ∙ is') in
-    let rest = one_given each names others all more events gave gave' in λ i. first i ∷ rest i
+    let rest = one_given each names others all more events gave gave' in λ i. (one_bytes n o each b c (sym is ∙ is')) i ∷ rest i
+one_given each _ others _ more _ gave gave' = absurd gave
 
 -- the last read gave bytes, behind those of the reads in front of it
 pub record GaveLast (each : ℕ) (all : List (List ℕ)) (first : List Event) (last : Event) : Type 0 where

@@ -21,11 +21,9 @@ honest_both (e ∷ front) back old new current after (told, name, does, rest) =
 
 pub read_keeps : (name : Name) (limit : ℕ) (answer : Result (List ℕ) ReadAnswer) (old new : Told) (current after : Option Name)
     → Does (Read name limit answer) old current new after → (new ≡ old) × (after ≡ current)
-read_keeps name limit (Ok bytes) old new current after does = (does.1, does.2)
-read_keeps name limit (Err reading.Absent) old new current after does = (does.1, does.2)
-read_keeps name limit (Err reading.TooLong) old new current after does = (does.1, does.2)
 read_keeps name limit (Err reading.Failed) old new current after does = does
 read_keeps name limit (Err reading.Memory) old new current after does = does
+read_keeps name limit _ old new current after does = (does.1, does.2)
 
 -- files that were read are as they were
 pub in_order_keep : (files : List (Name × ℕ)) (events : List Event) (old new : Told) (current after : Option Name)
@@ -39,37 +37,17 @@ in_order_keep (f ∷ files) (e ∷ events) old new current after (inr (answer, i
     let here = read_keeps f.0 f.1 answer old told current name (subst (λ (x : Event). Does x old current told name) is does) in
     let more = subst (λ (es : List Event). AreHonest es told name new after) none behind in (more.0 ∙ here.0, more.1 ∙ here.1)
 
-pub reads_held : (each : ℕ) (names : List Name) (all : List (List ℕ)) (given : List Event) (m : Contents) (old new : Told)
+-- files that were read in full held what was read, which fits, and are as they were
+pub reads_are : (each : ℕ) (names : List Name) (all : List (List ℕ)) (given : List Event) (m : Contents) (old new : Told)
     (current after : Option Name) → old ≡ Some m → ReadsAll each names all given → AreHonest given old current new after
-    → AreHeld m names all
-reads_held each [] [] given m old new current after told_is reads honest = tt
-reads_held each [] (b ∷ all) given m old new current after told_is reads honest = absurd reads
-reads_held each (n ∷ names) [] given m old new current after told_is reads honest = absurd reads
-reads_held each (n ∷ names) (b ∷ all) [] m old new current after told_is reads honest = absurd reads
-reads_held each (n ∷ names) (b ∷ all) (e ∷ given) m old new current after told_is (is, reads) (told, name, does, rest) =
+    → AreHeld m names all × (new ≡ old) × AllByRecursion (λ bytes. length bytes ≤ each) all
+reads_are each [] [] given m old new current after told_is reads honest =
+    (tt, (subst (λ (es : List Event). AreHonest es old current new after) reads honest).0, tt)
+reads_are each (n ∷ names) (b ∷ all) (e ∷ given) m old new current after told_is (is, reads) (told, name, does, rest) =
     let found = subst (λ (x : Event). Does x old current told name) is does in
-    (file_told old m n b told_is found.0, reads_held each names all given m told new name after (found.1 ∙ told_is) reads rest)
-
-pub reads_kept : (each : ℕ) (names : List Name) (all : List (List ℕ)) (given : List Event) (old new : Told) (current after : Option Name)
-    → ReadsAll each names all given → AreHonest given old current new after → new ≡ old
-reads_kept each [] [] given old new current after reads honest =
-    (subst (λ (es : List Event). AreHonest es old current new after) reads honest).0
-reads_kept each [] (b ∷ all) given old new current after reads honest = absurd reads
-reads_kept each (n ∷ names) [] given old new current after reads honest = absurd reads
-reads_kept each (n ∷ names) (b ∷ all) [] old new current after reads honest = absurd reads
-reads_kept each (n ∷ names) (b ∷ all) (e ∷ given) old new current after (is, reads) (told, name, does, rest) =
-    let found = subst (λ (x : Event). Does x old current told name) is does in
-    reads_kept each names all given told new name after reads rest ∙ found.1
-
-pub reads_fit : (each : ℕ) (names : List Name) (all : List (List ℕ)) (given : List Event) (old new : Told) (current after : Option Name)
-    → ReadsAll each names all given → AreHonest given old current new after → AllByRecursion (λ bytes. length bytes ≤ each) all
-reads_fit each [] [] given old new current after reads honest = tt
-reads_fit each [] (b ∷ all) given old new current after reads honest = absurd reads
-reads_fit each (n ∷ names) [] given old new current after reads honest = absurd reads
-reads_fit each (n ∷ names) (b ∷ all) [] old new current after reads honest = absurd reads
-reads_fit each (n ∷ names) (b ∷ all) (e ∷ given) old new current after (is, reads) (told, name, does, rest) =
-    let found = subst (λ (x : Event). Does x old current told name) is does in
-    (found.3, reads_fit each names all given told new name after reads rest)
+    let more = reads_are each names all given m told new name after (found.1 ∙ told_is) reads rest in
+    ((file_told old m n b told_is found.0, more.0), more.1 ∙ found.1, (found.3, more.2))
+reads_are each _ _ _ m old new current after told_is reads honest = absurd reads
 
 -- ---- writes
 
@@ -88,9 +66,7 @@ module _ (name : Name) (text : List ℕ) (old begun now : Told) (current at : Op
     (is_current : current ≡ Some name) where
   text_held : (middle : List Event) → PutsText text middle → AreHonest middle begun current now at → now ≡ holding old name text
   text_held middle (pieces, joins, calls) honest =
-      let put = puts_hold pieces old begun now name [] current at starts is_current
-      (subst (λ (es : List Event). AreHonest es begun current now at) calls honest) in
-      put.0 ∙ ap (holding old name) joins
+      (puts_hold pieces old begun now name [] current at starts is_current (rw calls at honest)).0 ∙ ap (holding old name) joins
 
   -- the next piece in vain, or none
   rest_held : (front rest : List ℕ) (why : WriteAnswer) (last : List Event) (here : Told) (there : Option Name)
@@ -104,15 +80,12 @@ module _ (name : Name) (text : List ℕ) (old begun now : Told) (current at : Op
       (split ∙ ap (λ (l : List ℕ). front ++ l) (cut ∙ ap (λ (l : List ℕ). l ++ more) of_piece ∙ append_assoc part tail more)
       ∙ sym (append_assoc front part (tail ++ more)))
       (ends.0 ∙ put_more old here told there name front part holds is appended)
-  rest_held front rest why (Put piece answer ∷ e ∷ events) here there split holds is fails honest = absurd fails
-  rest_held front rest why (Read other limit answer ∷ events) here there split holds is fails honest = absurd fails
-  rest_held front rest why (_ ∷ events) here there split holds is fails honest = absurd fails
+  rest_held front rest why _ here there split holds is fails honest = absurd fails
 
   part_held : (why : WriteAnswer) (middle : List Event) → PutsPart text why middle → AreHonest middle begun current now at
       → IsBegun old now name text
   part_held why middle part honest =
-      let (here, there, first, last) = honest_both (puts part.pieces) part.last begun now current at
-      (subst (λ (es : List Event). AreHonest es begun current now at) part.calls honest) in
+      let (here, there, first, last) = honest_both (puts part.pieces) part.last begun now current at (rw part.calls at honest) in
       let put = puts_hold part.pieces old begun here name [] current there starts is_current first in
       rest_held (joined part.pieces) part.rest why part.last here there part.split put.0 put.1 part.fails last
 
@@ -134,8 +107,7 @@ file_begun name text why events old new current after (inl is) honest =
 file_begun name text why events old new current after (inr (inl (middle, answer, part, is))) honest =
     let (begun, at, begins, rest) = subst (λ (es : List Event). AreHonest es old current new after) is honest in
     let (now, there, first, last) = honest_both middle (Finish answer ∷ []) begun new at after rest in
-    subst (λ (t : Told). IsBegun old t name text) (sym (last.3.0 ∙ last.2.0))
-    (part_held name text old begun now at there begins.0 begins.1 why middle part first)
+    rw (last.3.0 ∙ last.2.0) (part_held name text old begun now at there begins.0 begins.1 why middle part first)
 file_begun name text why events old new current after (inr (inr (middle, put, is))) honest =
     let (begun, at, begins, rest) = subst (λ (es : List Event). AreHonest es old current new after) is honest in
     let (now, there, first, last) = honest_both middle (Finish (Err why) ∷ []) begun new at after rest in
@@ -146,16 +118,14 @@ pub files_hold : (files : List (Name × List ℕ)) (events : List Event) (old ne
     → WritesFiles files events → AreHonest events old current new after → new ≡ written old files
 files_hold [] events old new current after none honest = (subst (λ (es : List Event). AreHonest es old current new after) none honest).0
 files_hold (file ∷ files) events old new current after (first, rest, is, wrote, more) honest =
-    let (middle, at, here, behind) = honest_both first rest old new current after
-    (subst (λ (es : List Event). AreHonest es old current new after) is honest) in
+    let (middle, at, here, behind) = honest_both first rest old new current after (rw is at honest) in
     files_hold files rest middle new at after more behind
     ∙ ap (λ (t : Told). written t files) (file_holds file.0 file.1 first old middle current at wrote here)
 
 pub broken_stands : (files : List (Name × List ℕ)) (name : Name) (why : WriteAnswer) (events : List Event) (old new : Told)
     (current after : Option Name) → BreaksOffAt files name why events → AreHonest events old current new after → StandsAt old new files name
 broken_stands files name why events old new current after at honest =
-    let (middle, now, here, behind) = honest_both at.first at.last old new current after
-    (subst (λ (es : List Event). AreHonest es old current new after) at.calls honest) in
+    let (middle, now, here, behind) = honest_both at.first at.last old new current after (rw at.calls at honest) in
     record {
       done = at.done;
       rest = at.rest;
@@ -182,8 +152,7 @@ pub as_many : (contents : Contents) (names : List Name) (texts : List (List ℕ)
     → length texts ≡ length names
 as_many contents [] [] held = refl
 as_many contents (n ∷ names) (t ∷ texts) held = ap suc (as_many contents names texts held.1)
-as_many contents [] (t ∷ texts) held = absurd held
-as_many contents (n ∷ names) [] held = absurd held
+as_many contents _ _ held = absurd held
 
 pub fails_behind : (file : Name) (first last given : List Event) → given ≡ first ++ last → FailsLast file last → FailsLast file given
 fails_behind file first last given split (front, limit, is) = (

@@ -9,9 +9,7 @@ pub all_then : (each : ℕ) (names : List Name) (all : List (List ℕ)) (first :
 all_then each [] [] events more last is then = subst (λ (e : List Event). ReadsInOrder more (e ++ last)) (sym is) then
 all_then each (n ∷ names) (b ∷ all) (e ∷ events) more last (is, rest) then =
     inl (b, is, all_then each names all events more last rest then)
-all_then each [] (b ∷ all) events more last h then = absurd h
-all_then each (n ∷ names) [] events more last h then = absurd h
-all_then each (n ∷ names) (b ∷ all) [] more last h then = absurd h
+all_then each _ _ _ more last h then = absurd h
 
 -- all files gave bytes
 pub all_in_order : (each : ℕ) (names : List Name) (all : List (List ℕ)) (events : List Event) → ReadsAll each names all events
@@ -47,8 +45,7 @@ pub unto_last : (each : ℕ) (front : List Name) (name : Name) (most : ℕ) (mor
     (first events : List Event) (answer : Result (List ℕ) ReadAnswer) → ReadsAll each front all first
     → events ≡ first ++ Read name most answer ∷ [] → ReadsInOrder (limited each front ++ (name, most) ∷ more) events
 unto_last each front name most more all first events answer gave is =
-    subst (ReadsInOrder (limited each front ++ (name, most) ∷ more)) (sym is)
-    (all_then each front all first ((name, most) ∷ more) (Read name most answer ∷ []) gave (last_read name most more answer))
+    rw is (all_then each front all first ((name, most) ∷ more) (Read name most answer ∷ []) gave (last_read name most more answer))
 
 pub both_limited : (each : ℕ) (front back : List Name) → limited each (front ++ back) ≡ limited each front ++ limited each back
 both_limited each front back = map-append (λ (name : Name). (name, each)) front back
@@ -57,10 +54,7 @@ front_in_order : (each : ℕ) (names front rest : List Name) (all : List (List �
     → ReadsAll each front all first → events ≡ first ++ last → ReadsInOrder (limited each rest) last
     → ReadsInOrder (limited each names) events
 front_in_order each names front rest all events first last split gave calls then =
-    subst (ReadsInOrder (limited each names)) (sym calls)
-    (subst (λ (ns : List Name). ReadsInOrder (limited each ns) (first ++ last)) (sym split)
-    (subst (λ (fs : List (Name × ℕ)). ReadsInOrder fs (first ++ last)) (sym (both_limited each front rest))
-    (all_then each front all first (limited each rest) last gave then)))
+    rw calls (rw split (rw (both_limited each front rest) (all_then each front all first (limited each rest) last gave then)))
 
 -- some files gave bytes, and the next was read last, or memory was wanting
 pub some_in_order : (each most : ℕ) (names : List Name) (why : ReadStop) (events : List Event) → ReadsSome each most names why events
@@ -70,5 +64,4 @@ some_in_order each most names why events (front, rest, all, first, last, split, 
 some_in_order each most names why events
     (front, rest, all, first, last, split, gave, calls, inr (name, after, answer, rest_is, last_is, stops, together)) =
     front_in_order each names front rest all events first last split gave calls
-    (subst (λ (r : List Name). ReadsInOrder (limited each r) last) (sym rest_is)
-    (subst (ReadsInOrder (limited each (name ∷ after))) (sym last_is) (last_read name each (limited each after) answer)))
+    (rw rest_is (subst (ReadsInOrder (limited each (name ∷ after))) (sym last_is) (last_read name each (limited each after) answer)))

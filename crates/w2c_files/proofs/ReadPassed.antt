@@ -1,19 +1,16 @@
 -- What passed through files that are read one after another.
-use Rattle.w2c_files.proofs.Common.{◌≡◌, ℕ, suc, ◌+◌, ◌-◌, List, [], ◌∷◌, ◌++◌, length, take, drop, IsErrAnd, IfErr, slice_get, Some, Ok}
-use Rattle.w2c_files.proofs.Common.{Err, Result, sym, refl, ap, ◌∙◌, subst, inl, inr, append_assoc, append-nil, arith, take_next, Name}
-use Rattle.w2c_files.proofs.Common.{Event, Read, Passes, ReadsAll, ReadsOne, ReadsSome, StopsBy, total, ReadStop}
+use Rattle.w2c_files.proofs.Common.{around, ◌≡◌, ℕ, suc, ◌+◌, ◌-◌, List, [], ◌∷◌, ◌++◌, length, take, drop, IsErrAnd, IfErr, slice_get}
+use Rattle.w2c_files.proofs.Common.{Some, Ok, Err, Result, sym, refl, ap, ◌∙◌, subst, inl, inr, append_assoc, append-nil, arith, take_next}
+use Rattle.w2c_files.proofs.Common.{Name, Event, Read, Passes, ReadsAll, ReadsOne, ReadsSome, StopsBy, total, ReadStop}
 use Rattle.std.proofs.Math.Seq.{take-length}
 use Rattle.w2c_files.specs.declared.reading.ReadStop.TheVariants as stop
-use Rattle.w2c_files.proofs.Loops.{split_at}
 
 reads_joined : (each : ℕ) (names : List Name) (all : List (List ℕ)) (events : List Event) (name : Name) (bytes : List ℕ)
     → ReadsAll each names all events
     → ReadsAll each (names ++ name ∷ []) (all ++ bytes ∷ []) (events ++ Read name each (Ok bytes) ∷ [])
 reads_joined each [] [] events name bytes reads = rw reads (refl, refl)
-reads_joined each [] (b ∷ all) events name bytes reads = absurd reads
-reads_joined each (n ∷ names) [] events name bytes reads = absurd reads
-reads_joined each (n ∷ names) (b ∷ all) [] name bytes reads = absurd reads
 reads_joined each (n ∷ names) (b ∷ all) (e ∷ events) name bytes reads = (reads.0, reads_joined each names all events name bytes reads.1)
+reads_joined each _ _ _ name bytes reads = absurd reads
 
 pub one_more_read : (each left : ℕ) (old before new : List Event) (names : List Name) (k number : ℕ) (name : Name)
     → (all more : List (List ℕ)) (bytes : List ℕ) → slice_get names k ≡ Some name → more ≡ all ++ bytes ∷ []
@@ -23,9 +20,7 @@ one_more_read each left old before new names k number name all more bytes at sam
   events ++ Read name each (Ok bytes) ∷ [],
   one_is ∙ ap (λ (l : List Event). before ++ l) read ∙ ap (λ (l : List Event). l ++ Read name each (Ok bytes) ∷ []) is
       ∙ append_assoc old events (Read name each (Ok bytes) ∷ []),
-  subst (λ (l : List (List ℕ)). ReadsAll each (take (k + 1) names) l (events ++ Read name each (Ok bytes) ∷ [])) (sym same)
-      (subst (λ (l : List Name). ReadsAll each l (all ++ bytes ∷ []) (events ++ Read name each (Ok bytes) ∷ []))
-      (sym (take_next names k name at)) (reads_joined each (take k names) all events name bytes reads)),
+  rw same (rw (take_next names k name at) (reads_joined each (take k names) all events name bytes reads)),
 )
 
 -- the next file is refused
@@ -42,7 +37,7 @@ next_stops each most left old before new names k name all why at many room (even
     all,
     events,
     one,
-    split_at names k name at,
+    around names k name at,
     reads,
     refl,
     inr (
@@ -51,8 +46,7 @@ next_stops each most left old before new names k name all why at many room (even
       answer,
       refl,
       read,
-      subst (λ n. StopsBy (most - total all) n answer why) (sym many)
-          (subst (λ n. StopsBy n k answer why) (let e : left ≡ most - total all = omega (arith, room) in e) stops),
+      rw many (subst (λ n. StopsBy n k answer why) (let e : left ≡ most - total all = omega (arith, room) in e) stops),
       omega (arith, room),
     ),
   ),

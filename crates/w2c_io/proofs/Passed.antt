@@ -1,6 +1,6 @@
 -- What passed through files in calls one after another.
 use Rattle.w2c_io.proofs.Common.{◌≡◌, ℕ, List, [], ◌∷◌, ◌++◌, IfErr, OnOk, Ok, Err, Result, sym, refl, ap, ◌∙◌, subst, inl, inr}
-use Rattle.w2c_io.proofs.Common.{append_assoc, append-nil, Name, Begin, Event, Finish, Put, Read, WriteAnswer}
+use Rattle.w2c_io.proofs.Common.{append_assoc, append-nil, Name, Begin, Event, Finish, Put, WriteAnswer}
 use Rattle.w2c_io.specs.declared.answers.WriteAnswer.TheVariants as writing
 use Rattle.w2c_io.specs.Passed.{Passes, puts, joined, PutsText, PutsPart, FailsOn, WritesFile, BreaksOff, Finishes}
 
@@ -93,9 +93,7 @@ part_behind whole front back rest why first last split (pieces, is, calls) part 
     fails_longer rest more why [] is = is
     fails_longer rest more why (Put piece answer ∷ []) (is, (behind, split)) =
         (is, (behind ++ more, ap (λ (l : List ℕ). l ++ more) split ∙ append_assoc piece behind more))
-    fails_longer rest more why (Put piece answer ∷ e ∷ events) h = absurd h
-    fails_longer rest more why (Read name limit answer ∷ events) h = absurd h
-    fails_longer rest more why (_ ∷ events) h = absurd h
+    fails_longer rest more why _ h = absurd h
 
 -- ---- texts in pieces, in calls one after another
 

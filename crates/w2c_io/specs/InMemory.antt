@@ -17,7 +17,7 @@ abbrev pub sure_contents : SureFiles → Contents
 sure_contents files = stored files.entries.items
 
 abbrev pub sure_current : SureFiles → Option Name
-sure_current files = open_name files.is_open files.entries.items
+sure_current files = open_name files.begun files.entries.items
 
 abbrev pub sure_trace : SureFiles → List Event
 sure_trace files = files.calls.events
@@ -29,7 +29,7 @@ abbrev pub mem_told : MemFiles → Told
 mem_told files = Some (mem_contents files)
 
 abbrev pub mem_current : MemFiles → Option Name
-mem_current files = open_name files.is_open files.entries.items
+mem_current files = open_name files.begun files.entries.items
 
 abbrev pub mem_read_faults : MemFiles → ℕ
 mem_read_faults files = files.read_faults

@@ -30,7 +30,7 @@ pub enum FileCall {
 pub struct MemFiles {
     alloc: Global,
     entries: Vec<Entry>,
-    is_open: bool,
+    begun: bool,
     reads: FaultPlan,
     begins: FaultPlan,
     puts: FaultPlan,
@@ -59,7 +59,7 @@ impl MemFiles {
         MemFiles {
             alloc,
             entries: Vec::new(alloc),
-            is_open: false,
+            begun: false,
             reads: FaultPlan::new(alloc),
             begins: FaultPlan::new(alloc),
             puts: FaultPlan::new(alloc),
@@ -83,9 +83,7 @@ impl MemFiles {
         ensures fault_name { mem_fault_name self.new ≡ mem_fault_name self.old }
         ensures trace { mem_trace self.new ≡ mem_trace self.old }
     {
-        add_copy(self.alloc, &mut self.entries, name, bytes)?;
-        self.is_open = false;
-        Ok(())
+        add_copy(self.alloc, &mut self.entries, &mut self.begun, name, bytes)
     }
 
     /// The bytes of a file, None where no file has the name.
@@ -275,7 +273,7 @@ impl MemFiles {
         ensures faults { mem_write_faults self.new ≡ count_after_write result (mem_write_faults self.old) }
         ensures trace { self.new.calls ≡ self.old.calls }
     {
-        self.is_open = false;
+        self.begun = false;
         let fails = self.begins.call();
         let name = String::from_str(self.alloc, name)?;
         if fails {
@@ -284,7 +282,7 @@ impl MemFiles {
             return Err(WriteAnswer::Failed);
         }
         add(&mut self.entries, name, Vec::new(self.alloc))?;
-        self.is_open = true;
+        self.begun = true;
         Ok(())
     }
 
@@ -332,7 +330,7 @@ impl MemFiles {
         ensures faults { mem_write_faults self.new ≡ count_after_write result (mem_write_faults self.old) }
         ensures trace { self.new.calls ≡ self.old.calls }
     {
-        self.is_open = false;
+        self.begun = false;
         if self.finishes.call() {
             let name = newest_name(self.alloc, self.entries.as_slice())?;
             self.fault_name = Some(name);

@@ -17,7 +17,7 @@ use w2c_base::{Bytes, Memory};
 pub struct SureFiles {
     alloc: Global,
     entries: Vec<Entry>,
-    is_open: bool,
+    begun: bool,
     calls: Record,
 }
 
@@ -33,7 +33,7 @@ impl SureFiles {
         SureFiles {
             alloc,
             entries: Vec::new(alloc),
-            is_open: false,
+            begun: false,
             calls: Record::new(),
         }
     }
@@ -46,9 +46,7 @@ impl SureFiles {
         ensures current { OnErr result (sure_current self.new ≡ sure_current self.old) }
         ensures trace { sure_trace self.new ≡ sure_trace self.old }
     {
-        add_copy(self.alloc, &mut self.entries, name, bytes)?;
-        self.is_open = false;
-        Ok(())
+        add_copy(self.alloc, &mut self.entries, &mut self.begun, name, bytes)
     }
 
     /// The bytes of a file, None where no file has the name.
@@ -83,7 +81,7 @@ impl Files for SureFiles {
 
     fn begin(&mut self, name: &str) -> Result<(), WriteAnswer> {
         let result = begin_entry(self.alloc, &mut self.entries, name);
-        self.is_open = result.is_ok();
+        self.begun = result.is_ok();
         self.calls = self.calls.then(&Call::Begin(name, &result));
         result
     }
@@ -95,7 +93,7 @@ impl Files for SureFiles {
     }
 
     fn finish(&mut self) -> Result<(), WriteAnswer> {
-        self.is_open = false;
+        self.begun = false;
         let result = Ok(());
         self.calls = self.calls.then(&Call::Finish(&result));
         result

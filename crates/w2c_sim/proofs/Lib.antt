@@ -1,9 +1,9 @@
 -- What crates above cite.
 pub mod Accepting
-pub mod Spelling
 pub mod Wiring
 -- What the crate's own proofs cite.
 mod Common
+mod Spelling
 mod Choosing
 mod Refusing
 mod ItemsWritten

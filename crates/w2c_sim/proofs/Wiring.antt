@@ -22,11 +22,11 @@ use Rattle.c_tree.specs.Runtime.{same_type, same_types}
 use Rattle.c_tree.proofs.SameTypes.{same_as_themselves}
 use Rattle.c_meaning.specs.State.{UnitFunc}
 use Rattle.c_symbols.specs.Symbols.{export_symbol}
-use Rattle.c_unit.proofs.Linked.{ExportedBy, exported_by}
-use Rattle.c_unit.proofs.External.{SymbolFound, symbol_found}
-use Rattle.c_unit.proofs.Funcs.{as_func_is}
-use Rattle.c_unit.proofs.Stands.{ExportedFunc, exported_func, func_stands}
-use Rattle.c_unit.proofs.Small.{some_same}
+use Rattle.unit_meaning.proofs.Linked.{ExportedBy, exported_by}
+use Rattle.unit_meaning.proofs.External.{SymbolFound, symbol_found}
+use Rattle.unit_meaning.proofs.Funcs.{as_func_is}
+use Rattle.unit_meaning.proofs.Stands.{ExportedFunc, exported_func, func_stands}
+use Rattle.c_init.proofs.Small.{some_same}
 
 -- what a function's type says of a call
 abbrev fits_type : List Value → Option tree.FuncType → Bool

@@ -6,13 +6,14 @@ use Rattle.std.specs.List.{AllByRecursion, Contains}
 use Rattle.w2c_base.specs.Run.{Host}
 use Rattle.wasm_tree.specs.declared.tree.Module.{Module}
 use Rattle.wasm_spelling.specs.ModuleFields.{Spells}
-use Rattle.wasm_meaning.specs.LinkedSet.{LinkedSet, NamedModule, IsLinked}
+use Rattle.wasm_meaning.specs.LinkedSet.{LinkedSet, IsLinked}
 use Rattle.wasm_meaning.specs.Run.{ListedCall, Fits}
 use Rattle.c_tree.specs.Tree as tree
 use Rattle.c_tree.specs.Spelled.{CSpells}
 use Rattle.c_meaning.specs.Linking.{Program, fits, link_refusal}
 use Rattle.wasm_tree.specs.Bytes.{AreBytes}
-use Rattle.c_unit.specs.Sets.{DoTheSame, symbol_call}
+use Rattle.wasm_tree.specs.NamedModule.{NamedModule}
+use Rattle.unit_meaning.specs.Sets.{DoTheSame, symbol_call}
 use Rattle.w2c_sim.specs.Translation.{IsModuleOf, text_of}
 
 -- ---- files, and what is linked of them

@@ -4,15 +4,15 @@ use Rattle.std.specs.Prelude.{◌≡◌, ℕ, ◌≤◌, List, length}
 use Rattle.wasm_tree.specs.declared.tree.Module.{Module}
 use Rattle.wasm_spelling.specs.ModuleFields.{Spells}
 use Rattle.wasm_typing.specs.Verdict.{IsValid}
-use Rattle.wasm_meaning.specs.LinkedSet.{NamedModule}
 use Rattle.c_tree.specs.Tree as tree
 use Rattle.c_tree.specs.Spelled.{CSpells}
 use Rattle.c_tree.specs.FirstBroken.{KeepsRules}
 use Rattle.c_print.specs.Print.{print_of}
 use Rattle.c_print.specs.Header.{header_text}
 use Rattle.wasm_tree.specs.Bytes.{AreBytes}
+use Rattle.wasm_tree.specs.NamedModule.{NamedModule}
 use Rattle.c_unit.specs.Items.{items_of, header_of}
-use Rattle.c_unit.specs.Shape.{HasShape}
+use Rattle.unit_rules.specs.Shape.{HasShape}
 use Rattle.w2c_sim.specs.declared.translation.Texts.{Texts}
 
 -- the file's bytes spell this module, and it is valid; the module gets this name, of 1 to 1,024 bytes

@@ -6,7 +6,8 @@ ghost use Rattle.wasm_valid.specs.FileVerdict.{Read, IsVerdictOn};
 ghost use Rattle.w2c_sim.specs.Selections.{TranslationTheorem};
 ghost use Rattle.w2c_sim.specs.Translation.{text_of, IsModuleOf, SpellsUnit};
 
-use c_unit::units_do_what_modules_do;
+use unit_meaning::{units_do_what_modules_do, units_of_a_linked_set_link};
+use unit_rules::units_are_proper;
 
 /// The translation theorem: the units that the texts of translated files spell, in any selection and order
 /// that makes a linked set with any hosts, link, and do what the files' modules do, both ways; no run of
@@ -15,6 +16,8 @@ pub fn linked_units_do_what_modules_do()
     ensures { TranslationTheorem }
 {
     units_do_what_modules_do();
+    units_of_a_linked_set_link();
+    units_are_proper();
 }
 
 /// A file has one module at most, so its texts depend on its bytes and the name alone; the verdict on the file
@@ -26,4 +29,6 @@ pub fn texts_spell_units()
     ensures accepted { (bytes name : List ℕ) (tree : Tree) → IsModuleOf bytes name tree → IsVerdictOn bytes (Read tree Accepted) }
     ensures unit { (bytes name : List ℕ) (tree : Tree)
         → IsModuleOf bytes name tree → SpellsUnit (record { name = name; tree = tree }) (text_of tree name) }
-{}
+{
+    units_are_proper();
+}

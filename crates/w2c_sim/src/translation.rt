@@ -10,7 +10,7 @@ ghost use Rattle.c_tree.specs.Spelled.{Formed};
 ghost use Rattle.c_tree.specs.View.{unit_of};
 ghost use Rattle.c_print.specs.Print.{print_of};
 ghost use Rattle.c_print.specs.Header.{header_text};
-ghost use Rattle.c_unit.specs.Sets.{IsAccepted};
+ghost use Rattle.c_unit.specs.Accepted.{IsAccepted};
 ghost use Rattle.w2c_sim.specs.Translation.{AreTextsOf, IsTranslation};
 
 use crate::file_verdict::accept;
@@ -19,6 +19,7 @@ use c_print::{print_header, print_unit};
 use c_tree::{Header, Unit};
 use c_unit::unit;
 use std::alloc::Global;
+use unit_rules::units_are_proper;
 use w2c_base::{Bytes, Memory};
 use wasm_typing::ValidModule;
 
@@ -71,6 +72,7 @@ fn print_texts(alloc: Global, m: &ValidModule, name: &[u8]) -> Result<Texts, Mem
     requires { IsAccepted (record { name = name.now; tree = m.now }) }
     ensures { IfOk result (AreTextsOf m.now name.now) }
 {
+    units_are_proper();
     let (unit, header) = unit(alloc, m, name)?;
     print_both(alloc, &unit, &header)
 }

@@ -12,6 +12,7 @@ use c_print::{print_header, print_item_to};
 use c_tree::Tok;
 use c_unit::{UnitItems, header};
 use std::alloc::Global;
+use unit_rules::units_are_proper;
 use w2c_base::{Bytes, Memory};
 use w2c_io::{Files, WriteAnswer};
 use wasm_typing::ValidModule;
@@ -45,6 +46,7 @@ pub fn write_unit<F: Files>(
 {
     // It says that the module is valid and within the limits, so that its unit is one that a text spells.
     let _ = m.module();
+    units_are_proper();
     let mut items = UnitItems::new(alloc, m, name)?;
     write_items(alloc, &mut items, files)
 }

@@ -1,12 +1,12 @@
 -- What proofs of this crate cite of std, of the crates below and of specs/, passed on from one place. Declares nothing.
 pub use Rattle.std.proofs.Common.{◌≡◌, ℕ, zero, suc, ◌+◌, ◌-◌, ◌*◌, ◌<◌, ◌≤◌, Bool, true, false, ◌&&◌, ◌||◌, ◌≢◌, ◌⊎◌, List, [], ◌∷◌, ◌++◌}
-pub use Rattle.std.proofs.Common.{map, length, get_or, take, drop, replicate, pos, IfOk, IfErr, if◌then◌else◌, OnOk, OnErr, IsTrue, nat_le}
+pub use Rattle.std.proofs.Common.{map, length, get_or, take, drop, replicate, IfOk, IfErr, if◌then◌else◌, OnOk, OnErr, IsTrue, nat_le}
 pub use Rattle.std.proofs.Common.{slice_get, slice_index_or, Some, None, Ok, Err, string_bytes, codes, Option, Result, MatchOption, zip}
 pub use Rattle.std.proofs.Common.{option_and_then, bytes_eq, unwrap_or, sym, refl, ap, ◌∙◌, subst, inl, inr, append_assoc, append-nil}
-pub use Rattle.std.proofs.Common.{add-one, arith, rules, leb-true}
+pub use Rattle.std.proofs.Common.{arith, rules, leb-true}
 pub use Rattle.std.proofs.lemmas.List.{append_cancel_left, length-map}
 pub use Rattle.std.proofs.lemmas.Option.{same_Some}
-pub use Rattle.std.proofs.lemmas.Result.{IfErr-weaker, IfOk-weaker}
+pub use Rattle.std.proofs.lemmas.Result.{IfErr-weaker, IfOk-weaker, on_ok_weaker}
 pub use Rattle.std.specs.List.{AllByRecursion, list_all, list_any, range_with_len}
 pub use Rattle.w2c_base.proofs.Places.{take_next}
 pub use Rattle.w2c_io.proofs.Passed.{both_passed, file_written, finished_in_vain, part_written, passed_so}
@@ -22,15 +22,15 @@ pub use Rattle.w2c_files.proofs.Passing.{all_some, behind_broken, both_written, 
 pub use Rattle.w2c_files.proofs.Standing.{all_stand, at_before, at_behind, at_first, is_one, one_at, put_part, put_whole, stand_whole}
 pub use Rattle.w2c_files.proofs.Standing.{stands_before, stands_behind, whole_begun, written_joined}
 pub use Rattle.w2c_files.specs.Passing.{BreaksOffAt, FailsLast, ReadsAll, ReadsSome, StopsBy, WritesFiles, WritesSome, limited}
-pub use Rattle.w2c_files.specs.Reading.{AreHeld, AreRead, IsUnreadable, Missing as NotThere, Past, StopsReading, TooLong, Unreadable, total}
+pub use Rattle.w2c_files.specs.Reading.{AreRead, IsUnreadable, Missing as NotThere, Past, StopsReading, TooLong, Unreadable, total}
 pub use Rattle.w2c_files.specs.Standing.{AreDistinct, HasText, IsBegun, IsOneOf, Stands, StandsAt, file_names, written}
 pub use Rattle.w2c_files.specs.Words.{names_of, texts}
 pub use Rattle.w2c_files.specs.declared.reading.ReadStop.{ReadStop}
 pub use Rattle.wasm_tree.specs.Bytes.{AreBytes}
 pub use Rattle.wasm_tree.specs.Limits.{most_module_bytes}
 pub use Rattle.wasm_tree.specs.declared.tree.Module.{Module}
-pub use Rattle.wasm_typing.specs.Verdict.{Accepted, IsValid, Invalid as is_invalid}
-pub use Rattle.wasm_spelling.proofs.Whole.{file_takes, one_tree}
+pub use Rattle.wasm_typing.specs.Verdict.{Accepted, Invalid as is_invalid}
+pub use Rattle.wasm_spelling.proofs.Whole.{one_tree}
 pub use Rattle.wasm_spelling.specs.declared.fault.Which.TheVariants.{ModuleBytes, SetBytes}
 pub use Rattle.w2c_sim.specs.Refusals.{IsRefusal}
 pub use Rattle.w2c_sim.specs.Selections.{File, IsTranslated as IsTranslatedFile, TranslationTheorem}
@@ -40,7 +40,7 @@ pub use Rattle.wasm2c_words.specs.CommandLine.{is_set, line_by, line_of, line_of
 pub use Rattle.wasm2c_words.specs.CommandLine.{line_with_runtime, runtime, set, translate, translation}
 pub use Rattle.wasm2c_words.specs.Seen.{seen_generation, seen_line, seen_set, seen_translation}
 pub use Rattle.wasm2c_cli.specs.Example.{two_c, two_call, two_files, two_h, two_run, two_wasm, two_words}
-pub use Rattle.wasm2c_cli.specs.Job.{AreAccepted, AreReadOf, AreSources, AreSourcesBy, IsJob, IsJobBy, IsJobOf, Job, Missing, Refused}
+pub use Rattle.wasm2c_cli.specs.Job.{AreAccepted, AreReadOf, AreSourcesBy, IsJob, IsJobBy, IsJobOf, Job, Missing, Refused}
 pub use Rattle.wasm2c_cli.specs.Job.{Translates, TranslatesBy, Usage, Write, Writes, WritesBy, files_of, module_files}
 pub use Rattle.wasm2c_cli.specs.Lines.{IsLine, line_for, memory_line, read_line, refused_line, status_of, summary_line, usage_line}
 pub use Rattle.wasm2c_cli.specs.Lines.{write_line}

@@ -1,36 +1,21 @@
 -- README's first module: its tree, which is valid, its unit, and their texts; so the job of its words.
-use Rattle.std.specs.Char.{encode_utf8}
-use Rattle.std.specs.Str.{chars}
-use Rattle.wasm2c_cli.proofs.Common.{◌≡◌, ℕ, ◌+◌, Bool, true, false, List, [], ◌∷◌, length, pos, Some, None, codes, Option, MatchOption}
-use Rattle.wasm2c_cli.proofs.Common.{sym, refl, ap, ◌∙◌, subst, arith, leb-true, Contents, Name, Told, written, Module, file_takes}
-use Rattle.wasm2c_cli.proofs.Common.{most_module_bytes, IsValid, header_text_of, text_of, Line, line_of, translate, two_c, two_files, two_h}
-use Rattle.wasm2c_cli.proofs.Common.{two_wasm, two_words, IsJob, IsJobOf, Job, Usage, Write, files_of, most_set_bytes, targets_of, Done}
-use Rattle.wasm2c_cli.proofs.Common.{Answers}
+use Rattle.wasm2c_cli.proofs.Common.{◌≡◌, ℕ, ◌+◌, List, [], ◌∷◌, length, Some, codes, Option, MatchOption, sym, refl, ap, ◌∙◌, subst}
+use Rattle.wasm2c_cli.proofs.Common.{leb-true, Contents, Name, Told, written, most_module_bytes, header_text_of, text_of, Line, line_of}
+use Rattle.wasm2c_cli.proofs.Common.{translate, two_c, two_files, two_h, two_wasm, two_words, IsJob, IsJobOf, Job, Usage, Write, files_of}
+use Rattle.wasm2c_cli.proofs.Common.{most_set_bytes, targets_of, Done, Answers}
 use Rattle.std.specs.Fmt.{digits}
 use Rattle.std.specs.FinMap.{get}
-use Rattle.std.specs.Str.{is_utf8}
 use Rattle.clap.proofs.OnLiterals.{clap_on_literals}
-use Rattle.w2c_base.specs.declared.value.ValType.TheVariants.{I32}
-use Rattle.leb_bytes.specs.Computed.{s32_of, u32_of}
-use Rattle.wasm_tree.specs.Instructions.{end_code, then_code, I32Const, Binary}
-use Rattle.wasm_tree.specs.declared.operators.BinaryOp.TheVariants.{Add}
-use Rattle.wasm_tree.specs.declared.entries.ExportKind.TheVariants.{Func}
-use Rattle.wasm_spelling.specs.ModuleFields.{Spells}
-use Rattle.wasm_spelling.specs.Steps.{bytes_at, checked, number_at, reads, signed32_at}
-use Rattle.wasm_spelling.specs.Reading.{bodies_at, body_at, body_content_at, content_at, exactly_at, export_entry_at, file_at, form_at}
-use Rattle.wasm_spelling.specs.Reading.{func_entry_at, func_type_at, item_at, items_at, kind_at, magic_at, module_at, name_at, part_at}
-use Rattle.wasm_spelling.specs.Reading.{sections_at, times_at, type_at, type_entry_at, utf8_at, version_at, window_at}
-use Rattle.wasm_typing.specs.ModuleFaults.{module_faults}
 use Rattle.wasm_valid.proofs.Verdicts as verdicts
-use Rattle.c_tree.specs.declared.tree.CType.{CType}
-use Rattle.c_tree.specs.declared.tree.CType.TheVariants as c_type
-use Rattle.c_tree.specs.declared.tree.Num.TheVariants.{N32}
-use Rattle.c_tree.specs.declared.tree.COp.TheVariants as op
-use Rattle.c_tree.specs.Tree as tree
 use Rattle.c_print.specs.Print.{print_of}
 use Rattle.c_unit.specs.Items.{items_of}
 use Rattle.program_words.specs.Command.{rows_read}
 use Rattle.wasm2c_words.specs.Command.{values_of}
+use Rattle.wasm_spelling.proofs.WorkedModule.{two_spelled, two_tree}
+use Rattle.wasm_typing.specs.ModuleFaults.{module_faults}
+use Rattle.wasm_typing.specs.Verdict.{IsValid}
+use Rattle.w2c_base.specs.declared.value.ValType.TheVariants.{I32}
+use Rattle.c_print.proofs.WorkedUnit.{two_unit}
 use Rattle.wasm2c_cli.proofs.JobLaws.{one_job}
 
 -- ---- the words
@@ -42,33 +27,7 @@ two_line_is : line_of two_words ≡ Some two_line
 unfolding values_of rows_read clap_on_literals
 two_line_is = refl
 
--- ---- the module
-
-abbrev two_tree : Module
-two_tree = record {
-  types = record { place = 11; ty = record { params = []; result = Some I32 } } ∷ [];
-  imports = [];
-  funcs = record { type_index = 0; place = 18 } ∷ [];
-  tables = [];
-  memories = [];
-  globals = [];
-  exports = record { name = codes "f"; kind = Func; index = 0; name_place = 22; index_place = 25 } ∷ [];
-  start = None;
-  elements = [];
-  data_count = None;
-  segments = [];
-  bodies = record {
-    runs = [];
-    code = then_code 31 (I32Const (pos 40)) (then_code 33 (I32Const (pos 2)) (then_code 35 (Binary I32 Add) end_code));
-    end_place = 36;
-  } ∷ [];
-}
-
-two_spelled : Spells two_tree two_wasm
-unfolding file_at module_at magic_at version_at exactly_at checked reads sections_at part_at content_at window_at times_at type_entry_at
-    func_type_at type_at func_entry_at export_entry_at name_at utf8_at is_utf8 chars encode_utf8 kind_at bodies_at body_at body_content_at
-    items_at item_at form_at bytes_at number_at signed32_at u32_of s32_of
-two_spelled = (file_takes two_wasm two_tree refl, omega arith)
+-- ---- the module, its unit and the texts
 
 two_is_valid : IsValid two_tree
 unfolding module_faults
@@ -76,49 +35,6 @@ two_is_valid = record {
   no_faults = refl;
   bodies = ((I32 ∷ [], ([], refl, refl), (I32 ∷ I32 ∷ [], (I32 ∷ [], refl, refl), (I32 ∷ [], ([], refl, refl), refl))), tt);
 }
-
--- ---- its unit, and the texts
-
-abbrev function : Bool → CType → List ℕ → Option tree.Body → tree.Item
-function is_static result name body =
-    tree.Function (record { is_static = is_static; result = result; name = name; params = (c_type.Void, None) ∷ []; body = body })
-
-abbrev n32 : ℕ → tree.Expr
-n32 n = tree.Number (N32 n)
-
-abbrev set : List ℕ → tree.Expr → tree.Stmt
-set name value = tree.Set name (tree.Value value)
-
-abbrev depth : tree.Expr
-depth = tree.Name (codes "w2c_depth")
-
-abbrev slot : tree.Expr
-slot = tree.Name (codes "i0")
-
-abbrev pub two_unit : List tree.Item
-two_unit =
-    function true c_type.U32 (codes "f0") None
-    ∷ function true c_type.U32 (codes "f0") (Some (record {
-      locals = (c_type.U32, codes "i0", N32 0) ∷ (c_type.U32, codes "i1", N32 0) ∷ [];
-      stmts =
-          tree.If op.Lt depth (n32 1024) (codes "L0")
-          ∷ tree.Call None (tree.Called (codes "w2c_trap")) (tree.Value (n32 8) ∷ [])
-          ∷ tree.Return (tree.Value slot)
-          ∷ tree.Label (codes "L0")
-          ∷ set (codes "w2c_depth") (tree.Op op.Add depth (n32 1))
-          ∷ set (codes "i0") (n32 40)
-          ∷ set (codes "i1") (n32 2)
-          ∷ set (codes "i0") (tree.Op op.Add slot (tree.Name (codes "i1")))
-          ∷ set (codes "w2c_depth") (tree.Op op.Sub depth (n32 1))
-          ∷ tree.Return (tree.Value slot)
-          ∷ [];
-    }))
-    ∷ function false c_type.U32 (codes "w2cZ_twoZ_fZ_f") (Some (record {
-      locals = (c_type.U32, codes "r", N32 0) ∷ [];
-      stmts = tree.Call (Some (codes "r")) (tree.Called (codes "f0")) [] ∷ tree.Return (tree.Value (tree.Name (codes "r"))) ∷ [];
-    }))
-    ∷ function false c_type.Void (codes "w2cZ_twoZ_i") (Some (record { locals = []; stmts = tree.Null ∷ tree.ReturnNone ∷ [] }))
-    ∷ []
 
 two_items : items_of two_tree (codes "two") ≡ two_unit
 unfolding digits

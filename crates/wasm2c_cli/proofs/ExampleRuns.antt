@@ -8,19 +8,17 @@ use Rattle.w2c_base.specs.Run.{Call, CallEnded, Event, Host, Init, Phase, Reply,
 use Rattle.c_tree.specs.Spelled.{CSpells}
 use Rattle.c_tree.specs.Tree.{Item}
 use Rattle.c_tree.proofs.OneUnit.{one_unit}
-use Rattle.c_tree.proofs.TestsTell.{unit_tells}
-use Rattle.c_tree.proofs.WellFormedUnits.{formed}
-use Rattle.c_print.proofs.Spells as print
 use Rattle.c_meaning.specs.Linking.{Program, SymbolCall, called_func}
 use Rattle.c_meaning.specs.State.{Machine, Objects}
 use Rattle.c_meaning.specs.Run.{CRun, Ended, Entry, OutOfSteps, Outcome, Over, after, begin_entry, c_run, c_start, over, run_of}
 use Rattle.c_meaning.proofs.Longer.{after_sum, run_longer}
-use Rattle.wasm2c_cli.proofs.ExampleJob.{two_printed, two_unit}
+use Rattle.c_print.proofs.WorkedUnit.{two_spelled_by, two_unit}
+use Rattle.wasm2c_cli.proofs.ExampleJob.{two_printed}
 
 -- ---- the unit
 
 pub two_spells : CSpells two_unit two_c
-two_spells = subst (CSpells two_unit) two_printed (print.spells two_unit (formed two_unit (unit_tells two_unit refl)))
+two_spells = two_spelled_by two_c two_printed
 
 only_unit : (unit : List Item) → CSpells unit two_c → unit ≡ two_unit
 only_unit unit spelled = one_unit unit two_unit two_c spelled two_spells

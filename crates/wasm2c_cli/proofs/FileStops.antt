@@ -1,14 +1,11 @@
 -- Where reading stops, by the name of the file.
-use Rattle.wasm2c_cli.proofs.Common.{◌≡◌, ℕ, List, [], slice_get, Some, string_bytes, Option, sym, refl, ◌∙◌, subst, inl, inr, same_Some}
-use Rattle.wasm2c_cli.proofs.Common.{Name, Told, Tells, one_at, Past, StopsReading, TooLong, ReadStop, most_module_bytes, ModuleBytes}
-use Rattle.wasm2c_cli.proofs.Common.{SetBytes, IsAtFile, StopsAtLimit, StopsAtRead, StopsAtUnreadable, StopsByReading, most_set_bytes}
-use Rattle.wasm2c_cli.proofs.Common.{PassesLimit, Reason, Limit, Stop}
+use Rattle.wasm2c_cli.proofs.Common.{◌≡◌, ℕ, List, slice_get, Some, string_bytes, Option, sym, refl, ◌∙◌, subst, inl, inr, same_Some, Name}
+use Rattle.wasm2c_cli.proofs.Common.{Told, Tells, one_at, Past, TooLong, ReadStop, most_module_bytes, ModuleBytes, SetBytes, IsAtFile}
+use Rattle.wasm2c_cli.proofs.Common.{StopsAtLimit, StopsAtRead, StopsAtUnreadable, StopsByReading, most_set_bytes, PassesLimit, Reason}
+use Rattle.wasm2c_cli.proofs.Common.{Limit, Stop}
 use Rattle.w2c_files.specs.Stopping.{IsUnread, StopsAt}
 use Rattle.w2c_files.specs.declared.reading.ReadStop.TheVariants as read
 use Rattle.wasm2c_cli.specs.declared.stop.Stop.TheVariants as stops
-
-same_name : (names : List Name) (k : ℕ) (name other : Name) → slice_get names k ≡ Some name → slice_get names k ≡ Some other → name ≡ other
-same_name names k name other at at' = same_Some name other (sym at ∙ at')
 
 module _ (told : Told) (names : List Name) (before after : ℕ) (named : Option Name) where
   abbrev At : ReadStop → Type 0
@@ -24,14 +21,12 @@ module _ (told : Told) (names : List Name) (before after : ℕ) (named : Option 
 
   unread : (k : ℕ) (name : Name) → slice_get names k ≡ Some name → At (read.Unread k)
       → IsUnread most_module_bytes most_set_bytes told names before after named name
-  unread k name at (other, at', why) = subst (λ (n : Name). IsUnread most_module_bytes most_set_bytes told names before after named n)
-      (same_name names k other name at' at) why
+  unread k name at (other, at', why) = rw (same_Some other name (sym at' ∙ at)) at why
 
   too_long : (k : ℕ) (name : Name) → slice_get names k ≡ Some name → At (read.TooLong k)
       → Tells told (λ contents. PassesLimit contents names name (Limit most_module_bytes ModuleBytes))
   too_long k name at (other, at', why) = λ contents tells. inl (
-    subst (λ (n : Name). StopsReading most_module_bytes most_set_bytes contents names n TooLong) (same_name names k other name at' at)
-        (why contents tells),
+    rw (same_Some other name (sym at' ∙ at)) at (why contents tells),
     refl,
   )
 
@@ -39,8 +34,7 @@ module _ (told : Told) (names : List Name) (before after : ℕ) (named : Option 
       → Tells told (λ contents. PassesLimit contents names name (Limit place SetBytes))
   past k place name at (few, other, at', why) = λ contents tells. inr (
     place,
-    subst (λ (n : Name). StopsReading most_module_bytes most_set_bytes contents names n (Past place)) (same_name names k other name at' at)
-        (why contents tells),
+    rw (same_Some other name (sym at' ∙ at)) at (why contents tells),
     refl,
   )
 

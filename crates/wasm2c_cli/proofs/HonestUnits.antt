@@ -1,9 +1,9 @@
 -- The units that were put stand, where the files behave as files.
 use Rattle.wasm2c_cli.proofs.Common.{◌≡◌, ℕ, List, [], ◌∷◌, ◌++◌, Some, Option, refl, subst, inl, inr, Contents, HasFile, Name, Told, Event}
-use Rattle.wasm2c_cli.proofs.Common.{AreHonest, AreDistinct, HasText, Module, header_text_of, text_of, Line, generate, line_of, runtime}
-use Rattle.wasm2c_cli.proofs.Common.{set, translate, AreReadOf, files_of, IsUnitOf, PutsLinked, PutsLinkedUnits, ReadsWhole, Target}
-use Rattle.wasm2c_cli.proofs.Common.{inputs_of, names_of_targets, targets_of, DoTheSameWithOthers, HoldAll, HoldsText, HoldsUnit, StandAll}
-use Rattle.wasm2c_cli.proofs.Common.{WritesLinkedUnits, WritesUnits, texts_made, same_Some}
+use Rattle.wasm2c_cli.proofs.Common.{AreHonest, AreDistinct, HasText, Module, header_text_of, text_of, Line, line_of, runtime, AreReadOf}
+use Rattle.wasm2c_cli.proofs.Common.{files_of, IsUnitOf, PutsLinked, PutsLinkedUnits, ReadsWhole, Target, inputs_of, names_of_targets}
+use Rattle.wasm2c_cli.proofs.Common.{targets_of, DoTheSameWithOthers, HoldAll, HoldsText, HoldsUnit, StandAll, WritesLinkedUnits}
+use Rattle.wasm2c_cli.proofs.Common.{WritesUnits, texts_made, same_Some}
 use Rattle.wasm2c_cli.proofs.HonestTop.{all_held, sources_so, whole_put}
 use Rattle.wasm2c_cli.proofs.JobLaws.{files_distinct}
 use Rattle.wasm2c_cli.proofs.Passed.{distinct_outputs, passed}
@@ -26,10 +26,8 @@ units_hold new (t ∷ targets) (bytes ∷ sources) (m ∷ modules) (unit, held) 
 units_hold new _ _ _ held there = absurd held
 
 distinct_targets : (words : List Name) (line : Line) → line_of words ≡ Some line → AreDistinct (names_of_targets (targets_of line))
-distinct_targets words (translate t) is = distinct_outputs (translate t) (passed words (translate t) is)
-distinct_targets words (set s) is = distinct_outputs (set s) (passed words (set s) is)
-distinct_targets words (generate g) is = distinct_outputs (generate g) (passed words (generate g) is)
 distinct_targets words (runtime dir) is = tt
+distinct_targets words line is = distinct_outputs line (passed words line is)
 
 module _ (words : List Name) (line : Line) (is : line_of words ≡ Some line) (m : Contents) (new : Told) (current after : Option Name)
     (events : List Event) (puts : PutsLinked line events) (honest : AreHonest events (Some m) current new after) where

@@ -68,8 +68,7 @@ module _ (line : Line) (S : Name → Unreadable → Type 0) (R : List (List ℕ)
       → AreSourcesBy R line sources → IsFirstRefused (inputs_of line) sources file reason → WritesBy R line files → ⊥
   refused_not_written sources file reason files read first w = translated_or_not line R files w
       (λ t. accepted_not_first (inputs_of line) t.sources t.modules file reason t.accepted
-      (subst (λ (all : List (List ℕ)). IsFirstRefused (inputs_of line) all file reason)
-      (same_sources line S R ends sources t.sources p read t.read) first))
+      (rw (same_sources line S R ends sources t.sources p read t.read) at first))
       (λ dir is. no_first sources file reason (ap inputs_of is) first)
     where
       no_first : (sources : List (List ℕ)) (file : Name) (reason : Reason) → inputs_of line ≡ []
@@ -98,13 +97,11 @@ module _ (line : Line) (S : Name → Unreadable → Type 0) (R : List (List ℕ)
   same_refusal file other reason r (inr (sources, read, first)) (inl limit) = absurd (limit_not_sources other r sources limit read)
   same_refusal file other reason r (inr (sources, read, first)) (inr (others, read', first')) =
       one_first_refused (inputs_of line) sources file other reason r first
-      (subst (λ (all : List (List ℕ)). IsFirstRefused (inputs_of line) all other r)
-      (sym (same_sources line S R ends sources others p read read')) first')
+      (rw (same_sources line S R ends sources others p read read') first')
 
   one_of_line : ((files others : List (Name × List ℕ)) → WritesBy R line files → WritesBy R line others → files ≡ others)
       → (job other : Job) → IsJobBy S R line job → IsJobBy S R line other → job ≡ other
   one_of_line files_same Usage other j k = absurd j
-  one_of_line files_same (Missing file) Usage j k = absurd k
   one_of_line files_same (Missing file) (Missing other) j k = ap Missing (ends.one_stops file other NotThere NotThere j k).0
   one_of_line files_same (Missing file) (Refused other reason) j k = absurd (missing_not_refused file other reason j k)
   one_of_line files_same (Missing file) (Write files) j k = absurd (stop_not_written file NotThere files j k)
@@ -112,10 +109,10 @@ module _ (line : Line) (S : Name → Unreadable → Type 0) (R : List (List ℕ)
   one_of_line files_same (Refused file reason) (Refused other r) j k =
       let same = same_refusal file other reason r j k in λ i. Refused (same.0 i) (same.1 i)
   one_of_line files_same (Refused file reason) (Write files) j k = absurd (not_refused_and_written file reason files j k)
-  one_of_line files_same _ Usage j k = absurd k
   one_of_line files_same (Write files) (Missing other) j k = absurd (stop_not_written other NotThere files k j)
   one_of_line files_same (Write files) (Refused other reason) j k = absurd (not_refused_and_written other reason files k j)
   one_of_line files_same (Write files) (Write others) j k = ap Write (files_same files others j k)
+  one_of_line files_same _ _ j k = absurd k
 
 same_files : (line : Line) (S : Name → Unreadable → Type 0) (R : List (List ℕ) → Type 0) → EndsOnce (inputs_of line) S R → HasPassed line
     → (files others : List (Name × List ℕ)) → WritesBy R line files → WritesBy R line others → files ≡ others
@@ -161,16 +158,12 @@ files_distinct (t ∷ targets) (m ∷ modules) distinct = (c_file, (header, file
 
 translated_distinct : (line : Line) (contents : Contents) (files : List (Name × List ℕ)) → AreDistinct (names_of_targets (targets_of line))
     → Translates line contents files → AreDistinct (file_names files)
-translated_distinct line contents files distinct t = subst (λ (all : List (Name × List ℕ)). AreDistinct (file_names all)) (sym t.written)
-    (files_distinct (targets_of line) t.modules distinct)
+translated_distinct line contents files distinct t = rw t.written (files_distinct (targets_of line) t.modules distinct)
 
 distinct_of_line : (line : Line) (contents : Contents) (files : List (Name × List ℕ)) → HasPassed line → Writes line contents files
     → AreDistinct (file_names files)
-distinct_of_line (translate t) contents files p w = translated_distinct (translate t) contents files (distinct_outputs (translate t) p) w
-distinct_of_line (set s) contents files p w = translated_distinct (set s) contents files (distinct_outputs (set s) p) w
-distinct_of_line (generate g) contents files p w = translated_distinct (generate g) contents files (distinct_outputs (generate g) p) w
-distinct_of_line (runtime dir) contents files p w = subst (λ (all : List (Name × List ℕ)). AreDistinct (file_names all)) (sym w)
-    (distinct_outputs (runtime dir) p)
+distinct_of_line (runtime dir) contents files p w = rw w (distinct_outputs (runtime dir) p)
+distinct_of_line line contents files p w = translated_distinct line contents files (distinct_outputs line p) w
 
 no_usage : (files : List (Name × List ℕ)) → Write files ≡ Usage → ⊥
 no_usage files e = cc

@@ -1,10 +1,9 @@
 -- What the stop of each form says of its line's job.
 use Rattle.wasm2c_cli.proofs.Common.{◌≡◌, ℕ, List, [], ◌∷◌, length, IfOk, IfErr, OnOk, Some, Ok, Err, string_bytes, Option, Result, refl}
-use Rattle.wasm2c_cli.proofs.Common.{ap, ◌∙◌, subst, inl, inr, IfErr-weaker, IfOk-weaker, Contents, Name, Told, is_one, written, Module}
-use Rattle.wasm2c_cli.proofs.Common.{AreBytes, Generation, Line, generate, line_of, runtime, Translates, files_of, module_files}
-use Rattle.wasm2c_cli.proofs.Common.{AreAllTaken, FinishesLine, FinishesWork, HasPassed, IsGenerated, IsTakenFile, StopsTranslating}
-use Rattle.wasm2c_cli.proofs.Common.{StopsWriting, inputs_of, target, targets_of, runtime_files, KeepsCurrent, StopsLine, StopsWork, Stop}
-use Rattle.wasm2c_cli.proofs.Common.{Finished}
+use Rattle.wasm2c_cli.proofs.Common.{ap, ◌∙◌, inl, inr, IfErr-weaker, IfOk-weaker, Contents, Name, Told, is_one, written, Module, AreBytes}
+use Rattle.wasm2c_cli.proofs.Common.{Generation, Line, generate, line_of, runtime, Translates, files_of, module_files, AreAllTaken}
+use Rattle.wasm2c_cli.proofs.Common.{FinishesLine, FinishesWork, HasPassed, IsGenerated, IsTakenFile, StopsTranslating, StopsWriting}
+use Rattle.wasm2c_cli.proofs.Common.{inputs_of, target, targets_of, runtime_files, KeepsCurrent, StopsLine, StopsWork, Stop, Finished}
 use Rattle.wasm2c_cli.specs.declared.stop.Stop.TheVariants as stops
 use Rattle.wasm2c_cli.specs.declared.work.Finished.TheVariants as finished
 use Rattle.wasm2c_cli.proofs.ModuleFiles.{one_of_targets}
@@ -96,8 +95,7 @@ module _ (old new : Told) (r r' w w' : ℕ) (named : Option Name) where
 
   pub runtime_stopped : {A : Type 0} (dir : Name) (files : List (Name × List ℕ)) (result : Result A Stop) → files ≡ runtime_files dir
       → IfErr result (StopsWriting old new files w w' named) → IfErr result (StopsLine (runtime dir) old new r r' w w' named)
-  runtime_stopped dir files result same why = IfErr-weaker result _ _ (runtime_stops dir)
-      (subst (λ (l : List (Name × List ℕ)). IfErr result (StopsWriting old new l w w' named)) same why)
+  runtime_stopped dir files result same why = IfErr-weaker result _ _ (runtime_stops dir) (rw same at why)
 
 -- the files of the runtime under their names
 pub runtime_finished : (old new : Told) (dir : Name) (files : List (Name × List ℕ)) (result : Result Finished Stop)

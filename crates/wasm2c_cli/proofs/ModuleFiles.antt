@@ -1,7 +1,7 @@
 -- The files of modules, one module after another.
 use Rattle.wasm2c_cli.proofs.Common.{◌≡◌, ℕ, zero, suc, ◌+◌, ◌<◌, ◌≤◌, List, [], ◌∷◌, ◌++◌, map, length, take, drop, OnOk, OnErr, slice_get}
 use Rattle.wasm2c_cli.proofs.Common.{slice_index_or, Some, Ok, Err, string_bytes, Option, Result, sym, refl, ap, ◌∙◌, subst, inl, inr}
-use Rattle.wasm2c_cli.proofs.Common.{add-one, arith, AllByRecursion, take_next, both_passed, Faulted, Name, Told, holding, Event, Passes}
+use Rattle.wasm2c_cli.proofs.Common.{arith, AllByRecursion, take_next, both_passed, Faulted, Name, Told, holding, Event, Passes}
 use Rattle.wasm2c_cli.proofs.Common.{WriteAnswer, both_written, at_before, at_behind, at_first, stands_before, stands_behind}
 use Rattle.wasm2c_cli.proofs.Common.{written_joined, WritesFiles, IsBegun, IsOneOf, Stands, StandsAt, file_names, written, Module, files_of}
 use Rattle.wasm2c_cli.proofs.Common.{module_files, IsNamed, StopsAtFile, StopsWriting, seen_target, seen_targets, EndsWriting}
@@ -12,6 +12,9 @@ use Rattle.wasm2c_cli.specs.declared.plan.Target.{Target}
 use Rattle.wasm2c_cli.specs.declared.stop.Stop.TheVariants as stops
 use Rattle.wasm2c_cli.specs.Plan as plan
 use Rattle.wasm2c_cli.proofs.Passing.{ends_among}
+use Rattle.std.proofs.Common.{min, take_all}
+use Rattle.std.proofs.lemmas.List.{length-map, length-take, map_push}
+use Rattle.w2c_base.proofs.Places.{around, seen_at}
 
 -- ---- what holds, whatever the answer
 
@@ -50,10 +53,9 @@ stops_at old new files before after named answer file _ stands faulted is = absu
 files_joined : (ts us : List plan.Target) (ms ns : List Module) → length ms ≡ length ts
     → files_of (ts ++ us) (ms ++ ns) ≡ files_of ts ms ++ files_of us ns
 files_joined [] us [] ns same = refl
-files_joined [] us (m ∷ ms) ns same = absurd (omega (arith, same))
-files_joined (t ∷ ts) us [] ns same = absurd (omega (arith, same))
 files_joined (t ∷ ts) us (m ∷ ms) ns same =
     ap (λ (l : List (Name × List ℕ)). module_files t m ++ l) (files_joined ts us ms ns (omega (arith, same)))
+files_joined _ us _ ns same = absurd (omega (arith, same))
 
 -- the modules at a place, and those in front of it
 module _ (targets : List plan.Target) (modules : List Module) (k : ℕ) (t : plan.Target) (m : Module)
@@ -61,32 +63,16 @@ module _ (targets : List plan.Target) (modules : List Module) (k : ℕ) (t : pla
   abbrev rest : List (Name × List ℕ)
   rest = files_of (drop (suc k) targets) (drop (suc k) modules)
 
-  split : {A : Type 0} (xs : List A) (j : ℕ) (x : A) → slice_get xs j ≡ Some x → xs ≡ take j xs ++ x ∷ drop (suc j) xs
-  split [] j x is = cc
-  split (y ∷ ys) zero x is = let same : y ≡ x = cc in λ i. same i ∷ ys
-  split (y ∷ ys) (suc j) x is = ap (λ (l : List _). y ∷ l) (split ys j x is)
-
-  front : {A B : Type 0} (xs : List A) (ys : List B) (j : ℕ) → length xs ≡ length ys → length (take j xs) ≡ length (take j ys)
-  front [] [] zero same = refl
-  front [] [] (suc j) same = refl
-  front [] (y ∷ ys) j same = absurd (omega (arith, same))
-  front (x ∷ xs) [] j same = absurd (omega (arith, same))
-  front (x ∷ xs) (y ∷ ys) zero same = refl
-  front (x ∷ xs) (y ∷ ys) (suc j) same = ap suc (front xs ys j (omega (arith, same)))
+  front : length (take k modules) ≡ length (take k targets)
+  front = length-take k modules ∙ ap (min k) many ∙ sym (length-take k targets)
 
   all_files : files_of targets modules ≡ files_of (take k targets) (take k modules) ++ (module_files t m ++ rest)
-  all_files = (λ i. files_of (split targets k t at i) (split modules k m at' i))
-      ∙ files_joined (take k targets) (t ∷ drop (suc k) targets) (take k modules) (m ∷ drop (suc k) modules) (front modules targets k many)
-
-  next : {A : Type 0} (xs : List A) (j : ℕ) (x : A) → slice_get xs j ≡ Some x → take (suc j) xs ≡ take j xs ++ x ∷ []
-  next [] j x is = cc
-  next (y ∷ ys) zero x is = let same : y ≡ x = cc in λ i. same i ∷ []
-  next (y ∷ ys) (suc j) x is = ap (λ (l : List _). y ∷ l) (next ys j x is)
+  all_files = (λ i. files_of (around targets k t at i) (around modules k m at' i))
+      ∙ files_joined (take k targets) (t ∷ drop (suc k) targets) (take k modules) (m ∷ drop (suc k) modules) front
 
   next_files : files_of (take (k + 1) targets) (take (k + 1) modules) ≡ files_of (take k targets) (take k modules) ++ module_files t m
-  next_files = (λ i. files_of (take (add-one k i) targets) (take (add-one k i) modules))
-      ∙ (λ i. files_of (next targets k t at i) (next modules k m at' i))
-      ∙ files_joined (take k targets) (t ∷ []) (take k modules) (m ∷ []) (front modules targets k many)
+  next_files = (λ i. files_of (take_next targets k t at i) (take_next modules k m at' i))
+      ∙ files_joined (take k targets) (t ∷ []) (take k modules) (m ∷ []) front
 
   module _ (old before new : Told) (so_far : before ≡ written old (files_of (take k targets) (take k modules))) where
     pub one_more : new ≡ written before (module_files t m) → new ≡ written old (files_of (take (k + 1) targets) (take (k + 1) modules))
@@ -155,8 +141,7 @@ named_joined (x ∷ ts) t all one = (all.0, named_joined ts t all.1 one)
 
 pub named_more : (ts : List plan.Target) (k : ℕ) (t : plan.Target) → slice_get ts k ≡ Some t → AllByRecursion IsNamed (take k ts)
     → IsNamed t → AllByRecursion IsNamed (take (k + 1) ts)
-named_more ts k t at all one =
-    subst (λ (l : List plan.Target). AllByRecursion IsNamed l) (sym (take_next ts k t at)) (named_joined (take k ts) t all one)
+named_more ts k t at all one = rw (take_next ts k t at) (named_joined (take k ts) t all one)
 
 -- ---- the names of the files
 
@@ -171,30 +156,15 @@ one_of_targets (t ∷ ts) (m ∷ ms) name (inr (inr one)) = inr (inr (one_of_tar
 -- ---- the targets of a set
 
 pub seen_more : (ts more : List Target) (t : Target) → more ≡ ts ++ t ∷ [] → seen_targets more ≡ seen_targets ts ++ seen_target t ∷ []
-seen_more ts more t same = ap seen_targets same ∙ joined ts
-  where
-    joined : (xs : List Target) → seen_targets (xs ++ t ∷ []) ≡ seen_targets xs ++ seen_target t ∷ []
-    joined [] = refl
-    joined (x ∷ xs) = ap (λ (l : List plan.Target). seen_target x ∷ l) (joined xs)
-
-pub mapped_at : (f : Name → plan.Target) (names : List Name) (k : ℕ) (name : Name) → slice_get names k ≡ Some name
-    → slice_get (map f names) k ≡ Some (f name)
-mapped_at f [] k name at = cc
-mapped_at f (n ∷ names) zero name at = let same : n ≡ name = cc in λ i. Some (f (same i))
-mapped_at f (n ∷ names) (suc k) name at = mapped_at f names k name at
+seen_more ts more t same = ap seen_targets same ∙ map_push seen_target ts t
 
 pub one_more_target : (f : Name → plan.Target) (names : List Name) (k : ℕ) (name : Name) (ts more : List Target) (t : Target)
     → slice_get names k ≡ Some name → seen_targets ts ≡ take k (map f names) → seen_target t ≡ f name → more ≡ ts ++ t ∷ []
     → seen_targets more ≡ take (k + 1) (map f names)
 one_more_target f names k name ts more t at so_far is same =
     seen_more ts more t same ∙ (λ i. so_far i ++ is i ∷ [])
-    ∙ sym (take_next (map f names) k (f name) (mapped_at f names k name at))
+    ∙ sym (take_next (map f names) k (f name) (seen_at f names k name at))
 
 pub all_targets : (f : Name → plan.Target) (names : List Name) (k : ℕ) (ts : List Target) → k ≡ length names
     → seen_targets ts ≡ take k (map f names) → seen_targets ts ≡ map f names
-all_targets f names k ts end so_far = so_far ∙ whole names k end
-  where
-    whole : (ns : List Name) (j : ℕ) → j ≡ length ns → take j (map f ns) ≡ map f ns
-    whole [] j is = ap (λ n. take n []) is
-    whole (n ∷ ns) zero is = absurd (omega (arith, is))
-    whole (n ∷ ns) (suc j) is = ap (λ (l : List plan.Target). f n ∷ l) (whole ns j (omega (arith, is)))
+all_targets f names k ts end so_far = so_far ∙ take_all k (map f names) (omega (arith, end, length-map names f))

@@ -1,10 +1,11 @@
 -- Reading files ends in one way: they all give bytes, or it stops at one of them.
 use Rattle.wasm2c_cli.proofs.Common.{◌≡◌, ℕ, ◌+◌, ◌≤◌, List, [], ◌∷◌, ◌++◌, length, Ok, Err, Result, sym, refl, ap, ◌∙◌, subst, arith}
-use Rattle.wasm2c_cli.proofs.Common.{Contents, Name, Event, Read, ReadAnswer, ReadsAll, AreRead, NotThere, Past, StopsReading, TooLong}
-use Rattle.wasm2c_cli.proofs.Common.{Unreadable, total, most_module_bytes, ReadsWhole, StopsAfter, StopsByAnswer, most_set_bytes}
+use Rattle.wasm2c_cli.proofs.Common.{Contents, Name, Event, Read, ReadAnswer, AreRead, NotThere, Past, StopsReading, TooLong, Unreadable}
+use Rattle.wasm2c_cli.proofs.Common.{total, most_module_bytes, ReadsWhole, StopsAfter, StopsByAnswer, most_set_bytes}
 use Rattle.w2c_io.specs.declared.answers.ReadAnswer.TheVariants as reading
-use Rattle.w2c_files.proofs.Given.{gave_last, one_answer, one_given, one_last}
+use Rattle.w2c_files.proofs.Given.{gave_last, one_answer, one_given}
 use Rattle.w2c_files.proofs.Stops.{no_stop, one_stop, same_bytes}
+use Rattle.std.proofs.lemmas.List.{same_from_push}
 
 pub record EndsOnce (names : List Name) (Stops : Name → Unreadable → Type 0) (Reads : List (List ℕ) → Type 0) : Type 0 where
   pub one_stops : (file other : Name) (why reason : Unreadable) → Stops file why → Stops other reason → (file ≡ other) × (why ≡ reason)
@@ -65,21 +66,17 @@ module _ (given : List Event) (names : List Name) where
   one_after : (file other : Name) (why reason : Unreadable) → StopsAfter names given file why → StopsAfter names given other reason
       → (file ≡ other) × (why ≡ reason)
   one_after file other why reason s t =
-      let last = one_last s.first t.first (Read file most_module_bytes s.answer) (Read other most_module_bytes t.answer)
+      let last = same_from_push s.first t.first (Read file most_module_bytes s.answer) (Read other most_module_bytes t.answer)
       (sym s.calls ∙ t.calls) in
       let answers = one_answer file other most_module_bytes s.answer t.answer last.1 in
-      let all = one_given most_module_bytes s.front t.front s.all t.all s.first s.read
-      (subst (λ (es : List Event). ReadsAll most_module_bytes t.front t.all es) (sym last.0) t.read) in (
+      let all = one_given most_module_bytes s.front t.front s.all t.all s.first s.read (rw last.0 t.read) in (
         answers.0,
-        one_reason (total t.all) t.answer why reason
-            (subst (λ (a : Result (List ℕ) ReadAnswer). StopsByAnswer (total t.all) a why) answers.1
-            (subst (λ (l : List (List ℕ)). StopsByAnswer (total l) s.answer why) all s.stops)) t.stops,
+        one_reason (total t.all) t.answer why reason (rw (all, answers.1) at s.stops) t.stops,
       )
 
   after_or_whole : (file : Name) (why : Unreadable) (all : List (List ℕ)) → StopsAfter names given file why → ReadsWhole names given all → ⊥
   after_or_whole file why all s w =
-      let last = gave_last most_module_bytes names all s.first (Read file most_module_bytes s.answer)
-      (subst (λ (es : List Event). ReadsAll most_module_bytes names all es) s.calls w.calls) in
+      let last = gave_last most_module_bytes names all s.first (Read file most_module_bytes s.answer) (rw s.calls at w.calls) in
       let answers = one_answer file last.name most_module_bytes s.answer (Ok last.bytes) last.is in
       let same = one_given most_module_bytes s.front last.front s.all last.before s.first s.read last.gave in
       let sum = last.sum in let before = ap total same in let together = w.together in

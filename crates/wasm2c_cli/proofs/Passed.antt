@@ -7,7 +7,6 @@ use Rattle.wasm2c_cli.proofs.Common.{generation, in_range, is_set, line_by, line
 use Rattle.wasm2c_cli.proofs.Common.{line_with_output, line_with_runtime, runtime, set, translate, translation, HasName, HasPassed}
 use Rattle.wasm2c_cli.proofs.Common.{names_of_targets, outputs_of, target_in}
 use Rattle.std.specs.Str.Parse.{digits_value}
-use Rattle.std.proofs.lemmas.Slice.Eq.{bytes_eq-Decides}
 use Rattle.std.proofs.lemmas.Bool.{not-true, or_parts}
 use Rattle.w2c_base.proofs.Conjunctions.{both_hold}
 use Rattle.wasm2c_words.specs.Command.{Values, values_of}
@@ -16,7 +15,7 @@ use Rattle.w2c_files.specs.CFile.{is_c_file}
 use Rattle.wasm2c_words.specs.Names.{are_distinct, header_name_of, module_name_of}
 use Rattle.wasm2c_words.specs.SetFiles.{files_of}
 use Rattle.wasm2c_words.proofs.HeaderName.{is_apart}
-use Rattle.wasm2c_words.proofs.SetFiles.{files_are_distinct}
+use Rattle.wasm2c_words.proofs.SetFiles.{equal_not, files_are_distinct}
 
 -- what is given where a test is passed, was given since it was
 given : {A : Type 0} (b : Bool) (x y : A) → ◌≡◌ {A = Option A} (if b then Some x else None) (Some y) → (b ≡ true) × (x ≡ y)
@@ -46,9 +45,8 @@ translation_passed input output name line is =
 
 output_passed : (output : Name) (name : Option (List ℕ)) (files : List Name) (line : Line) → line_with_output output name files ≡ Some line
     → HasPassed line
-output_passed output name [] line is = absurd (cc)
 output_passed output name (input ∷ []) line is = translation_passed input output (unwrap_or name (module_name_of input)) line is
-output_passed output name (input ∷ other ∷ files) line is = absurd (cc)
+output_passed output name _ line is = absurd (cc)
 
 dir_passed : (dir : Name) (name : Option (List ℕ)) (files : List Name) (line : Line) → line_with_dir dir name files ≡ Some line
     → HasPassed line
@@ -94,8 +92,7 @@ count_passed count output name (file ∷ files) line is = absurd (cc)
 runtime_passed : (dir : Name) (name : Option (List ℕ)) (files : List Name) (line : Line) → line_with_runtime dir name files ≡ Some line
     → HasPassed line
 runtime_passed dir None [] line is = let same : runtime dir ≡ line = cc in subst HasPassed same tt
-runtime_passed dir None (file ∷ files) line is = absurd (cc)
-runtime_passed dir (Some name) files line is = absurd (cc)
+runtime_passed dir _ _ line is = absurd (cc)
 
 -- ---- the options
 
@@ -118,15 +115,9 @@ passed words line is = values_passed (values_of words) line is
 
 -- ---- names that are distinct
 
-equal_not : (name other : Name) → bytes_eq other name ≡ false → name ≡ other → ⊥
-equal_not name other differ same =
-    let yes : bytes_eq other name ≡ true = (bytes_eq-Decides other name).1 (sym same) in
-    let no : false ≡ true = sym differ ∙ yes in
-    cc
-
 is_no_other : (name : Name) (names : List Name) → list_any (λ other. bytes_eq other name) names ≡ false → IsOneOf name names → ⊥
 is_no_other name [] none one = absurd one
-is_no_other name (other ∷ names) none (inl same) = equal_not name other (or_parts _ _ none).0 same
+is_no_other name (other ∷ names) none (inl same) = equal_not other name (or_parts _ _ none).0 (sym same)
 is_no_other name (other ∷ names) none (inr one) = is_no_other name names (or_parts _ _ none).1 one
 
 pub distinct_names : (names : List Name) → are_distinct names ≡ true → AreDistinct names

@@ -25,10 +25,8 @@ all_read_first names all given reads = all_in_order most_module_bytes names all 
 pub many_read : (each : ℕ) (names : List Name) (all : List (List ℕ)) (events : List Event) → ReadsAll each names all events
     → length all ≡ length names
 many_read each [] [] events reads = refl
-many_read each [] (b ∷ all) events reads = absurd reads
-many_read each (n ∷ names) [] events reads = absurd reads
-many_read each (n ∷ names) (b ∷ all) [] reads = absurd reads
 many_read each (n ∷ names) (b ∷ all) (e ∷ events) reads = ap suc (many_read each names all events reads.1)
+many_read each _ _ _ reads = absurd reads
 
 -- ---- where reading stops
 
@@ -36,24 +34,19 @@ many_read each (n ∷ names) (b ∷ all) (e ∷ events) reads = ap suc (many_rea
 name_behind : (front rest : List Name) (name file : Name) (k : ℕ) → k ≡ length front → slice_get (front ++ name ∷ rest) k ≡ Some file
     → name ≡ file
 name_behind [] rest name file zero many at = cc
-name_behind [] rest name file (suc k) many at = absurd (omega (arith, many))
-name_behind (n ∷ front) rest name file zero many at = absurd (omega (arith, many))
 name_behind (n ∷ front) rest name file (suc k) many at = name_behind front rest name file k (omega (arith, many)) at
+name_behind _ rest name file _ many at = absurd (omega (arith, many))
 
 by_unread : (left number before : ℕ) (answer : Result (List ℕ) ReadAnswer) (k : ℕ) → StopsBy left number answer (read.Unread k)
     → (k ≡ number) × StopsByAnswer before answer NotThere
-by_unread left number before (Ok bytes) k is = absurd is
 by_unread left number before (Err reading.Absent) k is = (is, tt)
 by_unread left number before (Err reading.Failed) k is = (is, tt)
-by_unread left number before (Err reading.TooLong) k is = absurd is
-by_unread left number before (Err reading.Memory) k is = absurd is
+by_unread left number before _ k is = absurd is
 
 by_length : (left number before : ℕ) (answer : Result (List ℕ) ReadAnswer) (k : ℕ) → StopsBy left number answer (read.TooLong k)
     → (k ≡ number) × StopsByAnswer before answer TooLong
-by_length left number before (Ok bytes) k is = absurd is
-by_length left number before (Err reading.Absent) k is = absurd is
 by_length left number before (Err reading.TooLong) k is = (is, tt)
-by_length left number before (Err _) k is = absurd is
+by_length left number before _ k is = absurd is
 
 by_place : (number before : ℕ) (answer : Result (List ℕ) ReadAnswer) (k place : ℕ)
     → StopsBy (most_set_bytes - before) number answer (read.Past k place) → (k ≡ number) × StopsByAnswer before answer (Past place)
@@ -112,8 +105,7 @@ module _ (names : List Name) (given : List Event) where
   ends_at_limit : (limit : Reason) (k : ℕ) (stop : Stop)
       → ((file : Name) → slice_get names k ≡ Some file → PassesLimitBy (StopsAfter names given file) limit)
       → StopsAtLimit limit names k stop → EndsReading names given stop
-  ends_at_limit limit k (stops.Refused name reason) passes (is, at) =
-      subst (λ (r : Reason). PassesLimitBy (StopsAfter names given (string_bytes name)) r) (sym is) (passes (string_bytes name) at)
+  ends_at_limit limit k (stops.Refused name reason) passes (is, at) = rw is (passes (string_bytes name) at)
   ends_at_limit limit k stops.Memory passes is = tt
   ends_at_limit limit k _ passes is = absurd is
 
@@ -155,9 +147,7 @@ not_finished old begun middle new name text (Err why) begins put ends =
 
 ends_at : (files : List (Name × List ℕ)) (answer : WriteAnswer) (file : Name) (put : List Event) (stop : Stop)
     → BreaksOffAt files file answer put → StopsAtFile answer file stop → EndsWriting files stop put
-ends_at files answer file put (stops.Unwritten name) broken (failed, same) =
-    subst (λ (n : Name). BreaksOffAt files n writing.Failed put) (sym same)
-    (subst (λ (a : WriteAnswer). BreaksOffAt files file a put) failed broken)
+ends_at files answer file put (stops.Unwritten name) broken (failed, same) = rw same (rw failed at broken)
 ends_at files answer file put stops.Memory broken is = broken_some files file answer put broken
 ends_at files answer file put _ broken is = absurd is
 
@@ -168,8 +158,7 @@ pub first_ends : (old new : List Event) (name file : Name) → file ≡ name →
 first_ends old new name file same text rest answer stop passed is =
     passed_so old new (BreaksOff file text answer) (EndsWriting ((name, text) ∷ rest) stop)
     (λ put broken. ends_at ((name, text) ∷ rest) answer name put stop
-    (first_broken name text rest answer put (subst (λ (n : Name). BreaksOff n text answer put) same broken))
-    (subst (λ (n : Name). StopsAtFile answer n stop) same is)) passed
+    (first_broken name text rest answer put (subst (λ (n : Name). BreaksOff n text answer put) same broken)) (rw same at is)) passed
 
 module _ (old middle new : List Event) (name other first second : Name) (same : first ≡ name) (same' : second ≡ other)
     (text more : List ℕ) where
@@ -183,8 +172,7 @@ module _ (old middle new : List Event) (name other first second : Name) (same : 
       (λ front back wrote breaks. ends_at ((name, text) ∷ (other, more) ∷ []) answer other (front ++ back) stop
       (behind_broken ((name, text) ∷ []) ((other, more) ∷ []) other answer front back
       (one_written name text front (subst (λ (n : Name). WritesFile n text front) same wrote))
-      (first_broken other more [] answer back (subst (λ (n : Name). BreaksOff n more answer back) same' breaks)))
-      (subst (λ (n : Name). StopsAtFile answer n stop) same' is))
+      (first_broken other more [] answer back (subst (λ (n : Name). BreaksOff n more answer back) same' breaks))) (rw same' at is))
       one broken
 
   pub two_written : Passes old middle (WritesFile first text) → Passes middle new (WritesFile second more)

@@ -1,11 +1,11 @@
 -- What passes through the files for each form of a line.
 use Rattle.wasm2c_cli.proofs.Common.{◌≡◌, ℕ, ◌≤◌, List, [], ◌∷◌, ◌++◌, length, IfErr, OnOk, Some, Ok, Err, Result, sym, refl, subst, inl}
-use Rattle.wasm2c_cli.proofs.Common.{inr, append-nil, IfErr-weaker, AllByRecursion, both_passed, passed_so, Name, Event, Passes, ReadsAll}
-use Rattle.wasm2c_cli.proofs.Common.{WritesFiles, total, Module, AreBytes, most_module_bytes, Generation, Line, generate, line_of, runtime}
-use Rattle.wasm2c_cli.proofs.Common.{Write, files_of, module_files, AreTaken, HasPassed, IsNamed, IsTakenFile, StopsAccepting, AllAccepted}
-use Rattle.wasm2c_cli.proofs.Common.{EndsLine, EndsTranslating, EndsWriting, PassesWhole, PassesWork, TranslatesAll, TriesLine}
-use Rattle.wasm2c_cli.proofs.Common.{TriesReading, TriesTranslating, TriesWork, IsJobOver, inputs_of, most_set_bytes, target, targets_of}
-use Rattle.wasm2c_cli.proofs.Common.{runtime_files, Stop}
+use Rattle.wasm2c_cli.proofs.Common.{inr, append-nil, IfErr-weaker, on_ok_weaker, AllByRecursion, both_passed, passed_so, Name, Event}
+use Rattle.wasm2c_cli.proofs.Common.{Passes, ReadsAll, WritesFiles, total, Module, AreBytes, most_module_bytes, Generation, Line, generate}
+use Rattle.wasm2c_cli.proofs.Common.{line_of, runtime, Write, files_of, module_files, AreTaken, HasPassed, IsNamed, IsTakenFile}
+use Rattle.wasm2c_cli.proofs.Common.{StopsAccepting, AllAccepted, EndsLine, EndsTranslating, EndsWriting, PassesWhole, PassesWork}
+use Rattle.wasm2c_cli.proofs.Common.{TranslatesAll, TriesLine, TriesReading, TriesTranslating, TriesWork, IsJobOver, inputs_of}
+use Rattle.wasm2c_cli.proofs.Common.{most_set_bytes, target, targets_of, runtime_files, Stop}
 use Rattle.wasm2c_cli.specs.declared.stop.Stop.TheVariants as stops
 use Rattle.wasm2c_cli.specs.Plan as plan
 use Rattle.wasm2c_cli.proofs.LineStops.{IsOfFiles}
@@ -110,36 +110,24 @@ module _ (inputs : List Name) (targets : List plan.Target) (old new : List Event
 
 -- ---- a line of one file, and a set
 
+-- the files of modules that are accepted are the line's job
+files_job : (line : Line) (given : List Event) (modules : List Module) → IsOfFiles line → AllAccepted (inputs_of line) given modules
+    → IsJobOver line given (Write (files_of (targets_of line) modules))
+files_job (generate g) given modules of all = absurd of
+files_job (runtime dir) given modules of all = absurd of
+files_job line given modules of all =
+    record { sources = all.sources; modules = modules; read = all.read; accepted = all.accepted; written = refl }
+
 files_ended : (line : Line) (stop : Stop) (given put : List Event) → IsOfFiles line
     → EndsTranslating (inputs_of line) (targets_of line) given put stop → EndsLine line given put stop
 files_ended (generate g) stop given put of why = absurd of
 files_ended (runtime dir) stop given put of why = absurd of
-files_ended line stops.Usage given put of why = why
-files_ended line (stops.Refused name reason) given put of why = why
-files_ended line (stops.Unread name) given put of why = why
-files_ended line (stops.Unwritten name) given put of (modules, all, broken) = (
-  files_of (targets_of line) modules,
-  record {
-    sources = all.sources;
-    modules = modules;
-    read = all.read;
-    accepted = all.accepted;
-    written = refl;
-  },
-  broken,
-)
+files_ended line (stops.Unwritten name) given put of (modules, all, broken) =
+    (files_of (targets_of line) modules, files_job line given modules of all, broken)
 files_ended line stops.Memory given put of (inl none) = inl none
-files_ended line stops.Memory given put of (inr (modules, all, some)) = inr (
-  files_of (targets_of line) modules,
-  record {
-    sources = all.sources;
-    modules = modules;
-    read = all.read;
-    accepted = all.accepted;
-    written = refl;
-  },
-  some,
-)
+files_ended line stops.Memory given put of (inr (modules, all, some)) =
+    inr (files_of (targets_of line) modules, files_job line given modules of all, some)
+files_ended line _ given put of why = why
 
 pub files_tried : {A : Type 0} (old new : List Event) (result : Result A Stop) (line : Line) → IsOfFiles line
     → IfErr result (λ stop. Passes old new (TriesTranslating (inputs_of line) (targets_of line) stop))
@@ -154,69 +142,52 @@ files_tried old new result line of = IfErr-weaker result _ _
       ends = files_ended line stop tried.given tried.put of tried.ends;
     }))
 
--- ---- a generated module
+-- ---- a line without reads
 
-module _ (g : Generation) (bytes : List ℕ) (m : Module) (taken : IsTakenFile g bytes m) where
-  abbrev files : List (Name × List ℕ)
-  files = module_files (target g.output g.module_name) m
-
-  job : IsJobOver (generate g) [] (Write files)
-  job = record {
-    sources = bytes ∷ [];
-    modules = m ∷ [];
-    read = (bytes, taken.file, refl);
-    accepted = (taken.accepted, tt);
-    written = refl;
-  }
-
-  generation_ended : (stop : Stop) (events : List Event) → EndsWriting files stop events → TriesLine (generate g) stop events
-  generation_ended stop events why =
-      record { given = []; put = events; split = refl; reads = none_read []; ends = ends stop why }
+module _ (line : Line) (files : List (Name × List ℕ)) (job : IsJobOver line [] (Write files)) where
+  put_ended : (stop : Stop) (events : List Event) → EndsWriting files stop events → TriesLine line stop events
+  put_ended stop events why = record { given = []; put = events; split = refl; reads = none_read (inputs_of line); ends = ends stop why }
     where
-      ends : (stop : Stop) → EndsWriting files stop events → EndsLine (generate g) [] events stop
+      ends : (stop : Stop) → EndsWriting files stop events → EndsLine line [] events stop
       ends (stops.Unwritten name) broken = (files, job, broken)
       ends stops.Memory some = inr (files, job, some)
       ends _ why = absurd why
 
+  put_tried : {A : Type 0} (old new : List Event) (result : Result A Stop) → IfErr result (λ stop. Passes old new (EndsWriting files stop))
+      → IfErr result (λ stop. Passes old new (TriesLine line stop))
+  put_tried old new result = IfErr-weaker result _ _
+      (λ stop. passed_so old new (EndsWriting files stop) (TriesLine line stop) (λ events why. put_ended stop events why))
+
+-- a generated module
+module _ (g : Generation) (bytes : List ℕ) (m : Module) (taken : IsTakenFile g bytes m) where
+  abbrev files : List (Name × List ℕ)
+  files = module_files (target g.output g.module_name) m
+
   module _ {A : Type 0} (old new : List Event) (result : Result A Stop) where
     pub generation_tried : IfErr result (λ stop. Passes old new (EndsWriting files stop))
         → IfErr result (λ stop. Passes old new (TriesLine (generate g) stop))
-    generation_tried = IfErr-weaker result _ _
-        (λ stop. passed_so old new (EndsWriting files stop) (TriesLine (generate g) stop) (λ events why. generation_ended stop events why))
+    generation_tried = put_tried (generate g) files (record {
+      sources = bytes ∷ [];
+      modules = m ∷ [];
+      read = (bytes, taken.file, refl);
+      accepted = (taken.accepted, tt);
+      written = refl;
+    }) old new result
 
     pub generation_passed : AreBytes g.module_name → OnOk result (Passes old new (WritesFiles files))
         → OnOk result (Passes old new (PassesWhole (generate g)))
-    generation_passed named = by_result result
-      where
-        by_result : (r : Result A Stop) → OnOk r (Passes old new (WritesFiles files)) → OnOk r (Passes old new (PassesWhole (generate g)))
-        by_result (Ok x) wrote = passed_so old new (WritesFiles files) (PassesWhole (generate g))
-            (λ events whole. record { bytes = bytes; generated = m; taken = taken; named = named; files = whole }) wrote
-        by_result (Err stop) wrote = tt
+    generation_passed named = on_ok_weaker result (passed_so old new (WritesFiles files) (PassesWhole (generate g))
+        (λ events whole. record { bytes = bytes; generated = m; taken = taken; named = named; files = whole }))
 
--- ---- the runtime
-
-runtime_ended : (dir : Name) (stop : Stop) (events : List Event) → EndsWriting (runtime_files dir) stop events
-    → TriesLine (runtime dir) stop events
-runtime_ended dir stop events why = record { given = []; put = events; split = refl; reads = none_read []; ends = ends stop why }
-  where
-    ends : (stop : Stop) → EndsWriting (runtime_files dir) stop events → EndsLine (runtime dir) [] events stop
-    ends (stops.Unwritten name) broken = (runtime_files dir, refl, broken)
-    ends stops.Memory some = inr (runtime_files dir, refl, some)
-    ends _ why = absurd why
-
+-- the runtime
 module _ {A : Type 0} (old new : List Event) (dir : Name) (files : List (Name × List ℕ)) (same : files ≡ runtime_files dir)
     (result : Result A Stop) where
   pub runtime_tried : IfErr result (λ stop. Passes old new (EndsWriting files stop))
       → IfErr result (λ stop. Passes old new (TriesLine (runtime dir) stop))
-  runtime_tried = IfErr-weaker result _ _
-      (λ stop tried. passed_so old new (EndsWriting (runtime_files dir) stop) (TriesLine (runtime dir) stop)
-      (λ events why. runtime_ended dir stop events why)
-      (subst (λ (l : List (Name × List ℕ)). Passes old new (EndsWriting l stop)) same tried))
+  runtime_tried = put_tried (runtime dir) files same old new result
 
   pub runtime_passed : OnOk result (Passes old new (WritesFiles files)) → OnOk result (Passes old new (PassesWhole (runtime dir)))
   runtime_passed wrote = subst (λ (l : List (Name × List ℕ)). OnOk result (Passes old new (WritesFiles l))) same wrote
-
--- ---- memory is wanting before a call is made
 
 -- ---- the work on the line of words
 
@@ -228,9 +199,5 @@ module _ {A : Type 0} (old new : List Event) (words : List Name) (line : Line) (
       (λ stop. passed_so old new (TriesLine line stop) (TriesWork words stop) (λ events tried. inr (inr (line, is, tried))))
 
   pub work_passed : HasPassed line → OnOk result (Passes old new (PassesWhole line)) → OnOk result (Passes old new (PassesWork words))
-  work_passed has = by_result result
-    where
-      by_result : (r : Result A Stop) → OnOk r (Passes old new (PassesWhole line)) → OnOk r (Passes old new (PassesWork words))
-      by_result (Ok x) passed =
-          passed_so old new (PassesWhole line) (PassesWork words) (λ events whole. (line, is, has, whole)) passed
-      by_result (Err stop) passed = tt
+  work_passed has =
+      on_ok_weaker result (passed_so old new (PassesWhole line) (PassesWork words) (λ events whole. (line, is, has, whole)))

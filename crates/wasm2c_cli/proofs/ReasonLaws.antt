@@ -24,8 +24,6 @@ accepted_not_refused bytes reason (tree, is) (w, is', for) =
 
 pub one_first_refused : (names : List Name) (sources : List (List ℕ)) (file other : Name) (reason r : Reason)
     → IsFirstRefused names sources file reason → IsFirstRefused names sources other r → (file ≡ other) × (reason ≡ r)
-one_first_refused [] sources file other reason r first first' = absurd first
-one_first_refused (name ∷ names) [] file other reason r first first' = absurd first
 one_first_refused (name ∷ names) (bytes ∷ sources) file other reason r (inl (same, is)) (inl (same', is')) =
     (same ∙ sym same', one_reason bytes reason r is is')
 one_first_refused (name ∷ names) (bytes ∷ sources) file other reason r (inl (same, is)) (inr (accepted, first')) =
@@ -34,28 +32,25 @@ one_first_refused (name ∷ names) (bytes ∷ sources) file other reason r (inr 
     absurd (accepted_not_refused bytes r accepted is')
 one_first_refused (name ∷ names) (bytes ∷ sources) file other reason r (inr (accepted, first)) (inr (accepted', first')) =
     one_first_refused names sources file other reason r first first'
+one_first_refused _ _ file other reason r first first' = absurd first
 
 pub accepted_not_first : (names : List Name) (sources : List (List ℕ)) (modules : List Module) (file : Name) (reason : Reason)
     → AreAccepted sources modules → IsFirstRefused names sources file reason → ⊥
-accepted_not_first [] sources modules file reason accepted first = absurd first
-accepted_not_first (name ∷ names) [] modules file reason accepted first = absurd first
 accepted_not_first (name ∷ names) (bytes ∷ sources) [] file reason accepted first = absurd accepted
 accepted_not_first (name ∷ names) (bytes ∷ sources) (m ∷ modules) file reason accepted (inl (same, is)) =
     accepted_not_refused bytes reason (m, accepted.0) is
 accepted_not_first (name ∷ names) (bytes ∷ sources) (m ∷ modules) file reason accepted (inr (other, first)) =
     accepted_not_first names sources modules file reason accepted.1 first
+accepted_not_first _ _ modules file reason accepted first = absurd first
 
 modules_of : (sources : List (List ℕ)) (modules others : List Module) → AreAccepted sources modules → AreAccepted sources others
     → modules ≡ others
 modules_of [] [] [] a b = refl
-modules_of [] [] (n ∷ others) a b = absurd b
 modules_of [] (m ∷ modules) others a b = absurd a
 modules_of (bytes ∷ sources) [] others a b = absurd a
-modules_of (bytes ∷ sources) (m ∷ modules) [] a b = absurd b
 modules_of (bytes ∷ sources) (m ∷ modules) (n ∷ others) a b =
-    let first = one_tree bytes m n a.0.0 b.0.0 in
-    let rest = modules_of sources modules others a.1 b.1 in
-    λ i. first i ∷ rest i
+    λ i. (one_tree bytes m n a.0.0 b.0.0) i ∷ (modules_of sources modules others a.1 b.1) i
+modules_of _ _ _ a b = absurd b
 
 -- the same bytes have the same modules
 pub one_modules : (sources more : List (List ℕ)) (modules others : List Module) → sources ≡ more → AreAccepted sources modules
@@ -91,5 +86,4 @@ module _ (Stops : Name → Unreadable → Type 0)
   pub limit_not_missing : (file other : Name) (reason : Reason) → PassesLimitBy (Stops file) reason → Stops other Missing → ⊥
   limit_not_missing file other reason limit s' =
       let (why, s, for) = over (Stops file) reason limit in
-      let same = one file other why Missing s s' in
-      no_reason reason (ap limit_of (sym same.1) ∙ for)
+      no_reason reason (ap limit_of (sym (one file other why Missing s s').1) ∙ for)

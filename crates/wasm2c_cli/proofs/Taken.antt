@@ -8,6 +8,7 @@ use Rattle.wasm_valid.specs.FileVerdict.{Unread, Read, IsVerdictOn}
 use Rattle.w2c_sim.specs.declared.refusal.Refusal.{Refusal}
 use Rattle.w2c_sim.specs.declared.refusal.Refusal.TheVariants as refusals
 use Rattle.wasm2c_cli.specs.declared.stop.Stop.TheVariants as stops
+use Rattle.std.proofs.Common.{take_all}
 
 -- ---- the refusal of bytes
 
@@ -25,17 +26,14 @@ refused_for bytes refusals.Memory is = tt
 taken_joined : (sources : List (List ℕ)) (modules : List Module) (bytes : List ℕ) (m : Module) → AreTaken sources modules
     → AreBytes bytes → IsVerdictOn bytes (Read m Accepted) → AreTaken (sources ++ bytes ∷ []) (modules ++ m ∷ [])
 taken_joined [] [] bytes m taken are is = ((are, is), tt)
-taken_joined [] (n ∷ modules) bytes m taken are is = absurd taken
-taken_joined (b ∷ sources) [] bytes m taken are is = absurd taken
 taken_joined (b ∷ sources) (n ∷ modules) bytes m taken are is = (taken.0, taken_joined sources modules bytes m taken.1 are is)
+taken_joined _ _ bytes m taken are is = absurd taken
 
 pub one_more_taken : (sources : List (List ℕ)) (k : ℕ) (bytes : List ℕ) (modules more : List Module) (m : Module)
     → slice_get sources k ≡ Some bytes → AreTaken (take k sources) modules → AreBytes bytes → IsVerdictOn bytes (Read m Accepted)
     → more ≡ modules ++ m ∷ [] → AreTaken (take (k + 1) sources) more
 one_more_taken sources k bytes modules more m at taken are is same =
-    subst (λ (l : List Module). AreTaken (take (k + 1) sources) l) (sym same)
-    (subst (λ (l : List (List ℕ)). AreTaken l (modules ++ m ∷ [])) (sym (take_next sources k bytes at))
-    (taken_joined (take k sources) modules bytes m taken are is))
+    rw same (rw (take_next sources k bytes at) (taken_joined (take k sources) modules bytes m taken are is))
 
 pub source_at : (sources : List (List ℕ)) (k : ℕ) (bytes : List ℕ) → k < length sources → bytes ≡ slice_index_or sources k bytes
     → slice_get sources k ≡ Some bytes
@@ -49,22 +47,15 @@ all_at P [] k bytes at all = cc
 all_at P (b ∷ sources) zero bytes at all = let same : b ≡ bytes = cc in subst P same all.0
 all_at P (b ∷ sources) (suc k) bytes at all = all_at P sources k bytes at all.1
 
-pub take_all : (sources : List (List ℕ)) (k : ℕ) → k ≡ length sources → take k sources ≡ sources
-take_all [] k end = ap (λ n. take n []) end
-take_all (b ∷ sources) zero end = absurd (omega arith)
-take_all (b ∷ sources) (suc k) end = ap (λ (l : List (List ℕ)). b ∷ l) (take_all sources k (omega (arith, end)))
-
 pub all_taken : (sources : List (List ℕ)) (k : ℕ) (modules : List Module) → k ≡ length sources → AreTaken (take k sources) modules
     → AreTaken sources modules
-all_taken sources k modules end taken = subst (λ (l : List (List ℕ)). AreTaken l modules) (take_all sources k end) taken
+all_taken sources k modules end taken = subst (λ (l : List (List ℕ)). AreTaken l modules) (take_all k sources (omega (arith, end))) taken
 
 -- ---- the first that is refused
 
 pub first_refused : (names : List Name) (sources : List (List ℕ)) (modules : List Module) (k : ℕ) (name : Name) (bytes : List ℕ)
     (reason : Reason) → slice_get names k ≡ Some name → slice_get sources k ≡ Some bytes → AreTaken (take k sources) modules
     → IsRefused bytes reason → IsFirstRefused names sources name reason
-first_refused [] sources modules k name bytes reason at at' taken is = cc
-first_refused (n ∷ names) [] modules k name bytes reason at at' taken is = cc
 first_refused (n ∷ names) (b ∷ sources) modules zero name bytes reason at at' taken is =
     let same : n ≡ name = cc in
     let same' : b ≡ bytes = cc in
@@ -72,27 +63,25 @@ first_refused (n ∷ names) (b ∷ sources) modules zero name bytes reason at at
 first_refused (n ∷ names) (b ∷ sources) [] (suc k) name bytes reason at at' taken is = absurd taken
 first_refused (n ∷ names) (b ∷ sources) (m ∷ modules) (suc k) name bytes reason at at' taken is =
     inr ((m, taken.0.1), first_refused names sources modules k name bytes reason at at' taken.1 is)
+first_refused _ _ modules k name bytes reason at at' taken is = cc
 
 pub refused_is_one : (names : List Name) (sources : List (List ℕ)) (name : Name) (reason : Reason)
     → IsFirstRefused names sources name reason → IsOneOf name names
-refused_is_one [] sources name reason first = absurd first
-refused_is_one (n ∷ names) [] name reason first = absurd first
 refused_is_one (n ∷ names) (b ∷ sources) name reason (inl (same, is)) = inl same
 refused_is_one (n ∷ names) (b ∷ sources) name reason (inr (accepted, first)) = inr (refused_is_one names sources name reason first)
+refused_is_one _ _ name reason first = absurd first
 
 -- ---- what is taken is accepted
 
 pub taken_accepted : (sources : List (List ℕ)) (modules : List Module) → AreTaken sources modules → AreAccepted sources modules
 taken_accepted [] [] taken = tt
-taken_accepted [] (m ∷ modules) taken = absurd taken
-taken_accepted (b ∷ sources) [] taken = absurd taken
 taken_accepted (b ∷ sources) (m ∷ modules) taken = (taken.0.1, taken_accepted sources modules taken.1)
+taken_accepted _ _ taken = absurd taken
 
 pub length-taken : (sources : List (List ℕ)) (modules : List Module) → AreTaken sources modules → length modules ≡ length sources
 length-taken [] [] taken = refl
-length-taken [] (m ∷ modules) taken = absurd taken
-length-taken (b ∷ sources) [] taken = absurd taken
 length-taken (b ∷ sources) (m ∷ modules) taken = ap suc (length-taken sources modules taken.1)
+length-taken _ _ taken = absurd taken
 
 some_reason : (bytes : List ℕ) (o : Option Reason) (reason : Reason) → o ≡ Some reason → MatchOption o (Unit {0}) (IsRefused bytes)
     → IsRefused bytes reason

@@ -20,7 +20,7 @@ use crate::report::{report, summarize};
 use crate::work::work;
 use std::alloc::Global;
 use w2c_io::{Files, Sink, SureFiles, SureSink};
-use w2c_sim::linked_units_do_what_modules_do;
+use w2c_sim::{linked_units_do_what_modules_do, texts_spell_units};
 
 /// Does what the words ask for, and gives the exit status: 0 where the C file and the header of each
 /// module stand, or the runtime's two files, 1 for a file that is refused, 2 for words without a
@@ -85,6 +85,7 @@ pub fn wasm2c_top<F: Files, E: Sink>(
         → Passes (F.trace files.old) (F.trace files.new) (PutsLinkedUnits (texts words.now)) }
 {
     linked_units_do_what_modules_do();
+    texts_spell_units();
     match work(alloc, words, files) {
         Ok(finished) => summarize(alloc, finished, err),
         Err(stop) => report(alloc, stop, err),

@@ -15,5 +15,5 @@ pub use Rattle.w2c_files.specs.CFile.{is_c_file}
 pub use Rattle.w2c_files.specs.Words.{names_of, texts}
 pub use Rattle.w2c_mangle.specs.Escaping.{escaped}
 pub use Rattle.program_words.specs.Tests.{is_decimal, is_module_name}
-pub use Rattle.wasm2c_words.specs.CommandLine.{generate, line_of, line_of_values, runtime, set, translate}
+pub use Rattle.wasm2c_words.specs.CommandLine.{line_of, line_of_values}
 pub use Rattle.wasm2c_words.specs.Names.{are_distinct, header_name_of, module_name_of}

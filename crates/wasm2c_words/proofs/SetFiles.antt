@@ -45,7 +45,7 @@ unequal x y apart = go (bytes_eq x y) refl
     go true e = absurd (apart ((bytes_eq-Decides x y).0 (e)))
     go false e = refl
 
-equal_not : (x y : List ℕ) → bytes_eq x y ≡ false → x ≡ y → ⊥
+pub equal_not : (x y : List ℕ) → bytes_eq x y ≡ false → x ≡ y → ⊥
 equal_not x y differ same =
     let yes : bytes_eq x y ≡ true = (bytes_eq-Decides x y).1 same in
     let no : false ≡ true = sym differ ∙ yes in
@@ -60,10 +60,9 @@ apart dir n letter (m ∷ ms) none =
     let differ : m ≡ n → ⊥ = equal_not m n parts.0 in
     let c : bytes_eq (file dir m 99) (file dir n letter) ≡ false = unequal _ _ (λ same. differ (same_file dir m n 99 letter same).0) in
     let h : bytes_eq (file dir m 104) (file dir n letter) ≡ false = unequal _ _ (λ same. differ (same_file dir m n 104 letter same).0) in
-    let rest = apart dir n letter ms parts.1 in
     ap (λ (b : Bool). b || (bytes_eq (file dir m 104) (file dir n letter)
     || list_any (λ other. bytes_eq other (file dir n letter)) (files_of dir ms))) c
-    ∙ ap (λ (b : Bool). b || list_any (λ other. bytes_eq other (file dir n letter)) (files_of dir ms)) h ∙ rest
+    ∙ ap (λ (b : Bool). b || list_any (λ other. bytes_eq other (file dir n letter)) (files_of dir ms)) h ∙ (apart dir n letter ms parts.1)
 
 pub files_are_distinct : (dir : Name) (names : List (List ℕ)) → are_distinct names ≡ true → are_distinct (files_of dir names) ≡ true
 files_are_distinct dir [] distinct = refl
@@ -74,10 +73,9 @@ files_are_distinct dir (n ∷ ns) distinct =
     unequal _ _ (λ same. let letters : ◌≡◌ {A = ℕ} 104 99 = (same_file dir n n 104 99 same).1 in omega (arith, letters)) in
     let c : list_any (λ other. bytes_eq other (file dir n 99)) (file dir n 104 ∷ files_of dir ns) ≡ false =
     ap (λ (b : Bool). b || list_any (λ other. bytes_eq other (file dir n 99)) (files_of dir ns)) h_c ∙ apart dir n 99 ns none in
-    let h = apart dir n 104 ns none in
     ap (λ (b : Bool). not b && (not (list_any (λ other. bytes_eq other (file dir n 104)) (files_of dir ns))
     && are_distinct (files_of dir ns))) c
-    ∙ ap (λ (b : Bool). not b && are_distinct (files_of dir ns)) h ∙ files_are_distinct dir ns parts.1
+    ∙ ap (λ (b : Bool). not b && are_distinct (files_of dir ns)) (apart dir n 104 ns none) ∙ files_are_distinct dir ns parts.1
 
 -- a name that ends in a dot and a letter, cut before both
 front_of : (front : List ℕ) (letter : ℕ) → take (length (front ++ 46 ∷ letter ∷ []) - 2) (front ++ 46 ∷ letter ∷ []) ≡ front

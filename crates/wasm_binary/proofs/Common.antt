@@ -14,11 +14,12 @@ pub use Rattle.wasm_tree.specs.Views.{instr_tree, kind_tree}
 pub use Rattle.wasm_tree.specs.declared.tree.Module.{Module}
 pub use Rattle.wasm_spelling.proofs.CodeTaken.{block_takes, code_takes, item_takes}
 pub use Rattle.wasm_spelling.specs.At.{At}
+pub use Rattle.wasm_spelling.specs.Parts.{part_is}
 pub use Rattle.wasm_spelling.specs.Reading.{Ender, all_sections_at, block_of, block_type_at, by_else, by_end, code_at, ender_place, file_at}
 pub use Rattle.wasm_spelling.specs.Reading.{if_closed, times_at}
 pub use Rattle.wasm_spelling.specs.Steps.{Reader, a_block, a_loop, an_if, malformed, number_at, ◌>>=◌}
 pub use Rattle.wasm_spelling.specs.declared.fault.ReadFault.{ReadFault}
 pub use Rattle.wasm_spelling.specs.declared.fault.ReadFault.TheVariants.{Float, Limit, Malformed, Memory}
 pub use Rattle.wasm_binary.specs.Enders.{as_item, as_kind, as_one, block_closed, ender_of, head_of_opener, item_of, opened_at, opener_head}
-pub use Rattle.wasm_binary.specs.Sections.{behind_id, id_of_heading, is_no_section, part_is}
+pub use Rattle.wasm_binary.specs.Sections.{behind_id, id_of_heading, is_no_section}
 pub use Rattle.wasm_binary.specs.View.{Fails, Gives, UnlessMemory, at, kept, seen}

@@ -20,14 +20,13 @@ pub fn function_entries(alloc: Global, rest: Rest) -> Result<(FuncEntries, Rest)
     ensures { Gives seen result (vector_at of_functions func_entry_at (at rest.entry)) }
 {
     let (count, rest) = limited(FUNCTIONS, Which::Functions, rest)?;
-    let counts = Counts {
-        functions: count,
-        ..rest.counts
-    };
     let rest = Rest {
         place: rest.place,
         left: rest.left,
-        counts,
+        counts: Counts {
+            functions: count,
+            ..rest.counts
+        },
     };
     times::<FuncEntry>(alloc, count, rest)
 }
@@ -52,15 +51,14 @@ impl Entry for Run {
         if all_locals > u64::from(ALL_LOCALS) {
             return Err(ReadFault::Limit(place, Which::AllLocals));
         }
-        let counts = Counts {
-            locals: locals as u32,
-            all_locals: all_locals as u32,
-            ..rest.counts
-        };
         let rest = Rest {
             place: rest.place,
             left: rest.left,
-            counts,
+            counts: Counts {
+                locals: locals as u32,
+                all_locals: all_locals as u32,
+                ..rest.counts
+            },
         };
         match value_type(rest) {
             Ok((ty, rest)) => Ok((Run { count, ty }, rest)),
@@ -81,14 +79,13 @@ impl Entry for BodyEntry {
     fn read(alloc: Global, rest: Rest) -> Result<(Self::Item, Rest), ReadFault> {
         let (inside, behind) = window(rest)?;
         let (count, inside) = number(inside)?;
-        let counts = Counts {
-            locals: 0,
-            ..inside.counts
-        };
         let inside = Rest {
             place: inside.place,
             left: inside.left,
-            counts,
+            counts: Counts {
+                locals: 0,
+                ..inside.counts
+            },
         };
         let (runs, inside) = times::<Run>(alloc, count, inside)?;
         let ((code, ender), inside) = instructions(alloc, BLOCK_DEPTH, false, inside)?;
@@ -115,14 +112,13 @@ pub fn bodies(alloc: Global, rest: Rest) -> Result<(BodyEntries, Rest), ReadFaul
     if count != rest.counts.functions {
         return Err(ReadFault::Malformed(place, Cause::CountDiffers));
     }
-    let counts = Counts {
-        code_read: true,
-        ..rest.counts
-    };
     let rest = Rest {
         place: rest.place,
         left: rest.left,
-        counts,
+        counts: Counts {
+            code_read: true,
+            ..rest.counts
+        },
     };
     times::<BodyEntry>(alloc, count, rest)
 }

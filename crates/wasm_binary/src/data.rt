@@ -20,14 +20,13 @@ pub fn data_count<'a>(module: &mut Module, rest: Rest<'a>) -> Result<Rest<'a>, R
     match number(rest) {
         Ok((count, rest)) => {
             module.data_count = Some(DataCount { count, place });
-            let counts = Counts {
-                data_count: Some(count),
-                ..rest.counts
-            };
             Ok(Rest {
                 place: rest.place,
                 left: rest.left,
-                counts,
+                counts: Counts {
+                    data_count: Some(count),
+                    ..rest.counts
+                },
             })
         }
         Err(fault) => Err(fault),
@@ -44,14 +43,13 @@ pub fn segments(alloc: Global, rest: Rest) -> Result<(SegmentEntries, Rest), Rea
     if !rest.counts.allows_segments(count) {
         return Err(ReadFault::Malformed(place, Cause::CountDiffers));
     }
-    let counts = Counts {
-        data_read: true,
-        ..rest.counts
-    };
     let rest = Rest {
         place: rest.place,
         left: rest.left,
-        counts,
+        counts: Counts {
+            data_read: true,
+            ..rest.counts
+        },
     };
     times::<SegmentEntry>(alloc, count, rest)
 }

@@ -1,5 +1,5 @@
 // Single fields: bytes, numbers and names (WebAssembly Core 1.0, 5.2).
-ghost use Rattle.std.specs.Prelude.{◌≡◌};
+ghost use Rattle.std.specs.Prelude.{◌≡◌, ◌≤◌, ◌+◌, drop, length};
 ghost use Rattle.std.specs.Str.{is_utf8 as is_utf8_of};
 ghost use Rattle.wasm_spelling.specs.Steps.{cause_of as the_cause, byte_at, number_at, signed32_at, signed64_at, bytes_at};
 ghost use Rattle.wasm_spelling.specs.Reading.{exactly_at, limited_at, name_at, counted_bytes_at, utf8_at};
@@ -52,23 +52,28 @@ fn cause_of(fault: LebFault) -> Cause
     }
 }
 
+/// What stands behind so many bytes.
+fn behind(taken: usize, rest: Rest) -> Rest
+    requires { taken ≤ length rest.left.now }
+    ensures place { result.place ≡ rest.entry.place + taken }
+    ensures left { result.left.now ≡ drop taken rest.entry.left.now }
+    ensures counts { result.counts ≡ rest.entry.counts }
+{
+    let (_, left) = rest.left.split_at(taken);
+    let place = rest.place + taken as u32;
+    Rest {
+        place,
+        left,
+        counts: rest.counts,
+    }
+}
+
 #[tactic(auto, unfolding(wasm_spelling::specs::Steps::number_at))]
 pub fn number(rest: Rest) -> Result<(u32, Rest), ReadFault>
     ensures { Gives seen result (number_at (at rest.entry)) }
 {
     match front_u32(rest.left) {
-        Ok((number, taken)) => {
-            let (_, left) = rest.left.split_at(taken);
-            let place = rest.place + taken as u32;
-            Ok((
-                number,
-                Rest {
-                    place,
-                    left,
-                    counts: rest.counts,
-                },
-            ))
-        }
+        Ok((number, taken)) => Ok((number, behind(taken, rest))),
         Err(fault) => Err(ReadFault::Malformed(rest.place, cause_of(fault))),
     }
 }
@@ -78,18 +83,7 @@ pub fn signed32(rest: Rest) -> Result<(i32, Rest), ReadFault>
     ensures { Gives seen result (signed32_at (at rest.entry)) }
 {
     match front_s32(rest.left) {
-        Ok((number, taken)) => {
-            let (_, left) = rest.left.split_at(taken);
-            let place = rest.place + taken as u32;
-            Ok((
-                number,
-                Rest {
-                    place,
-                    left,
-                    counts: rest.counts,
-                },
-            ))
-        }
+        Ok((number, taken)) => Ok((number, behind(taken, rest))),
         Err(fault) => Err(ReadFault::Malformed(rest.place, cause_of(fault))),
     }
 }
@@ -99,18 +93,7 @@ pub fn signed64(rest: Rest) -> Result<(i64, Rest), ReadFault>
     ensures { Gives seen result (signed64_at (at rest.entry)) }
 {
     match front_s64(rest.left) {
-        Ok((number, taken)) => {
-            let (_, left) = rest.left.split_at(taken);
-            let place = rest.place + taken as u32;
-            Ok((
-                number,
-                Rest {
-                    place,
-                    left,
-                    counts: rest.counts,
-                },
-            ))
-        }
+        Ok((number, taken)) => Ok((number, behind(taken, rest))),
         Err(fault) => Err(ReadFault::Malformed(rest.place, cause_of(fault))),
     }
 }

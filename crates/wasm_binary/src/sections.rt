@@ -3,10 +3,11 @@ ghost use Rattle.std.specs.Prelude.{◌≡◌, Result, option_map};
 ghost use Rattle.wasm_spelling.specs.declared.fault.ReadFault.{ReadFault as Fault};
 ghost use Rattle.wasm_spelling.specs.At.{At};
 ghost use Rattle.wasm_spelling.specs.Steps.{part_of, section_id_at, bodies_done as are_done, data_done as is_done};
-ghost use Rattle.wasm_spelling.specs.ModuleFields.{rank_of, start as the_start};
+ghost use Rattle.wasm_spelling.specs.ModuleFields.{start as the_start};
+ghost use Rattle.wasm_spelling.specs.Parts.{part_is};
 ghost use Rattle.wasm_spelling.specs.Reading.{content_at, all_sections_at};
 ghost use Rattle.wasm_binary.specs.View.{Gives, at, seen, counts_of};
-ghost use Rattle.wasm_binary.specs.Sections.{part_is, id_of_heading, behind_id, is_no_section};
+ghost use Rattle.wasm_binary.specs.Sections.{id_of_heading, behind_id, is_no_section};
 
 use crate::bodies::{bodies, function_entries};
 use crate::data::{data_count, segments};
@@ -16,47 +17,8 @@ use crate::rest::{Counts, Rest};
 use crate::vectors::vector;
 use crate::windows::{ended, window};
 use std::alloc::Global;
-use wasm_spelling::{Cause, ReadFault};
+use wasm_spelling::{Cause, Part, ReadFault};
 use wasm_tree::{ElementEntry, Export, GlobalEntry, Import, Module, Start, TypeEntry};
-
-/// A section other than a custom one.
-#[derive(Clone, Copy)]
-pub enum Part {
-    Types,
-    Imports,
-    Functions,
-    Tables,
-    Memories,
-    Globals,
-    Exports,
-    Start,
-    Elements,
-    DataCount,
-    Code,
-    Segments,
-}
-
-impl Part {
-    /// The place in the order of sections.
-    fn rank(self) -> u8
-        ensures { result ≡ rank_of (part_is self) }
-    {
-        match self {
-            Part::Types => 1,
-            Part::Imports => 2,
-            Part::Functions => 3,
-            Part::Tables => 4,
-            Part::Memories => 5,
-            Part::Globals => 6,
-            Part::Exports => 7,
-            Part::Start => 8,
-            Part::Elements => 9,
-            Part::DataCount => 10,
-            Part::Code => 11,
-            Part::Segments => 12,
-        }
-    }
-}
 
 /// What a section's id says, or that the file ends there.
 #[derive(Clone, Copy)]

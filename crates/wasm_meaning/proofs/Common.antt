@@ -16,14 +16,15 @@ pub use Rattle.w2c_base.specs.declared.value.Value.{Value}
 pub use Rattle.wasm_tree.specs.declared.entries.ImportKind.{ImportKind}
 pub use Rattle.wasm_tree.specs.declared.entries.ImportKind.TheVariants.{Func as ImportFunc, Global as ImportGlobal, Memory as ImportMemory}
 pub use Rattle.wasm_tree.specs.declared.entries.ImportKind.TheVariants.{Table as ImportTable}
+pub use Rattle.wasm_tree.specs.NamedModule.{NamedModule}
 pub use Rattle.wasm_meaning.specs.Execution.{Asks, Back, Branch, CallStops, Called, Calls, Done, Leaves, Normal, OutOfSteps, Result}
 pub use Rattle.wasm_meaning.specs.Execution.{Returned, Stop, Stops, Stuck, Trapped, and_then, call, call_element, call_indirect}
 pub use Rattle.wasm_meaning.specs.Execution.{call_within, came_back, choose, count_on, did, did_all, dropped, enter, exec, exec_else}
 pub use Rattle.wasm_meaning.specs.Execution.{exec_kind, finish, gave, gives_all, gives_top, invoke, leave, of_one_type, of_type, onto, pick}
 pub use Rattle.wasm_meaning.specs.Execution.{plain, replied, spend, spend_all, top, turn, turns}
 pub use Rattle.wasm_meaning.specs.LinkedSet.{External, FuncAddress, GlobalAddress, HostFunc, IsFunc, IsGlobal, IsLinked, IsMemory, IsTable}
-pub use Rattle.wasm_meaning.specs.LinkedSet.{LinkedSet, ModuleFunc, NamedModule, Resolves, as_func, as_global, as_memory, as_table, body_of}
-pub use Rattle.wasm_meaning.specs.LinkedSet.{func_at, func_type, global_type, import_at, memory_at, module_at, table_at, type_at}
+pub use Rattle.wasm_meaning.specs.LinkedSet.{LinkedSet, ModuleFunc, Resolves, as_func, as_global, as_memory, as_table, body_of, func_at}
+pub use Rattle.wasm_meaning.specs.LinkedSet.{func_type, global_type, import_at, memory_at, module_at, table_at, type_at}
 pub use Rattle.wasm_meaning.specs.Run.{CallExport, CallStart, Ended, Fits, ListedCall, MakeGlobal, Outcome, Planned, Stopped, Take, Task}
 pub use Rattle.wasm_meaning.specs.Run.{TestData, TestElements, WasmRun, WriteByte, WriteElement, as_offset, called_func, constant_of}
 pub use Rattle.wasm_meaning.specs.Run.{do_task, done, first_value, is_free, limits_fit, paid, plan_of, run_tasks, tested, then_run}

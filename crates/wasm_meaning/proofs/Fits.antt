@@ -9,6 +9,7 @@ use lib.Bits.{and_lt}
 use native.Mathlib.Nat.{mod-le, mul-mod_left}
 use Rattle.w2c_base.specs.LittleEndian.{little_endian, bytes_at}
 use Rattle.w2c_base.proofs.Types.{bits_below}
+use Rattle.w2c_base.specs.Values.{pattern_of}
 use Rattle.wasm_tree.specs.declared.operators.UnaryOp.{UnaryOp}
 use Rattle.wasm_tree.specs.declared.operators.UnaryOp.TheVariants.{Clz, Ctz, Popcnt}
 use Rattle.wasm_tree.specs.declared.operators.BinaryOp.{BinaryOp}
@@ -20,7 +21,7 @@ use Rattle.wasm_tree.specs.declared.operators.LoadOp.TheVariants.{I64Load32S}
 use Rattle.wasm_tree.specs.declared.operators.ExtendOp.{ExtendOp}
 use Rattle.wasm_tree.specs.Accesses.{load_access, extend_width, extend_type}
 use Rattle.wasm_meaning.specs.Memories.{load_number, extended}
-use Rattle.wasm_meaning.specs.Operators.{Answer, Gives, Traps, AnswerFits, signed, pattern_of, overflows, unary, binary, extend_s}
+use Rattle.wasm_meaning.specs.Operators.{Answer, Gives, Traps, AnswerFits, signed, overflows, unary, binary, extend_s}
 
 pub pattern_below : (N : ℕ) (z : ℤ) → pattern_of N z < 2 ^ N
 pattern_below N (pos a) = mod-lt a (pow_pos N)

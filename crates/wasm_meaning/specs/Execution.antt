@@ -11,6 +11,7 @@ use Rattle.w2c_base.specs.declared.signature.FuncType.{FuncType}
 use Rattle.w2c_base.specs.declared.trap.TrapKind.{TrapKind}
 use Rattle.w2c_base.specs.declared.trap.TrapKind.TheVariants as trap
 use Rattle.w2c_base.specs.Values.{bits, value, number_of, type_of, types_of, equal_type, equal_types, equal_func_types, is_result, zeros}
+use Rattle.w2c_base.specs.Values.{pattern_of}
 use Rattle.w2c_base.specs.Lookup.{if_found}
 use Rattle.w2c_base.specs.Run.{Reply, Gave, HostTrapped, Ask, Event, Trail, asked}
 use Rattle.wasm_tree.specs.Instructions.{Code, end_code, then_code, Kind, Otherwise, no_else, else_code, Unreachable, Nop, Return, Drop}
@@ -22,7 +23,7 @@ use Rattle.wasm_tree.specs.declared.operators.StoreOp.{StoreOp}
 use Rattle.wasm_tree.specs.Accesses.{load_access, store_access, extend_width, extend_type}
 use Rattle.wasm_tree.specs.declared.entries.BodyEntry.{BodyEntry}
 use Rattle.wasm_tree.specs.IndexSpaces.{declared_locals}
-use Rattle.wasm_meaning.specs.Operators.{Answer, Gives, Traps, pattern_of, truth, extend_s, unary, binary, compare}
+use Rattle.wasm_meaning.specs.Operators.{Answer, Gives, Traps, truth, extend_s, unary, binary, compare}
 use Rattle.wasm_meaning.specs.Memories.{load_number, store_number, copy_bytes, fill_bytes}
 use Rattle.wasm_meaning.specs.LinkedSet.{LinkedSet, FuncAddress, ModuleFunc, HostFunc, GlobalAddress, func_at, table_at, memory_at}
 use Rattle.wasm_meaning.specs.LinkedSet.{global_at, type_at, func_type, global_type, body_of}

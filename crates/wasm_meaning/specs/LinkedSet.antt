@@ -11,6 +11,7 @@ use Rattle.w2c_base.specs.Run.{Host}
 use Rattle.wasm_tree.specs.declared.tree.Module.{Module}
 use Rattle.wasm_tree.specs.IndexSpaces.{is_func_import, is_table_import, is_memory_import, is_global_import, imported_funcs, type_in}
 use Rattle.wasm_tree.specs.IndexSpaces.{at_defined}
+pub use Rattle.wasm_tree.specs.NamedModule.{NamedModule}
 use Rattle.wasm_tree.specs.declared.entries.Import.{Import}
 use Rattle.wasm_tree.specs.declared.entries.Export.{Export}
 use Rattle.wasm_tree.specs.declared.entries.BodyEntry.{BodyEntry}
@@ -18,10 +19,6 @@ use Rattle.wasm_tree.specs.declared.entries.ImportKind.TheVariants.{Func as Impo
 use Rattle.wasm_tree.specs.declared.entries.ImportKind.TheVariants.{Global as ImportGlobal}
 use Rattle.wasm_tree.specs.declared.entries.ExportKind.TheVariants.{Func as ExportFunc, Table as ExportTable, Memory as ExportMemory}
 use Rattle.wasm_tree.specs.declared.entries.ExportKind.TheVariants.{Global as ExportGlobal}
-
-pub record NamedModule : Type 0 where
-  pub name : List ℕ
-  pub tree : Module
 
 -- modules in order, and host modules
 pub record LinkedSet : Type 0 where

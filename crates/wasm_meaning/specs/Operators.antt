@@ -1,11 +1,12 @@
 -- The integer operators, on bit patterns of N bits read as numbers below 2 ^ N (WebAssembly Core
 -- 1.0, 4.3.1 and 4.3.2): unbounded arithmetic, and the signed reading of a pattern.
 use Rattle.std.specs.Prelude.{ℕ, ◌+◌, ◌-◌, ◌*◌, ◌/◌, ◌%◌, ◌^◌, ◌<◌, Bool, ◌&&◌, not, ◌==◌, nat_lt, nat_le, if◌then◌else◌, ℤ, pos, ◌-ℤ◌}
-use Rattle.std.specs.Prelude.{int_lt, int_le, int_div, int_rem, unsigned_abs, bit_and, bit_or, bit_xor, ⊤}
-use Rattle.std.specs.Int.{int_rem_euclid, int_div_euclid}
+use Rattle.std.specs.Prelude.{int_lt, int_le, int_div, int_rem, bit_and, bit_or, bit_xor, ⊤}
+use Rattle.std.specs.Int.{int_div_euclid}
 use Rattle.std.specs.Int.Count.{ones, count_leading_zeros, count_trailing_zeros}
 use Rattle.w2c_base.specs.declared.trap.TrapKind.{TrapKind}
 use Rattle.w2c_base.specs.declared.trap.TrapKind.TheVariants.{DivByZero, IntOverflow}
+use Rattle.w2c_base.specs.Values.{pattern_of}
 use Rattle.wasm_tree.specs.declared.operators.UnaryOp.{UnaryOp}
 use Rattle.wasm_tree.specs.declared.operators.UnaryOp.TheVariants.{Clz, Ctz, Popcnt}
 use Rattle.wasm_tree.specs.declared.operators.BinaryOp.{BinaryOp}
@@ -27,10 +28,6 @@ AnswerFits N (Traps kind) = ⊤
 -- the signed reading of a pattern
 abbrev pub signed : ℕ → ℕ → ℤ
 signed N x = if nat_lt x (2 ^ (N - 1)) then pos x else pos x -ℤ pos (2 ^ N)
-
--- the pattern of an integer: the integer modulo 2 ^ N
-abbrev pub pattern_of : ℕ → ℤ → ℕ
-pattern_of N z = unsigned_abs (int_rem_euclid z (pos (2 ^ N)))
 
 abbrev pub truth : Bool → ℕ
 truth b = if b then 1 else 0

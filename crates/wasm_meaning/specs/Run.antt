@@ -9,7 +9,7 @@ use Rattle.w2c_base.specs.declared.value.Value.TheVariants.{I32, I64}
 use Rattle.w2c_base.specs.declared.signature.FuncType.{FuncType}
 use Rattle.w2c_base.specs.declared.trap.TrapKind.{TrapKind}
 use Rattle.w2c_base.specs.declared.trap.TrapKind.TheVariants as trap
-use Rattle.w2c_base.specs.Values.{IsNumber, types_of}
+use Rattle.w2c_base.specs.Values.{IsNumber, types_of, pattern_of}
 use Rattle.w2c_base.specs.Lookup.{if_found, numbered}
 use Rattle.w2c_base.specs.Run.{Reply, Event, Trail, Phase, Init, Call, call_ended}
 use Rattle.wasm_tree.specs.Instructions.{Code, end_code, then_code, I32Const, I64Const, GlobalGet}
@@ -21,7 +21,6 @@ use Rattle.wasm_tree.specs.declared.entries.Start.{Start}
 use Rattle.wasm_tree.specs.declared.entries.ElementEntry.{ElementEntry}
 use Rattle.wasm_tree.specs.declared.entries.SegmentEntry.{SegmentEntry}
 use Rattle.wasm_tree.specs.declared.entries.ImportKind.TheVariants.{Table as ImportTable, Memory as ImportMemory}
-use Rattle.wasm_meaning.specs.Operators.{pattern_of}
 use Rattle.wasm_meaning.specs.LinkedSet.{LinkedSet, FuncAddress, as_func, as_table, as_memory, exported, instances, import_at, func_at}
 use Rattle.wasm_meaning.specs.LinkedSet.{table_at, memory_at, global_at, func_type}
 use Rattle.wasm_meaning.specs.Store as store

@@ -28,10 +28,11 @@ pub use Rattle.wasm_tree.specs.declared.entries.ImportKind.{ImportKind}
 pub use Rattle.wasm_tree.specs.declared.entries.ImportKind.TheVariants.{Func as ImportFunc, Global as ImportGlobal, Memory as ImportMemory}
 pub use Rattle.wasm_tree.specs.declared.entries.ImportKind.TheVariants.{Table as ImportTable}
 pub use Rattle.wasm_tree.specs.declared.tree.Module.{Module}
+pub use Rattle.wasm_tree.specs.NamedModule.{NamedModule}
 pub use Rattle.wasm_meaning.specs.LinkedSet.{External, FuncAddress, GlobalAddress, HostFunc, Instance, IsFunc, IsGlobal, IsLinked, IsMemory}
-pub use Rattle.wasm_meaning.specs.LinkedSet.{IsTable, LinkedSet, ModuleFunc, NamedModule, Resolves, as_func, as_global, as_memory, as_table}
-pub use Rattle.wasm_meaning.specs.LinkedSet.{export_of, exported, func_type, global_type, offered as host_offers, import_at, imports_of}
-pub use Rattle.wasm_meaning.specs.LinkedSet.{instance_of, instances, instances_behind, meaning_of, module_at, spaces_of, type_at}
+pub use Rattle.wasm_meaning.specs.LinkedSet.{IsTable, LinkedSet, ModuleFunc, Resolves, as_func, as_global, as_memory, as_table, export_of}
+pub use Rattle.wasm_meaning.specs.LinkedSet.{exported, func_type, global_type, offered as host_offers, import_at, imports_of, instance_of}
+pub use Rattle.wasm_meaning.specs.LinkedSet.{instances, instances_behind, meaning_of, module_at, spaces_of, type_at}
 pub use Rattle.wasm_set.specs.Joining.{gives, gives_if_any, is_given, may_join, module_named, module_takes, offer_takes, takes}
 pub use Rattle.wasm_set.specs.Offers.{are_one_type, equal_bool, is_of_kind, offer_of, offered, offers}
 pub use Rattle.wasm_set.specs.Sets.{named_of, set_of}

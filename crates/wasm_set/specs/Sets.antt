@@ -1,6 +1,7 @@
 -- A list of valid modules under names as the modules of a linked set without hosts (WebAssembly Core 1.0, 4.5.4).
 use Rattle.std.specs.Prelude.{List, [], map}
-use Rattle.wasm_meaning.specs.LinkedSet.{NamedModule, LinkedSet}
+use Rattle.wasm_tree.specs.NamedModule.{NamedModule}
+use Rattle.wasm_meaning.specs.LinkedSet.{LinkedSet}
 use Rattle.wasm_set.specs.declared.set_module.SetModule.{SetModule}
 
 -- a module under its name

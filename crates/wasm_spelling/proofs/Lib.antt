@@ -4,6 +4,7 @@ pub mod CodeTaken
 pub mod Parts
 pub mod Sections
 pub mod Whole
+pub mod WorkedModule
 pub mod WithinPlaces
 pub mod ByteLists
 -- What the crate's own proofs cite.

@@ -2,6 +2,7 @@ pub mod At
 pub mod FaultTexts
 pub mod Fields
 pub mod ModuleFields
+pub mod Parts
 pub mod Places
 pub mod Reading
 pub mod Samples

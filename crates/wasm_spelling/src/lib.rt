@@ -6,7 +6,9 @@
 mod cases;
 mod fault;
 mod laws;
+mod part;
 
 pub use cases::file_cases;
 pub use fault::{Cause, ReadFault, Which};
 pub use laws::{a_formed_module_keeps_within_the_limits, each_file_has_one_reading};
+pub use part::Part;

@@ -1,5 +1,6 @@
 // The helpers that units call.
-use c_prelude::{HELPERS, Helper, NumOp, helper, helper_name};
+use c_helpers::{HELPERS, Helper, NumOp, helper_name};
+use c_prelude::helper;
 use c_print::print_unit;
 use c_tree::{CType, Item, Unit};
 use std::alloc::Global;

@@ -2,6 +2,7 @@
 pub mod CodeSizes
 pub mod ExactTable
 pub mod BehindImports
+pub mod ImportCounts
 -- What the crate's own proofs cite.
 mod Common
 mod Lists

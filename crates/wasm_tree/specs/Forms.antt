@@ -6,8 +6,7 @@ use Rattle.wasm_tree.specs.declared.code.MemArg.{MemArg}
 use Rattle.wasm_tree.specs.Instructions.{Kind, MemorySize, MemoryGrow, MemoryCopy, MemoryFill, Block, Loop, If, Br, BrIf, BrTable, Call}
 use Rattle.wasm_tree.specs.Instructions.{CallIndirect, LocalGet, LocalSet, LocalTee, GlobalGet, GlobalSet, Load, Store, I32Const, I64Const}
 use Rattle.wasm_tree.specs.InstructionTable.{Form, nothing, an_index, a_mem_arg, labels, a_type, a_zero, an_i32, an_i64, a_sub_opcode, Row}
-use Rattle.wasm_tree.specs.InstructionTable.{row_of, prefixed}
-use Rattle.wasm_tree.specs.InstructionTable.{opcode_of}
+use Rattle.wasm_tree.specs.InstructionTable.{row_of, prefixed, opcode_of}
 
 -- the form of an instruction that is no block
 abbrev pub form_of : Kind → Option Form

@@ -1,7 +1,7 @@
 -- The index spaces of a module (WebAssembly Core 1.0, 2.5.1): functions, tables, memories and globals by their
 -- index, imports first, with their types.
-use Rattle.std.specs.Prelude.{ℕ, ◌-◌, nat_lt, if◌then◌else◌, Bool, true, false, List, [], ◌∷◌, ◌++◌, length, map, filter, replicate}
-use Rattle.std.specs.Prelude.{flat_map, slice_get, Option, None, option_map}
+use Rattle.std.specs.Prelude.{ℕ, ◌+◌, ◌-◌, ◌<◌, ◌≤◌, nat_lt, if◌then◌else◌, Bool, true, false, List, [], ◌∷◌, ◌++◌, length, map, filter}
+use Rattle.std.specs.Prelude.{replicate, flat_map, slice_get, Option, None, option_map}
 use Rattle.w2c_base.specs.declared.value.ValType.{ValType}
 use Rattle.w2c_base.specs.declared.signature.FuncType.{FuncType}
 use Rattle.w2c_base.specs.Lookup.{if_found}
@@ -38,12 +38,30 @@ is_memory_import i = elim i.kind [ Memory limits ↦ true | _ ↦ false ]
 abbrev pub is_global_import : Import → Bool
 is_global_import i = elim i.kind [ Global ty mutable ↦ true | _ ↦ false ]
 
+-- the imports of each kind, in their order, which is that of their indexes
+abbrev pub func_imports : Module → List Import
+func_imports m = filter is_func_import m.imports
+
+abbrev pub table_imports : Module → List Import
+table_imports m = filter is_table_import m.imports
+
+abbrev pub memory_imports : Module → List Import
+memory_imports m = filter is_memory_import m.imports
+
+abbrev pub global_imports : Module → List Import
+global_imports m = filter is_global_import m.imports
+
 -- how many functions and globals a module imports
 abbrev pub imported_funcs : Module → ℕ
 imported_funcs m = length (filter is_func_import m.imports)
 
 abbrev pub imported_globals : Module → ℕ
 imported_globals m = length (filter is_global_import m.imports)
+
+-- a function that the module with this tree defines, by its index
+pub record IsDefined (tree : Module) (index : ℕ) : Type 0 where
+  pub behind : imported_funcs tree ≤ index
+  pub within : index < imported_funcs tree + length tree.funcs
 
 -- of what stands beside the functions that a module defines, in their order, that of the function with
 -- an index; nothing at the index of an import

@@ -3,6 +3,7 @@ pub mod Appended
 pub mod InstructionTable
 pub mod Forms
 pub mod IndexSpaces
+pub mod NamedModule
 pub mod Instructions
 pub mod Falls
 pub mod Size
@@ -13,3 +14,5 @@ pub mod Parts
 pub mod Bytes
 pub mod Limits
 pub mod Within
+-- code and modules by hand, for closed cases alone
+pub mod Samples

@@ -7,6 +7,7 @@ use Rattle.wasm_tree.specs.declared.tree.Module.{Module}
 use Rattle.wasm_tree.specs.declared.entries.BodyEntry.{BodyEntry}
 use Rattle.wasm_tree.specs.declared.entries.Limits.{Limits}
 use Rattle.wasm_tree.specs.declared.entries.Export.{Export}
+pub use Rattle.wasm_tree.specs.Samples.{no_module}
 use Rattle.wasm_typing.specs.Context.{Context}
 
 -- instructions in order, the first at a place, each one byte behind the one before
@@ -28,22 +29,6 @@ context locals result = record {
 
 abbrev pub body : Code → ℕ → BodyEntry
 body code end_place = record { runs = []; code = code; end_place = end_place }
-
-abbrev pub no_module : Module
-no_module = record {
-  types = [];
-  imports = [];
-  funcs = [];
-  tables = [];
-  memories = [];
-  globals = [];
-  exports = [];
-  start = None;
-  elements = [];
-  data_count = None;
-  segments = [];
-  bodies = [];
-}
 
 -- two functions `[] -> [i32]` with these bodies
 abbrev pub two_functions : BodyEntry → BodyEntry → Module

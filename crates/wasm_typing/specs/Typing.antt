@@ -9,8 +9,7 @@ use Rattle.w2c_base.specs.declared.signature.FuncType.{FuncType}
 use Rattle.wasm_tree.specs.Instructions.{Code, end_code, then_code, Kind, Otherwise, no_else, else_code, Unreachable, Return, Drop, Select}
 use Rattle.wasm_tree.specs.Instructions.{MemorySize, MemoryGrow, MemoryCopy, MemoryFill, Block, Loop, If, Br, BrIf, BrTable, Call}
 use Rattle.wasm_tree.specs.Instructions.{CallIndirect, LocalGet, LocalSet, LocalTee, GlobalGet, GlobalSet, Load, Store}
-use Rattle.wasm_tree.specs.InstructionTable.{Typing, of_types, by_rule, Row, row_of}
-use Rattle.wasm_tree.specs.InstructionTable.{opcode_of}
+use Rattle.wasm_tree.specs.InstructionTable.{Typing, of_types, by_rule, Row, row_of, opcode_of}
 use Rattle.wasm_tree.specs.Accesses.{load_width, store_width}
 use Rattle.wasm_typing.specs.Context.{Context, Labels}
 

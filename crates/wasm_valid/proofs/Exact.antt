@@ -119,6 +119,11 @@ looked_up None f T s h = λ old new sh w. let e = w.1 in cc
 looked_up (Some x) f T s h =
     exact_by s (f x) (T x) _ (λ old new t. (x, refl, t)) (λ old new w. subst (λ y. T y old new) (sym (same_Some x w.0 w.1)) w.2) (h x)
 
+-- an index of what says what is taken and what is put
+looked_turn : {A : Type 0} (o : Option A) (a b : A → Stack) (s : Operands) → Exact s (on_some o (λ x. turn (a x) (b x) s))
+    (λ old new. (x : A) × (o ≡ Some x) × Turns (a x) (b x) old new)
+looked_turn o a b s = looked_up o (λ x. turn (a x) (b x) s) (λ x. Turns (a x) (b x)) s (λ x. turn_exact (a x) (b x) s)
+
 -- a test
 tested : (b : Bool) (P : Type 0) → (P → b ≡ true) → (b ≡ true → P) → (s : Operands) (r : Option Operands) (T : Rule) → Exact s r T
     → Exact s (when b r) (λ old new. P × T old new)
@@ -235,13 +240,6 @@ select_exact c labels s =
     (λ old new w. (w.0 ∷ w.0 ∷ w.1.0, w.1.1, (w.0, (w.1.0, refl, w.1.2))))
     (popped I32 s (pop_type I32 s) chosen TwoToOne (pop_leaves I32 s) chosen_exact)
 
-br_exact : (c : Context) (labels : Labels) (k : ℕ) (s : Operands) → StepExact c labels (Br k) s
-br_exact c labels k s = looked_up (slice_get labels k) _ (λ t. Leaves (values t)) s (λ t. jump_exact (values t) s)
-
-br_if_exact : (c : Context) (labels : Labels) (k : ℕ) (s : Operands) → StepExact c labels (BrIf k) s
-br_if_exact c labels k s =
-    looked_up (slice_get labels k) _ (λ t. Turns (values t ++ I32 ∷ []) (values t)) s (λ t. turn_exact (values t ++ I32 ∷ []) (values t) s)
-
 br_table_exact : (c : Context) (labels : Labels) (ks : List ℕ) (k : ℕ) (s : Operands) → StepExact c labels (BrTable ks k) s
 br_table_exact c labels ks k s =
     exact_by s _ (λ old new. (t : Option ValType) × (slice_get labels k ≡ Some t)
@@ -257,7 +255,7 @@ call_exact c labels f s =
     × ((ty : FuncType) × (o ≡ Some ty) × Turns ty.params (values ty.result) old new)) (KindHasType c labels (Call f))
     (λ old new w. (w.2.0, w.1 ∙ ap Some w.2.1, w.2.2)) (λ old new w. (Some w.0, w.1, (w.0, refl, w.2)))
     (looked_up (slice_get c.funcs f) _ (λ o old new. (ty : FuncType) × (o ≡ Some ty) × Turns ty.params (values ty.result) old new) s
-    (λ o. looked_up o _ (λ ty. Turns ty.params (values ty.result)) s (λ ty. turn_exact ty.params (values ty.result) s)))
+    (λ o. looked_turn o (λ ty. ty.params) (λ ty. values ty.result) s))
 
 call_indirect_exact : (c : Context) (labels : Labels) (x : ℕ) (s : Operands) → StepExact c labels (CallIndirect x) s
 call_indirect_exact c labels x s =
@@ -268,21 +266,12 @@ call_indirect_exact c labels x s =
     (λ ty. tested (has_table c) (HasTable c) (λ h. h) (λ h. h) s _ (Turns (ty.params ++ I32 ∷ []) (values ty.result))
     (turn_exact (ty.params ++ I32 ∷ []) (values ty.result) s)))
 
-local_get_exact : (c : Context) (labels : Labels) (x : ℕ) (s : Operands) → StepExact c labels (LocalGet x) s
-local_get_exact c labels x s = looked_up (slice_get c.locals x) _ (λ t. Turns [] (t ∷ [])) s (λ t. turn_exact [] (t ∷ []) s)
-
-local_set_exact : (c : Context) (labels : Labels) (x : ℕ) (s : Operands) → StepExact c labels (LocalSet x) s
-local_set_exact c labels x s = looked_up (slice_get c.locals x) _ (λ t. Turns (t ∷ []) []) s (λ t. turn_exact (t ∷ []) [] s)
-
-local_tee_exact : (c : Context) (labels : Labels) (x : ℕ) (s : Operands) → StepExact c labels (LocalTee x) s
-local_tee_exact c labels x s = looked_up (slice_get c.locals x) _ (λ t. Turns (t ∷ []) (t ∷ [])) s (λ t. turn_exact (t ∷ []) (t ∷ []) s)
-
 global_get_exact : (c : Context) (labels : Labels) (x : ℕ) (s : Operands) → StepExact c labels (GlobalGet x) s
 global_get_exact c labels x s =
     exact_by s _ (λ old new. (g : ValType × Bool) × (slice_get c.globals x ≡ Some g) × Turns [] (g.0 ∷ []) old new)
     (KindHasType c labels (GlobalGet x))
     (λ old new w. (w.0.0, w.0.1, w.1, w.2)) (λ old new w. ((w.0, w.1), w.2, w.3))
-    (looked_up (slice_get c.globals x) _ (λ g. Turns [] (g.0 ∷ [])) s (λ g. turn_exact [] (g.0 ∷ []) s))
+    (looked_turn (slice_get c.globals x) (λ g. []) (λ g. g.0 ∷ []) s)
 
 global_set_exact : (c : Context) (labels : Labels) (x : ℕ) (s : Operands) → StepExact c labels (GlobalSet x) s
 global_set_exact c labels x s =
@@ -450,14 +439,19 @@ mutual
   kind_exact c labels p Return s = plain_exact c labels p Return s (jump_exact (values c.result) s)
   kind_exact c labels p Drop s = plain_exact c labels p Drop s (drop_exact s)
   kind_exact c labels p Select s = plain_exact c labels p Select s (select_exact c labels s)
-  kind_exact c labels p (Br k) s = plain_exact c labels p (Br k) s (br_exact c labels k s)
-  kind_exact c labels p (BrIf k) s = plain_exact c labels p (BrIf k) s (br_if_exact c labels k s)
+  kind_exact c labels p (Br k) s = plain_exact c labels p (Br k) s
+      (looked_up (slice_get labels k) _ (λ t. Leaves (values t)) s (λ t. jump_exact (values t) s))
+  kind_exact c labels p (BrIf k) s =
+      plain_exact c labels p (BrIf k) s (looked_turn (slice_get labels k) (λ t. values t ++ I32 ∷ []) values s)
   kind_exact c labels p (BrTable ks k) s = plain_exact c labels p (BrTable ks k) s (br_table_exact c labels ks k s)
   kind_exact c labels p (Call f) s = plain_exact c labels p (Call f) s (call_exact c labels f s)
   kind_exact c labels p (CallIndirect x) s = plain_exact c labels p (CallIndirect x) s (call_indirect_exact c labels x s)
-  kind_exact c labels p (LocalGet x) s = plain_exact c labels p (LocalGet x) s (local_get_exact c labels x s)
-  kind_exact c labels p (LocalSet x) s = plain_exact c labels p (LocalSet x) s (local_set_exact c labels x s)
-  kind_exact c labels p (LocalTee x) s = plain_exact c labels p (LocalTee x) s (local_tee_exact c labels x s)
+  kind_exact c labels p (LocalGet x) s =
+      plain_exact c labels p (LocalGet x) s (looked_turn (slice_get c.locals x) (λ t. []) (λ t. t ∷ []) s)
+  kind_exact c labels p (LocalSet x) s =
+      plain_exact c labels p (LocalSet x) s (looked_turn (slice_get c.locals x) (λ t. t ∷ []) (λ t. []) s)
+  kind_exact c labels p (LocalTee x) s =
+      plain_exact c labels p (LocalTee x) s (looked_turn (slice_get c.locals x) (λ t. t ∷ []) (λ t. t ∷ []) s)
   kind_exact c labels p (GlobalGet x) s = plain_exact c labels p (GlobalGet x) s (global_get_exact c labels x s)
   kind_exact c labels p (GlobalSet x) s = plain_exact c labels p (GlobalSet x) s (global_set_exact c labels x s)
   kind_exact c labels p (Load op arg) s =

@@ -21,7 +21,9 @@ pub both_self : {R : Type 0} {f : Fields → Fields} {f' : R → Fields → Fiel
 both_self {R} {f} {f'} h = record { on = moves; back = moves }
   where
     moves : Moves f f
-    moves rest other go bytes s = let a = h.at 0 bytes rest s in a.aside other (go a.back a.behind)
+    moves rest other go bytes s =
+        let a = h.at 0 bytes rest s in
+        subst (λ l. SpelledAside (f other) l) (sym a.whole) (a.aside other a.back (go a.back a.behind))
 
 pub both_then : {f f' g g' : Fields → Fields} → Both f f' → Both g g' → Both (λ x. f (g x)) (λ x. f' (g' x))
 both_then {f} {f'} {g} {g'} p q = record {

@@ -1,9 +1,9 @@
 -- Modules, and the same with every place 0: the same bytes spell both with the places aside.
 use Rattle.wasm_writing.proofs.Common.{◌≡◌, ℕ, ◌≤◌, false, List, [], ◌∷◌, map, length, is_none, nat_eq, Some, None, Option, sym, refl, ap}
-use Rattle.wasm_writing.proofs.Common.{◌∙◌, subst, inl, inr, cases_Bool, DataCount, Start, Module, Fields, byte, finished, number, provided}
+use Rattle.wasm_writing.proofs.Common.{◌∙◌, subst, inl, inr, cases_Bool, DataCount, Start, Module, Fields, finished, number, provided}
 use Rattle.wasm_writing.proofs.Common.{most_functions, most_module_bytes, Part, bodies, code, content, data_count, data_count_content, each}
-use Rattle.wasm_writing.proofs.Common.{elements, exports, functions, globals, id_of, imports, is_empty, magic, memories, module_fields}
-use Rattle.wasm_writing.proofs.Common.{parts, segments, start, start_content, tables, types, version, SpellsAside, bare_body}
+use Rattle.wasm_writing.proofs.Common.{elements, exports, functions, globals, id_of, imports, is_empty, memories, module_fields}
+use Rattle.wasm_writing.proofs.Common.{parts, segments, start, start_content, tables, types, SpellsAside, bare_body}
 use Rattle.wasm_writing.proofs.Common.{bare_data_count, bare_element, bare_export, bare_func, bare_global, bare_import, bare_limits_entry}
 use Rattle.wasm_writing.proofs.Common.{bare_module, bare_segment, bare_start, bare_type, filled, short_fields}
 use Rattle.wasm_writing.specs.Aside.{SpelledAside}
@@ -12,7 +12,7 @@ use Rattle.wasm_writing.proofs.Both.{Both, both_here, both_none, both_self, both
 use Rattle.wasm_writing.proofs.Both.{length-bare}
 use Rattle.wasm_writing.proofs.BothEntries.{both_bodies, both_element, both_export, both_func, both_global, both_import, both_memory}
 use Rattle.wasm_writing.proofs.BothEntries.{both_segment, both_table, both_type}
-use Rattle.wasm_writing.proofs.Fills.{Keeps, keeps_both, keeps_byte, keeps_number, keeps_provided}
+use Rattle.wasm_writing.proofs.Fills.{start_of_file, keeps_byte, keeps_number, keeps_provided, keeps_start}
 use Rattle.wasm_writing.proofs.FillsEntries.{keeps_data_count}
 use Rattle.wasm_writing.proofs.PartLemmas.{filled-empty, filled-full}
 
@@ -92,16 +92,6 @@ both_parts : (t : Module) (ps : List Part) → Both (each (filled t) ps) (each (
 both_parts t [] = both_none
 both_parts t (part ∷ ps) = both_then (both_filled t part) (both_parts t ps)
 
-start_of_file : Fields → Fields
-start_of_file rest = magic (version rest)
-
-four : (a b c d : ℕ) → Keeps (λ x. byte a (byte b (byte c (byte d x))))
-four a b c d = keeps_both (keeps_byte a) (keeps_both (keeps_byte b) (keeps_both (keeps_byte c) (keeps_byte d)))
-
-both_start_of_file : Both start_of_file start_of_file
-unfolding start_of_file
-both_start_of_file = both_then (both_self (four 0x00 0x61 0x73 0x6D)) (both_self (four 0x01 0x00 0x00 0x00))
-
 counts_bare : (t : Module) → nat_eq (length (map bare_func t.funcs)) (length (map bare_body t.bodies))
     ≡ nat_eq (length t.funcs) (length t.bodies)
 counts_bare t =
@@ -113,7 +103,7 @@ unfolding start_of_file
 both_short t =
     let count = nat_eq (length t.funcs) (length t.bodies) in
     subst (λ b. Both (short_fields t) (λ x. start_of_file (provided b (each (filled (bare_module t)) parts x)))) (sym (counts_bare t))
-    (both_then both_start_of_file (both_then (both_self (keeps_provided count)) (both_parts t parts)))
+    (both_then (both_self keeps_start) (both_then (both_self (keeps_provided count)) (both_parts t parts)))
 
 -- a file of a module's spells its short fields with the places aside, in no more bytes
 pub short_of_file : (t : Module) (bytes : List ℕ) → SpellsAside t bytes

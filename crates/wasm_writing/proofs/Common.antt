@@ -42,12 +42,12 @@ pub use Rattle.wasm_spelling.specs.ModuleFields.{limits_from, locals_of, magic, 
 pub use Rattle.wasm_spelling.specs.ModuleFields.{mutability_code, name, parts, rank_of, results, runs, section, sections, segment_entry}
 pub use Rattle.wasm_spelling.specs.ModuleFields.{segments, short_vector, start, start_content, start_entry, table_entry, table_type, tables}
 pub use Rattle.wasm_spelling.specs.ModuleFields.{type_code, type_entry, types, value_type, vector, version}
+pub use Rattle.wasm_spelling.specs.Parts.{part_is}
 pub use Rattle.wasm_spelling.specs.Places.{IsFormed, SameApartFromPlaces, SpellsAside, bare_body, bare_code, bare_data_count, bare_element}
 pub use Rattle.wasm_spelling.specs.Places.{bare_export, bare_func, bare_func_ref, bare_global, bare_import, bare_import_kind, bare_limits}
 pub use Rattle.wasm_spelling.specs.Places.{bare_limits_entry, bare_module, bare_segment, bare_start, bare_type}
 pub use Rattle.wasm_writing.specs.Bodies.{body_content}
 pub use Rattle.wasm_writing.specs.Drafts.{Completes, Fits, HasStopped, IsWithin, Makes, Puts, PutsSize, Refuses, Takes, size_of}
-pub use Rattle.wasm_writing.specs.Parts.{part_of}
 pub use Rattle.wasm_writing.specs.ShortFile.{IsShortFile, filled, short_fields}
 pub use Rattle.wasm_writing.specs.declared.draft.Draft.{Draft}
 pub use Rattle.wasm_writing.specs.declared.draft.Draft.TheVariants.{Counted, Stopped, Written}

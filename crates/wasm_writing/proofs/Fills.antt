@@ -1,7 +1,7 @@
 -- Bytes that spell fields with the places aside spell the same fields with some places, whatever follows them.
 use Rattle.wasm_writing.proofs.Common.{◌≡◌, ℕ, ◌+◌, Bool, List, [], ◌∷◌, ◌++◌, map, length, ℤ, sym, refl, ap, ◌∙◌, subst, append_assoc}
 use Rattle.wasm_writing.proofs.Common.{add-zero, arith, length-append, SpellsSigned, SpellsUnsigned, Fields, Spelled, Then, byte, finished}
-use Rattle.wasm_writing.proofs.Common.{here, number, provided, signed, text, window, each, vector}
+use Rattle.wasm_writing.proofs.Common.{here, number, provided, signed, text, window, each, magic, vector, version}
 use Rattle.wasm_writing.specs.Aside.{SpelledAside, SpelledBy}
 
 -- The bytes at the front spell the fields of a result, and what is behind them spells the rest.
@@ -13,7 +13,7 @@ pub record Filled {R : Type 0} (fields : Fields → Fields) (made : R → Fields
   pub whole : bytes ≡ front ++ back
   pub behind : SpelledAside rest back
   pub spelled : (other : Fields) → Spelled other (place + length front) back → Spelled (made result other) place bytes
-  pub aside : (other : Fields) → SpelledAside other back → SpelledAside (fields other) bytes
+  pub aside : (other : Fields) (more : List ℕ) → SpelledAside other more → SpelledAside (fields other) (front ++ more)
 
 pub record Fills {R : Type 0} (fields : Fields → Fields) (made : R → Fields → Fields) : Type 0 where
   pub at : (place : ℕ) (bytes : List ℕ) (rest : Fields) → SpelledAside (fields rest) bytes → Filled fields made place bytes rest
@@ -34,7 +34,7 @@ fills_none {R} made r same = record {
     whole = refl;
     behind = s;
     spelled = λ other u. subst (λ x. Spelled x place bytes) (same other) (subst (λ n. Spelled other n bytes) (add-zero place) u);
-    aside = λ other u. u;
+    aside = λ other more u. u;
   };
 }
 
@@ -62,7 +62,7 @@ keeps_front P field aside spelt = record {
         whole = t.2;
         behind = t.4;
         spelled = λ other u. spelt other place bytes (t.0, t.1, t.2, t.3, u);
-        aside = λ other u. aside.1 other bytes t.0 t.1 t.2 t.3 u;
+        aside = λ other more u. aside.1 other (t.0 ++ more) t.0 more refl t.3 u;
       };
 }
 
@@ -100,7 +100,7 @@ keeps_provided b = record {
     whole = refl;
     behind = s.1;
     spelled = λ other u. (s.0, subst (λ n. Spelled other n bytes) (add-zero place) u);
-    aside = λ other u. (s.0, u);
+    aside = λ other more u. (s.0, u);
   };
 }
 
@@ -121,7 +121,8 @@ fills_both {R} {S} {f} {g} {f'} {g'} h k = record {
         whole = a.whole ∙ ap (λ l. a.front ++ l) b.whole ∙ sym (append_assoc a.front b.front b.back);
         behind = b.behind;
         spelled = λ other u. a.spelled (g' b.result other) (b.spelled other (subst (λ n. Spelled other n b.back) next u));
-        aside = λ other u. a.aside (g other) (b.aside other u);
+        aside = λ other more u. subst (λ l. SpelledAside (f (g other)) l) (sym (append_assoc a.front b.front more))
+            (a.aside (g other) (b.front ++ more) (b.aside other more u));
       };
 }
 
@@ -167,7 +168,7 @@ fills_here {R} {q} {f} {f'} h = record {
         whole = a.whole;
         behind = a.behind;
         spelled = λ other u. (refl, a.spelled other u);
-        aside = λ other u. a.aside other u;
+        aside = λ other more u. a.aside other more u;
       };
 }
 
@@ -194,8 +195,21 @@ fills_window {R} {f} {f'} h = record { at = filled }
                 size,
                 (front, back, e, p, (content, after, d, (l, a.spelled finished none), subst (λ n. Spelled other n after) next u)),
               );
-          aside = λ other u. (size, (front, back, e, p, (content, after, d, (l, s), u)));
+          aside = λ other more u.
+              (size, (front, content ++ more, append_assoc front content more, p, (content, more, refl, (l, s), u)));
         }
+
+-- ---- how a file begins
+
+unfoldable pub start_of_file : Fields → Fields
+start_of_file rest = magic (version rest)
+
+four : (a b c d : ℕ) → Keeps (λ x. byte a (byte b (byte c (byte d x))))
+four a b c d = keeps_both (keeps_byte a) (keeps_both (keeps_byte b) (keeps_both (keeps_byte c) (keeps_byte d)))
+
+pub keeps_start : Keeps start_of_file
+unfolding start_of_file
+keeps_start = keeps_both (four 0x00 0x61 0x73 0x6D) (four 0x01 0x00 0x00 0x00)
 
 -- ---- lists
 

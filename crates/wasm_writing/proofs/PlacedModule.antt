@@ -11,7 +11,7 @@ use Rattle.wasm_writing.specs.Aside.{SpelledAside, SpelledBy}
 use Rattle.wasm_spelling.proofs.Parts.{put}
 use Rattle.wasm_writing.proofs.Both.{length-bare}
 use Rattle.wasm_writing.proofs.Fills.{Fills, Like, Likes, fills_after, fills_as, fills_each, fills_here, fills_vector, fills_window}
-use Rattle.wasm_writing.proofs.Fills.{keeps_byte, keeps_number, keeps_provided}
+use Rattle.wasm_writing.proofs.Fills.{start_of_file, keeps_byte, keeps_number, keeps_provided, keeps_start}
 use Rattle.wasm_writing.proofs.FillsEntries.{fills_bodies, fills_element, fills_export, fills_func, fills_global, fills_import}
 use Rattle.wasm_writing.proofs.FillsEntries.{fills_memory, fills_segment, fills_start, fills_table, fills_type, keeps_data_count}
 use Rattle.wasm_writing.proofs.PartLemmas.{filled-empty, filled-full}
@@ -172,34 +172,12 @@ same_counts t u e =
 -- what spells the short fields of a module with the places aside spells a module that is the same but for places
 pub placed_module : (t : Module) (bytes : List ℕ) → SpelledAside (short_fields t finished) bytes
     → (u : Module) × SameApartFromPlaces t u × Spelled (module_fields u) 0 bytes
-unfolding SpelledBy
-placed_module t bytes (
-  a,
-  b,
-  e0,
-  p0,
-  (c, d, e1, p1, (f, g, e2, p2, (h, i, e3, p3, (j, k, e4, p4, (l, m, e5, p5, (n, o, e6, p6, (q, r, e7, p7, (same, s)))))))),
-) =
-    let u = placed_all t (0 + length a + length c + length f + length h + length j + length l + length n + length q) r s in (
+unfolding SpelledBy start_of_file
+placed_module t bytes s =
+    let begins = keeps_start.at 0 bytes (provided (nat_eq (length t.funcs) (length t.bodies)) (each (filled t) parts finished)) s in
+    let u = placed_all t (0 + length begins.front) begins.back begins.behind.1 in (
       u.0,
       sym u.1,
-      (
-        a,
-        b,
-        e0,
-        p0,
-        (
-          c,
-          d,
-          e1,
-          p1,
-          (
-            f,
-            g,
-            e2,
-            p2,
-            (h, i, e3, p3, (j, k, e4, p4, (l, m, e5, p5, (n, o, e6, p6, (q, r, e7, p7, (same_counts t u.0 u.1 ∙ same, u.2)))))),
-          ),
-        ),
-      ),
+      begins.spelled (provided (nat_eq (length (u.0).funcs) (length (u.0).bodies)) (sections parts u.0 finished))
+          (same_counts t u.0 u.1 ∙ begins.behind.0, u.2),
     )

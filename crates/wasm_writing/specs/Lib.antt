@@ -3,4 +3,3 @@ pub mod Drafts
 pub mod Codes
 pub mod ShortFile
 pub mod Bodies
-pub mod Parts

@@ -1,8 +1,8 @@
 // Sections (WebAssembly Core 1.0, 5.5.2 to 5.5.14; Core 2.0, 5.5.15).
 ghost use Rattle.std.specs.Prelude.{◌≡◌};
-ghost use Rattle.wasm_spelling.specs.ModuleFields.{each as each_fields, content as content_fields, is_empty as is_empty_of, id_of, start_content, data_count_content, table_entry, memory_entry};
+ghost use Rattle.wasm_spelling.specs.ModuleFields.{each as each_fields, content as content_fields, is_empty as is_empty_of, start_content, data_count_content, table_entry, memory_entry};
+ghost use Rattle.wasm_spelling.specs.Parts.{part_is};
 ghost use Rattle.wasm_writing.specs.Drafts.{Puts};
-ghost use Rattle.wasm_writing.specs.Parts.{part_of};
 ghost use Rattle.wasm_writing.specs.ShortFile.{filled};
 
 use crate::bodies::bodies;
@@ -10,24 +10,8 @@ use crate::draft::Draft;
 use crate::types::{memory_type, table_type};
 use crate::vectors::{Entry, count, short_vector, vector};
 use w2c_base::FUNCTIONS;
+use wasm_spelling::Part;
 use wasm_tree::{DataCount, LimitsEntry, Module, Start};
-
-/// A section that is not a custom one.
-#[derive(Clone, Copy)]
-pub enum Part {
-    Types,
-    Imports,
-    Functions,
-    Tables,
-    Memories,
-    Globals,
-    Exports,
-    Start,
-    Elements,
-    DataCount,
-    Code,
-    Segments,
-}
 
 /// The sections in the order of a file.
 pub const PARTS: [Part; 12] = [
@@ -85,7 +69,7 @@ fn data_count(data_count: Option<DataCount>, found: usize, draft: &mut Draft)
 
 /// Puts what a section contains.
 fn content(part: Part, m: &Module, draft: &mut Draft)
-    ensures { Puts (content_fields (part_of part) m.now) draft.old draft.new }
+    ensures { Puts (content_fields (part_is part) m.now) draft.old draft.new }
 {
     match part {
         Part::Types => vector(m.types.as_slice(), draft),
@@ -114,7 +98,7 @@ fn content(part: Part, m: &Module, draft: &mut Draft)
 
 /// It has no entries.
 fn is_empty(part: Part, m: &Module) -> bool
-    ensures { result ≡ is_empty_of (part_of part) m.now }
+    ensures { result ≡ is_empty_of (part_is part) m.now }
 {
     match part {
         Part::Types => m.types.len() == 0,
@@ -132,42 +116,23 @@ fn is_empty(part: Part, m: &Module) -> bool
     }
 }
 
-fn id(part: Part) -> u8
-    ensures { result ≡ id_of (part_of part) }
-{
-    match part {
-        Part::Types => 1,
-        Part::Imports => 2,
-        Part::Functions => 3,
-        Part::Tables => 4,
-        Part::Memories => 5,
-        Part::Globals => 6,
-        Part::Exports => 7,
-        Part::Start => 8,
-        Part::Elements => 9,
-        Part::DataCount => 12,
-        Part::Code => 10,
-        Part::Segments => 11,
-    }
-}
-
 /// Puts a section, where it has entries.
 fn section(part: Part, m: &Module, draft: &mut Draft)
-    ensures { Puts (filled m.now (part_of part)) draft.old draft.new }
+    ensures { Puts (filled m.now (part_is part)) draft.old draft.new }
 {
     if is_empty(part, m) {
         return;
     }
     let mut counted = Draft::Counted(0);
     content(part, m, &mut counted);
-    draft.byte(id(part));
+    draft.byte(part.id());
     draft.size(&counted);
     content(part, m, draft);
 }
 
 /// Puts those of these sections that have entries.
 pub fn sections(parts: &[Part], m: &Module, draft: &mut Draft)
-    ensures { Puts (each_fields (λ part. filled m.now (part_of part)) parts.now) draft.old draft.new }
+    ensures { Puts (each_fields (λ part. filled m.now (part_is part)) parts.now) draft.old draft.new }
 {
     for part in parts {
         section(*part, m, draft);

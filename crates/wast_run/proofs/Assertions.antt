@@ -13,7 +13,7 @@ not_empty [] x e = absurd cc
 not_empty (y ∷ xs) x e = absurd cc
 
 -- lists that end alike
-same_last : {A : Type 0} (xs ys : List A) (x y : A) → xs ++ x ∷ [] ≡ ys ++ y ∷ [] → x ≡ y
+pub same_last : {A : Type 0} (xs ys : List A) (x y : A) → xs ++ x ∷ [] ≡ ys ++ y ∷ [] → x ≡ y
 same_last [] [] x y e = cc
 same_last [] (b ∷ ys) x y e = let rest : [] ≡ ys ++ y ∷ [] = cc in absurd (not_empty ys y rest)
 same_last (a ∷ xs) [] x y e = let rest : [] ≡ xs ++ x ∷ [] = cc in absurd (not_empty xs x rest)
@@ -62,17 +62,15 @@ module _ (s : LinkedSet) (calls : List ListedCall) (steps : ℕ) where
       → IsLong s calls steps
   end_timely expected (came.Ended value) w come (inl (same, is)) out = absurd (ok_differs (sym is ∙ out))
   end_timely expected (came.Ended value) w come (inr (differs, is)) out = absurd (failed_differs (sym is ∙ out))
-  end_timely expected (came.Trapped cause) w come is out = absurd (failed_differs (sym is ∙ out))
-  end_timely expected came.TrappedBefore w come is out = absurd (failed_differs (sym is ∙ out))
   end_timely expected came.OutOfSteps w come is out = come.1
+  end_timely expected _ w come is out = absurd (failed_differs (sym is ∙ out))
 
   trap_timely : (cause : TrapKind) (c : Came) (w : Word) → HasCome s calls steps c → IsTrapWord cause c w → w ≡ word.OutOfSteps
       → IsLong s calls steps
-  trap_timely cause (came.Ended value) w come is out = absurd (failed_differs (sym is ∙ out))
   trap_timely cause (came.Trapped other) w come (inl (same, is)) out = absurd (ok_differs (sym is ∙ out))
   trap_timely cause (came.Trapped other) w come (inr (differs, is)) out = absurd (failed_differs (sym is ∙ out))
-  trap_timely cause came.TrappedBefore w come is out = absurd (failed_differs (sym is ∙ out))
   trap_timely cause came.OutOfSteps w come is out = come.1
+  trap_timely cause _ w come is out = absurd (failed_differs (sym is ∙ out))
 
 -- one call more than those that are kept
 one_more : (kept : List ListedCall) (call : ListedCall) → suc (length kept) ≡ length (kept ++ call ∷ [])

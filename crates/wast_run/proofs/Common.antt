@@ -1,6 +1,6 @@
 -- What proofs of this crate cite of std, of the crates below and of specs/, passed on from one place. Declares nothing.
 pub use Rattle.std.proofs.Common.{◌≡◌, ℕ, zero, suc, ◌+◌, ◌<◌, ◌≤◌, Bool, true, false, ◌&&◌, ◌≢◌, ◌⊎◌, List, [], ◌∷◌, ◌++◌, map, length}
-pub use Rattle.std.proofs.Common.{get_or, take, drop, pos, IfSome, if◌then◌else◌, nat_le, ◌==◌, slice_get, Some, None, Ok, Err}
+pub use Rattle.std.proofs.Common.{get_or, take, drop, IfSome, if◌then◌else◌, nat_le, ◌==◌, slice_get, Some, None, Ok, Err}
 pub use Rattle.std.proofs.Common.{string_bytes, codes, Option, MatchOption, option_map, find, option_and_then, bytes_eq, sym, refl, ap, ◌∙◌}
 pub use Rattle.std.proofs.Common.{subst, inl, inr, append_assoc, append-nil, add-one, arith, length-append, take-append-drop}
 pub use Rattle.std.proofs.Common.{length-take-le, take_all, drop-cons, take-suc, Bor, leb-true}
@@ -23,12 +23,13 @@ pub use Rattle.w2c_io.specs.Telling.{Says, SaysPart, Tells}
 pub use Rattle.w2c_files.specs.Words.{texts}
 pub use Rattle.wasm_tree.specs.Limits.{most_module_bytes}
 pub use Rattle.wasm_tree.specs.declared.tree.Module.{Module}
+pub use Rattle.wasm_tree.specs.NamedModule.{NamedModule}
 pub use Rattle.wasm_typing.specs.Verdict.{Accepted, Invalid, IsValid}
 pub use Rattle.wasm_valid.specs.FileVerdict.{FileVerdict}
 pub use Rattle.c_tree.specs.View.{unit_of}
 pub use Rattle.c_tree.specs.declared.tree.Item.{Item}
-pub use Rattle.wasm_meaning.specs.LinkedSet.{External, FuncAddress, HostFunc, Instance, IsLinked, LinkedSet, ModuleFunc, NamedModule}
-pub use Rattle.wasm_meaning.specs.LinkedSet.{as_func, exported, func_type, instance_of, instances, instances_behind}
+pub use Rattle.wasm_meaning.specs.LinkedSet.{External, FuncAddress, HostFunc, Instance, IsLinked, LinkedSet, ModuleFunc, as_func, exported}
+pub use Rattle.wasm_meaning.specs.LinkedSet.{func_type, instance_of, instances, instances_behind}
 pub use Rattle.wasm_meaning.specs.Run.{Ended, Fits, ListedCall, Stopped, WasmRun, wasm_run}
 pub use Rattle.wasm_set.specs.Sets.{named_of, set_of}
 pub use Rattle.wasm_set.specs.declared.set_module.SetModule.{SetModule}
@@ -36,7 +37,8 @@ pub use Rattle.c_meaning.specs.Linking.{Program, SymbolCall, fits, link_refusal}
 pub use Rattle.c_meaning.specs.Run.{CRun, c_run}
 pub use Rattle.c_sound.specs.NeverStuck.{AllFit}
 pub use Rattle.c_unit.specs.Items.{items}
-pub use Rattle.c_unit.specs.Sets.{IsAccepted, IsAcceptedSet, IsListing, NeverStops, UnitsDoTheSame, UnitsLink, program_of, symbol_call}
+pub use Rattle.c_unit.specs.Accepted.{IsAccepted}
+pub use Rattle.unit_meaning.specs.Sets.{IsAcceptedSet, IsListing, NeverStops, UnitsDoTheSame, UnitsLink, program_of, symbol_call}
 pub use Rattle.program_words.proofs.Written.{extended_twice, line_cause, none_written, prefix_behind, prefix_in_front, prefix_of_itself}
 pub use Rattle.program_words.proofs.Written.{whole_behind}
 pub use Rattle.wast_script.specs.CommandLine.{Line, line_of}

@@ -1,27 +1,14 @@
 -- The worked script: what its text says, what the files hold, and the word that each command comes to.
-use Rattle.std.specs.Char.{encode_utf8}
-use Rattle.std.specs.Str.{chars}
-use Rattle.wast_run.proofs.Common.{◌≡◌, ℕ, zero, suc, List, [], ◌∷◌, length, pos, Some, None, codes, Option, MatchOption, refl, ap, ◌∙◌}
-use Rattle.wast_run.proofs.Common.{subst, inl, inr, arith, leb-true, get, AllByRecursion, I32, Contents, extended, Module}
-use Rattle.wast_run.proofs.Common.{most_module_bytes, Accepted, IsValid, IsLinked, ModuleFunc, NamedModule, Fits, Line, Command, Usage}
-use Rattle.wast_run.proofs.Common.{IsScript, most_script_bytes, IsJob, IsJobBehind, Reported, Reports, Stops, AreWords, AreWordsInTime}
-use Rattle.wast_run.proofs.Common.{Comes, EndsWith, Setting, at_first, listed, report_of, report_status, set_at, modules_run, units_run}
-use Rattle.wast_run.proofs.Common.{Word}
+use Rattle.wast_run.proofs.Common.{◌≡◌, ℕ, zero, suc, List, [], ◌∷◌, length, Some, None, codes, Option, MatchOption, refl, ap, ◌∙◌, subst}
+use Rattle.wast_run.proofs.Common.{inl, inr, arith, leb-true, get, AllByRecursion, I32, Contents, extended, Module, most_module_bytes}
+use Rattle.wast_run.proofs.Common.{Accepted, IsLinked, ModuleFunc, NamedModule, Fits, Line, Command, Usage, IsScript, most_script_bytes}
+use Rattle.wast_run.proofs.Common.{IsJob, IsJobBehind, Reported, Reports, Stops, AreWords, AreWordsInTime, Comes, EndsWith, Setting}
+use Rattle.wast_run.proofs.Common.{at_first, listed, report_of, report_status, set_at, modules_run, units_run, Word}
 use Rattle.std.specs.Fmt.{digits}
-use Rattle.std.specs.Str.{is_utf8}
 use Rattle.clap.proofs.OnLiterals.{clap_on_literals}
 use Rattle.w2c_base.specs.declared.value.ValType.TheVariants as type
-use Rattle.leb_bytes.specs.Computed.{s32_of, u32_of}
-use Rattle.wasm_tree.specs.Instructions.{end_code, then_code, I32Const, Binary}
-use Rattle.wasm_tree.specs.declared.operators.BinaryOp.TheVariants.{Add}
-use Rattle.wasm_tree.specs.declared.entries.ExportKind.TheVariants.{Func as ExportFunc}
-use Rattle.wasm_spelling.specs.ModuleFields.{Spells}
-use Rattle.wasm_spelling.specs.Steps.{bytes_at, checked, number_at, reads, signed32_at}
-use Rattle.wasm_spelling.specs.Reading.{bodies_at, body_at, body_content_at, content_at, exactly_at, export_entry_at, file_at, form_at}
-use Rattle.wasm_spelling.specs.Reading.{func_entry_at, func_type_at, item_at, items_at, kind_at, magic_at, module_at, name_at, part_at}
-use Rattle.wasm_spelling.specs.Reading.{sections_at, times_at, type_at, type_entry_at, utf8_at, version_at, window_at}
-use Rattle.wasm_spelling.proofs.Whole.{file_takes}
-use Rattle.wasm_typing.specs.ModuleFaults.{module_faults}
+use Rattle.leb_bytes.specs.Computed.{u32_of}
+use Rattle.wasm_spelling.specs.Steps.{checked, number_at}
 use Rattle.wasm_valid.proofs.Verdicts as verdicts
 use Rattle.serde_json.proofs.OnLiterals.{serde_json_on_literals}
 use Rattle.wasm_spelling.specs.declared.fault.Cause.TheVariants as cause
@@ -36,6 +23,9 @@ use Rattle.wast_script.specs.Commands as script
 use Rattle.wast_script.proofs.Readings.{one_script}
 use Rattle.wast_run.specs.declared.word.Word.TheVariants as word
 use Rattle.wast_run.specs.Example.{two_json, two_report, two_wasm, two_words}
+use Rattle.wasm_spelling.proofs.WorkedModule.{two_spelled, two_tree}
+use Rattle.wasm_typing.specs.ModuleFaults.{module_faults}
+use Rattle.wasm_typing.specs.Verdict.{IsValid}
 use Rattle.wast_run.proofs.Leads.{lead_plain}
 use Rattle.wast_run.proofs.OneReport.{one_report}
 
@@ -72,33 +62,7 @@ two_script = record {
   has_commands = record { objects = _; objects_are = refl; commands_are = refl };
 }
 
--- ---- the module
-
-abbrev two_tree : Module
-two_tree = record {
-  types = record { place = 11; ty = record { params = []; result = Some type.I32 } } ∷ [];
-  imports = [];
-  funcs = record { type_index = 0; place = 18 } ∷ [];
-  tables = [];
-  memories = [];
-  globals = [];
-  exports = record { name = codes "f"; kind = ExportFunc; index = 0; name_place = 22; index_place = 25 } ∷ [];
-  start = None;
-  elements = [];
-  data_count = None;
-  segments = [];
-  bodies = record {
-    runs = [];
-    code = then_code 31 (I32Const (pos 40)) (then_code 33 (I32Const (pos 2)) (then_code 35 (Binary type.I32 Add) end_code));
-    end_place = 36;
-  } ∷ [];
-}
-
-two_spelled : Spells two_tree two_wasm
-unfolding file_at module_at magic_at version_at exactly_at checked reads sections_at part_at content_at window_at times_at type_entry_at
-    func_type_at type_at func_entry_at export_entry_at name_at utf8_at is_utf8 chars encode_utf8 kind_at bodies_at body_at body_content_at
-    items_at item_at form_at bytes_at number_at signed32_at u32_of s32_of
-two_spelled = (file_takes two_wasm two_tree refl, omega arith)
+-- ---- the module, the set of it, and runs
 
 two_is_valid : IsValid two_tree
 unfolding module_faults
@@ -113,8 +77,6 @@ two_is_valid = record {
     tt,
   );
 }
-
--- ---- the set of it, and runs
 
 abbrev two_named : NamedModule
 two_named = record { name = codes "two"; tree = two_tree }
@@ -261,8 +223,7 @@ module _ (contents : Contents) (script_there : get contents (codes "examples/two
       → (status ≡ 0) × (new ≡ extended old two_report)
   two_reported old new status (steps, commands, job, (all, in_time, printed, is_status)) =
       let said = by_script steps commands job in
-      let words = by_words all (subst (λ (n : ℕ). AreWordsInTime contents n two_commands all) said.1
-      (subst (λ (cs : List Command). AreWordsInTime contents steps cs all) said.0 in_time)) in (
+      let words = by_words all (subst (λ (n : ℕ). AreWordsInTime contents n two_commands all) said.1 (rw said.0 at in_time)) in (
         is_status ∙ ap report_status words,
         printed ∙ ap (λ (ws : List Word). extended old (report_of ws)) words ∙ ap (extended old) five_report,
       )

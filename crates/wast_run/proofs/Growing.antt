@@ -1,24 +1,18 @@
 -- What fits a set of modules fits it with one module more.
-use Rattle.wast_run.proofs.Common.{◌≡◌, ℕ, zero, suc, List, [], ◌∷◌, ◌++◌, if◌then◌else◌, slice_get, Some, None, Option, option_map, refl}
-use Rattle.wast_run.proofs.Common.{ap, ◌∙◌, none-some, AllByRecursion, Host, External, FuncAddress, HostFunc, Instance, ModuleFunc}
-use Rattle.wast_run.proofs.Common.{NamedModule, as_func, exported, func_type, instance_of, instances, instances_behind, Fits, ListedCall}
-use Rattle.wast_run.proofs.Common.{set_with}
+use Rattle.wast_run.proofs.Common.{◌≡◌, ℕ, List, [], ◌∷◌, ◌++◌, if◌then◌else◌, slice_get, Some, None, Option, option_map, refl, ap, ◌∙◌}
+use Rattle.wast_run.proofs.Common.{none-some, AllByRecursion, Host, External, FuncAddress, HostFunc, Instance, ModuleFunc, NamedModule}
+use Rattle.wast_run.proofs.Common.{as_func, exported, func_type, instance_of, instances, instances_behind, Fits, ListedCall, set_with}
 use Rattle.wasm_tree.specs.IndexSpaces.{at_defined, type_in}
 use Rattle.w2c_base.specs.Lookup.{if_found}
 use Rattle.w2c_base.specs.declared.signature.FuncType.{FuncType}
-use Rattle.c_unit.proofs.Stands.{exported_more}
+use Rattle.w2c_base.proofs.Places.{get_front}
+use Rattle.unit_meaning.proofs.Stands.{exported_more}
 
 instances_more : (hosts : List Host) (earlier : List Instance) (modules : List NamedModule) (m : NamedModule)
     → instances_behind hosts earlier (modules ++ m ∷ [])
     ≡ instances_behind hosts earlier modules ++ instance_of hosts (instances_behind hosts earlier modules) m ∷ []
 instances_more hosts earlier [] m = refl
 instances_more hosts earlier (x ∷ modules) m = instances_more hosts (earlier ++ instance_of hosts earlier x ∷ []) modules m
-
-at_more : (modules others : List NamedModule) (p : ℕ) (m : NamedModule) → slice_get modules p ≡ Some m
-    → slice_get (modules ++ others) p ≡ Some m
-at_more [] others p m is = absurd (none-some m is)
-at_more (x ∷ modules) others zero m is = is
-at_more (x ∷ modules) others (suc p) m is = at_more modules others p m is
 
 -- the type of the function with an index of a module
 abbrev type_by : ℕ → Option NamedModule → Option FuncType
@@ -33,7 +27,7 @@ func_type_more modules m (ModuleFunc p index) ty is = by (slice_get modules p) r
     by : (o : Option NamedModule) → slice_get modules p ≡ o → type_by index o ≡ Some ty
         → type_by index (slice_get (modules ++ m ∷ []) p) ≡ Some ty
     by None found is = absurd (none-some ty is)
-    by (Some x) found is = ap (type_by index) (at_more modules (m ∷ []) p x found) ∙ is
+    by (Some x) found is = ap (type_by index) (get_front modules (m ∷ []) p x found) ∙ is
 
 func_more : (o : Option External) (f : FuncAddress) → if_found o as_func ≡ Some f → (e : External) × (o ≡ Some e) × (as_func e ≡ Some f)
 func_more None f is = absurd (none-some f is)

@@ -31,8 +31,7 @@ module _ (m : Contents) where
 
   none_honest : (events : List Event) (current : Option Name) (new : Told) (after : Option Name) → events ≡ []
       → Honest events current new after → new ≡ Some m
-  none_honest events current new after none honest =
-      (subst (λ (l : List Event). Honest l current new after) none honest).0
+  none_honest events current new after none honest = (rw none at honest).0
 
   one_honest : (name : Name) (limit : ℕ) (answer : Answer) (events : List Event) (current : Option Name) (new : Told) (after : Option Name)
       → events ≡ Read name limit answer ∷ [] → Honest events current new after
@@ -47,8 +46,7 @@ module _ (m : Contents) where
   given_file name (Ok bytes) verdict current told after given does = (bytes, does.0, given)
   given_file name (Err reading.TooLong) verdict current told after given does =
       subst (IsFile m name) (sym given) (does.0.0, does.0.1, does.0.2)
-  given_file name (Err reading.Absent) verdict current told after given does = absurd given
-  given_file name (Err _) verdict current told after given does = absurd given
+  given_file name _ verdict current told after given does = absurd given
 
   file_honest : (name : Name) (verdict : Option FileVerdict) (events : List Event) (current : Option Name) (new : Told)
       (after : Option Name) → IsReadAs events name verdict → Honest events current new after → IsFile m name verdict × (new ≡ Some m)
@@ -83,8 +81,7 @@ module _ (m : Contents) where
       honest =
       let parts = honest_both first rest (Some m) new current last (subst (λ (l : List Event). Honest l current new last) calls honest) in
       let one = comes_honest steps at c w between first current parts.0 parts.1 comes.0 parts.2 in
-      let more = lead_honest steps between commands others after rest parts.1 new last lead
-      (subst (λ (t : Told). AreHonest rest t parts.1 new last) one.1 parts.3) in
+      let more = lead_honest steps between commands others after rest parts.1 new last lead (rw one.1 at parts.3) in
       ((w, others, between, (one.0, comes.1), more.0, is), more.1)
 
 -- ---- a run that stops
@@ -103,8 +100,7 @@ last_keeps m Unwritten rest events current new last none honest = none_honest m 
 last_keeps m WantOfMemory rest events current new last (inl none) honest = none_honest m events current new last none honest
 last_keeps m WantOfMemory rest events current new last (inr (file, answer, reads)) honest =
     next_keeps m file answer rest events current new last reads honest
-last_keeps m Usage rest events current new last reads honest = absurd reads
-last_keeps m (Refused why) rest events current new last reads honest = absurd reads
+last_keeps m _ rest events current new last reads honest = absurd reads
 
 long_no_memory : fault.TooLong ≢ fault.Memory
 long_no_memory e = absurd cc
@@ -113,9 +109,9 @@ prefix_of_lines : (why : Reason) (words : List Word) (rest : List Command) (text
     → IsPrefix text (lines_before words rest)
 prefix_of_lines (Unread file) words rest text lines =
     let front_is = lines_in_front words rest in (front_is.0, front_is.1 ∙ ap (λ (l : List ℕ). l ++ front_is.0) (sym lines))
-prefix_of_lines Usage words rest text lines = absurd lines
-prefix_of_lines (Refused why) words rest text lines = absurd lines
-prefix_of_lines _ words rest text lines = lines
+prefix_of_lines Unwritten words rest text lines = lines
+prefix_of_lines WantOfMemory words rest text lines = lines
+prefix_of_lines _ words rest text lines = absurd lines
 
 module _ (m : Contents) where
   module _ (steps : ℕ) (commands : List Command) (old out : Option (List ℕ)) (why : Reason) (events : List Event)
@@ -124,8 +120,7 @@ module _ (m : Contents) where
     abbrev stop_parts : (told : Told) × (name : Option Name) × AreHonest stops.first (Some m) current told name
         × AreHonest stops.last told name new last
     stop_parts =
-        honest_both stops.first stops.last (Some m) new current last
-        (subst (λ (l : List Event). AreHonest l (Some m) current new last) stops.calls honest)
+        honest_both stops.first stops.last (Some m) new current last (rw stops.calls at honest)
 
     abbrev stop_lead : LeadInTime m steps at_first stops.front stops.words stops.after × (stop_parts.0 ≡ Some m)
     stop_lead =
@@ -141,13 +136,11 @@ module _ (m : Contents) where
     not_had file answer is no_file = by answer no_file is
       where
         by : (answer : Answer) → IsNoFile answer → stops.last ≡ module_read file answer → FailsLast file events ⊎ (get m file ≡ None)
-        by (Ok bytes) no_file is = absurd no_file
         by (Err reading.Absent) no_file is =
             inr (one_honest m file most_module_bytes (Err reading.Absent) stops.last stop_parts.1 new last is last_honest).2.0
         by (Err reading.Failed) no_file is =
             inl (stops.first, most_module_bytes, stops.calls ∙ ap (λ (l : List Event). stops.first ++ l) is)
-        by (Err reading.TooLong) no_file is = absurd no_file
-        by (Err reading.Memory) no_file is = absurd no_file
+        by _ no_file is = absurd no_file
 
     first_missing : (file : Name) (answer : Answer) (rest : List Command) → stops.rest ≡ rest → ReadsNext rest file answer stops.last
         → get m file ≡ None → IsFirstMissing m commands file
@@ -193,6 +186,11 @@ module _ (m : Contents) where
 
 -- ---- the script
 
+-- the words ask for this job, or the script's read failed
+abbrev Asks : List Name → Contents → Line → Answer → Job → Type 0
+Asks words m line answer job =
+    (FailsLast line.script (script_read line.script answer) × (job ≡ Stops (Unread line.script))) ⊎ IsJob words m job
+
 module _ (m : Contents) (words : List Name) (line : Line) (is : line_of words ≡ Some line) where
   -- the script was read
   module _ (answer : Answer) (given events : List Event) (current : Option Name) (new : Told) (after : Option Name)
@@ -200,8 +198,7 @@ module _ (m : Contents) (words : List Name) (line : Line) (is : line_of words �
     abbrev script_parts : (told : Told) × (name : Option Name) × AreHonest (script_read line.script answer) (Some m) current told name
         × AreHonest given told name new after
     script_parts =
-        honest_both (script_read line.script answer) given (Some m) new current after
-        (subst (λ (l : List Event). AreHonest l (Some m) current new after) calls honest)
+        honest_both (script_read line.script answer) given (Some m) new current after (rw calls at honest)
 
     abbrev script_does : (told : Told) × (other : Option Name)
         × Does (Read line.script most_script_bytes answer) (Some m) current told other × (script_parts.0 ≡ Some m)
@@ -213,16 +210,14 @@ module _ (m : Contents) (words : List Name) (line : Line) (is : line_of words �
     given_honest = subst (λ (t : Told). AreHonest given t script_parts.1 new after) script_does.3 script_parts.3
 
     -- what the script's read gave is what the words ask for, unless that read failed
-    job_honest : (job : Job) → IsJobBy line answer job
-        → (FailsLast line.script (script_read line.script answer) × (job ≡ Stops (Unread line.script))) ⊎ IsJob words m job
+    job_honest : (job : Job) → IsJobBy line answer job → Asks words m line answer job
     job_honest job by = go answer script_does.2 by
       where
         none : Name → List ℕ → Type 0
         none name text = Unit {0}
 
         go : (answer : Answer) → Does (Read line.script most_script_bytes answer) (Some m) current script_does.0 script_does.1
-            → IsJobBy line answer job
-            → (FailsLast line.script (script_read line.script answer) × (job ≡ Stops (Unread line.script))) ⊎ IsJob words m job
+            → IsJobBy line answer job → Asks words m line answer job
         go (Ok text) does by = inr (job_of_text words line is (Some m) none m text job does.0 by)
         go (Err reading.Absent) does by =
             inr (job_by_line words line is (Some m) none m job (subst (λ o. IsJobBehind line o job) (sym does.0) by))
@@ -244,17 +239,13 @@ Over words m old out events (Err WantOfMemory) = GainedPart words m old out
 
 not_usage : (line : Line) (answer : Answer) → IsJobBy line answer (Stops Usage) → ⊥
 not_usage line (Ok text) job = job
-not_usage line (Err reading.Absent) job = absurd cc
-not_usage line (Err reading.Failed) job = absurd cc
-not_usage line (Err reading.TooLong) job = absurd cc
 not_usage line (Err reading.Memory) job = job
+not_usage line (Err _) job = absurd cc
 
 not_unwritten : (line : Line) (answer : Answer) → IsJobBy line answer (Stops Unwritten) → ⊥
 not_unwritten line (Ok text) job = job
-not_unwritten line (Err reading.Absent) job = absurd cc
-not_unwritten line (Err reading.Failed) job = absurd cc
-not_unwritten line (Err reading.TooLong) job = absurd cc
 not_unwritten line (Err reading.Memory) job = job
+not_unwritten line (Err _) job = absurd cc
 
 refused_unread : (why : ScriptFault) (file : Name) → Stops (Refused why) ≡ Stops (Unread file) → ⊥
 refused_unread why file e = absurd cc
@@ -273,8 +264,7 @@ module _ (words : List Name) (m : Contents) (old out : Option (List ℕ)) (event
 
     -- memory was wanting before the commands
     early_over : (ending : Ending) → WantsMemory line old out ending events → Over words m old out events ending × (new ≡ Some m)
-    early_over ending (memory, same, calls) =
-        (subst (Over words m old out events) (sym memory) (inl same), by calls)
+    early_over ending (memory, same, calls) = (rw memory (inl same), by calls)
       where
         by : (events ≡ []) ⊎ ((answer : Answer) × (events ≡ script_read line.script answer)) → new ≡ Some m
         by (inl none) = none_honest m events current new after none honest
@@ -287,8 +277,7 @@ module _ (words : List Name) (m : Contents) (old out : Option (List ℕ)) (event
       behind_honest : AreHonest given (Some m) behind_script new after
       behind_honest = given_honest m words line is answer given events current new after calls honest
 
-      asked : (job : Job) → IsJobBy line answer job
-          → (FailsLast line.script (script_read line.script answer) × (job ≡ Stops (Unread line.script))) ⊎ IsJob words m job
+      asked : (job : Job) → IsJobBy line answer job → Asks words m line answer job
       asked = job_honest m words line is answer given events current new after calls honest
 
       -- a script that is not read or says no commands
@@ -296,9 +285,7 @@ module _ (words : List Name) (m : Contents) (old out : Option (List ℕ)) (event
       stops_over Usage job same none = absurd (not_usage line answer job)
       stops_over (Refused why) job same none = by (asked (Stops (Refused why)) job)
         where
-          by : (FailsLast line.script (script_read line.script answer) × (Stops (Refused why) ≡ Stops (Unread line.script)))
-              ⊎ IsJob words m (Stops (Refused why))
-              → Over words m old out events (Err (Refused why))
+          by : Asks words m line answer (Stops (Refused why)) → Over words m old out events (Err (Refused why))
           by (inl fails) = absurd (refused_unread why line.script fails.1)
           by (inr job) = (
             (has_line, λ n tells. subst (λ m. IsJob words m (Stops (Refused why))) (same_Some m n tells) job),
@@ -309,9 +296,7 @@ module _ (words : List Name) (m : Contents) (old out : Option (List ℕ)) (event
           whole : events ≡ script_read line.script answer
           whole = calls ∙ ap (λ (l : List Event). script_read line.script answer ++ l) none
 
-          by : (FailsLast line.script (script_read line.script answer) × (Stops (Unread file) ≡ Stops (Unread line.script)))
-              ⊎ IsJob words m (Stops (Unread file))
-              → FailsLast file events ⊎ IsNotThere words m file
+          by : Asks words m line answer (Stops (Unread file)) → FailsLast file events ⊎ IsNotThere words m file
           by (inl fails) = inl (subst (λ (l : List Event). FailsLast file l) (sym whole)
               (subst (λ f. FailsLast f (script_read line.script answer)) (sym (same_unread file line.script fails.1)) fails.0))
           by (inr job) = inr (inl job)
@@ -322,14 +307,12 @@ module _ (words : List Name) (m : Contents) (old out : Option (List ℕ)) (event
         job : IsJob words m (Reports steps commands)
         job = by (asked (Reports steps commands) by_job)
           where
-            by : (FailsLast line.script (script_read line.script answer) × (Reports steps commands ≡ Stops (Unread line.script)))
-                ⊎ IsJob words m (Reports steps commands)
-                → IsJob words m (Reports steps commands)
+            by : Asks words m line answer (Reports steps commands) → IsJob words m (Reports steps commands)
             by (inl fails) = absurd (reports_unread steps commands line.script fails.1)
             by (inr job) = job
 
         midst_over : (why : Reason) → StopsIn steps commands old out why given → Over words m old out events (Err why)
-        midst_over why stops = by why refl (subst (λ why. LastReads why stops.rest stops.last) refl stops.stop)
+        midst_over why stops = by why refl stops.stop
           where
             part : ReportedPart words m old out
             part = (
@@ -390,8 +373,7 @@ module _ (words : List Name) (m : Contents) (old out : Option (List ℕ)) (event
           → Over words m old out events ending × (new ≡ Some m)
       by None is (none, same, inl usage) =
           (subst (Over words m old out events) (sym usage) (is, same), none_honest m events current new after none honest)
-      by None is (none, same, inr memory) =
-          (subst (Over words m old out events) (sym memory) (inl same), none_honest m events current new after none honest)
+      by None is (none, same, inr memory) = (rw memory (inl same), none_honest m events current new after none honest)
       by (Some line) is does = line_over line is ending does
 
 -- ---- what the clauses of the top call say
@@ -417,57 +399,63 @@ module _ (words : List Name) (m : Contents) (old out said said' : Option (List �
   pub told_kept : new ≡ Some m
   told_kept = (ends_over words m old out events current new after honest passes.0 passes.1).1
 
-  reason_is : (why : Reason) (wanted : ℕ) → ((status ≡ status_of why) × Says said said' faults faults' (error_line why)) ⊎ (status ≡ 5)
-      → status ≡ wanted → wanted ≤ 4 → (status_of why ≡ wanted) × Says said said' faults faults' (error_line why)
-  reason_is why wanted (inl (is, says)) same low = (sym is ∙ same, says)
-  reason_is why wanted (inr five) same low = absurd (omega (arith, five, same, low))
+  -- the line of a reason was said
+  abbrev SaysLine : Reason → Type 0
+  SaysLine why = Says said said' faults faults' (error_line why)
+
+  -- it stopped for the reason of a status, and the reason's line was said
+  abbrev StopsWith : ℕ → Type 0
+  StopsWith n = (why : Reason) × Over words m old out events (Err why) × (status_of why ≡ n) × SaysLine why
+
+  stops_with : (n : ℕ) → status ≡ n → 2 ≤ n → n ≤ 4 → StopsWith n
+  stops_with n same some few = by passes.0 over passes.2
+    where
+      by : (ending : Ending) → Over words m old out events ending → IsStatusOf ending status (Says said said' faults faults')
+          → StopsWith n
+      by (Ok done) reported is = absurd (omega (arith, report_low words m old out done reported, is, same, some))
+      by (Err why) stopped (inl (is, says)) = (why, stopped, sym is ∙ same, says)
+      by (Err why) stopped (inr five) = absurd (omega (arith, five, same, few))
 
   pub honest_report : (status ≡ 0) ⊎ (status ≡ 1) → Reported words m old out status
   honest_report came = by passes.0 over passes.2
     where
-      plain : (why : Reason) → ((status ≡ status_of why) × Says said said' faults faults' (error_line why)) ⊎ (status ≡ 5)
-          → (status ≡ status_of why) ⊎ (status ≡ 5)
-      plain why (inl is) = inl is.0
-      plain why (inr five) = inr five
-
       by : (ending : Ending) → Over words m old out events ending → IsStatusOf ending status (Says said said' faults faults')
           → Reported words m old out status
       by (Ok done) reported is = subst (Reported words m old out) (sym is) reported
-      by (Err why) stopped is = absurd (no_report why status (plain why is) came)
+      by (Err why) stopped (inl (is, says)) = absurd (no_report why status (inl is) came)
+      by (Err why) stopped (inr five) = absurd (no_report why status (inr five) came)
 
-  pub honest_refusal : status ≡ 2
-      → (why : Reason) × (status_of why ≡ 2) × Refuses words (Some m) why × (out ≡ old) × Says said said' faults faults' (error_line why)
-  honest_refusal two = by passes.0 over passes.2
+  abbrev IsRefusal : Type 0
+  IsRefusal = (why : Reason) × (status_of why ≡ 2) × Refuses words (Some m) why × (out ≡ old) × SaysLine why
+
+  pub honest_refusal : status ≡ 2 → IsRefusal
+  honest_refusal two = let (why, stopped, is, says) = stops_with 2 two (omega arith) (omega arith) in by why stopped is says
     where
-      for_reason : (why : Reason) → Over words m old out events (Err why) → status_of why ≡ 2
-          → Says said said' faults faults' (error_line why)
-          → (why : Reason) × (status_of why ≡ 2) × Refuses words (Some m) why × (out ≡ old)
-          × Says said said' faults faults' (error_line why)
-      for_reason Usage stopped is says = (Usage, is, stopped.0, stopped.1, says)
-      for_reason (Refused why) stopped is says = (Refused why, is, stopped.0, stopped.1, says)
-      for_reason _ stopped is says = absurd (omega (arith, is))
+      by : (why : Reason) → Over words m old out events (Err why) → status_of why ≡ 2 → SaysLine why → IsRefusal
+      by Usage stopped is says = (Usage, is, stopped.0, stopped.1, says)
+      by (Refused why) stopped is says = (Refused why, is, stopped.0, stopped.1, says)
+      by _ stopped is says = absurd (omega (arith, is))
 
-      by : (ending : Ending) → Over words m old out events ending → IsStatusOf ending status (Says said said' faults faults')
-          → (why : Reason) × (status_of why ≡ 2) × Refuses words (Some m) why × (out ≡ old)
-          × Says said said' faults faults' (error_line why)
-      by (Ok done) reported is = absurd (omega (arith, report_low words m old out done reported, is, two))
-      by (Err why) stopped is = let r = reason_is why 2 is two (omega arith) in for_reason why stopped r.0 r.1
+  abbrev IsMissing : Type 0
+  IsMissing = (file : Name) × (FailsLast file events ⊎ IsNotThere words m file) × SaysLine (Unread file)
 
-  pub honest_unread : status ≡ 3
-      → (file : Name) × (FailsLast file events ⊎ IsNotThere words m file) × Says said said' faults faults' (error_line (Unread file))
-  honest_unread three = by passes.0 over passes.2
+  pub honest_unread : status ≡ 3 → IsMissing
+  honest_unread three = let (why, stopped, is, says) = stops_with 3 three (omega arith) (omega arith) in by why stopped is says
     where
-      for_reason : (why : Reason) → Over words m old out events (Err why) → status_of why ≡ 3
-          → Says said said' faults faults' (error_line why)
-          → (file : Name) × (FailsLast file events ⊎ IsNotThere words m file) × Says said said' faults faults' (error_line (Unread file))
-      for_reason (Unread file) stopped is says = (file, stopped.0, says)
-      for_reason (Refused why) stopped is says = absurd (fault_not_3 why is)
-      for_reason _ stopped is says = absurd (omega (arith, is))
+      by : (why : Reason) → Over words m old out events (Err why) → status_of why ≡ 3 → SaysLine why → IsMissing
+      by (Unread file) stopped is says = (file, stopped.0, says)
+      by (Refused why) stopped is says = absurd (fault_not_3 why is)
+      by _ stopped is says = absurd (omega (arith, is))
 
-      by : (ending : Ending) → Over words m old out events ending → IsStatusOf ending status (Says said said' faults faults')
-          → (file : Name) × (FailsLast file events ⊎ IsNotThere words m file) × Says said said' faults faults' (error_line (Unread file))
-      by (Ok done) reported is = absurd (omega (arith, report_low words m old out done reported, is, three))
-      by (Err why) stopped is = let r = reason_is why 3 is three (omega arith) in for_reason why stopped r.0 r.1
+  -- a line that is not written is one of a report
+  pub honest_unwritten : status ≡ 4 → ReportedPart words m old out × SaysLine Unwritten
+  honest_unwritten four = let (why, stopped, is, says) = stops_with 4 four (omega arith) (omega arith) in by why stopped is says
+    where
+      by : (why : Reason) → Over words m old out events (Err why) → status_of why ≡ 4 → SaysLine why
+          → ReportedPart words m old out × SaysLine Unwritten
+      by Unwritten stopped is says = (stopped, says)
+      by (Refused why) stopped is says = absurd (fault_not_4 why is)
+      by _ stopped is says = absurd (omega (arith, is))
 
   pub honest_part : GainedPart words m old out
   honest_part = by passes.0 over
@@ -484,7 +472,7 @@ module _ (words : List Name) (m : Contents) (old out said said' : Option (List �
   abbrev Answered : Type 0
   Answered = (status ≡ 4) ⊎ (status ≡ 5) ⊎ ((file : Name) × FailsLast file events) ⊎ IsAnswered words m status
 
-  pub honest_answer : (status ≡ 4) ⊎ (status ≡ 5) ⊎ ((file : Name) × FailsLast file events) ⊎ IsAnswered words m status
+  pub honest_answer : Answered
   honest_answer = by passes.0 over passes.2
     where
       for_reason : (why : Reason) → Over words m old out events (Err why) → status ≡ status_of why → Answered
@@ -502,22 +490,6 @@ module _ (words : List Name) (m : Contents) (old out said said' : Option (List �
           inr (inr (inr (Reports steps commands, job, inr (all, (at, lead_plain m steps at_first commands all at lead), is ∙ same))))
       by (Err why) stopped (inl (is, says)) = for_reason why stopped is
       by (Err why) stopped (inr five) = inr (inl five)
-
-  -- a line that is not written is one of a report
-  pub honest_unwritten : status ≡ 4 → ReportedPart words m old out × Says said said' faults faults' (error_line Unwritten)
-  honest_unwritten four = by passes.0 over passes.2
-    where
-      for_reason : (why : Reason) → Over words m old out events (Err why) → status_of why ≡ 4
-          → Says said said' faults faults' (error_line why)
-          → ReportedPart words m old out × Says said said' faults faults' (error_line Unwritten)
-      for_reason Unwritten stopped is says = (stopped, says)
-      for_reason (Refused why) stopped is says = absurd (fault_not_4 why is)
-      for_reason _ stopped is says = absurd (omega (arith, is))
-
-      by : (ending : Ending) → Over words m old out events ending → IsStatusOf ending status (Says said said' faults faults')
-          → ReportedPart words m old out × Says said said' faults faults' (error_line Unwritten)
-      by (Ok done) reported is = absurd (omega (arith, report_low words m old out done reported, is, four))
-      by (Err why) stopped is = let r = reason_is why 4 is four (omega arith) in for_reason why stopped r.0 r.1
 
   -- the last call was a read that failed
   abbrev Failed : Type 0

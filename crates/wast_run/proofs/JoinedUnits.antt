@@ -1,7 +1,7 @@
 -- The units of the modules that joined, with one module more.
-use Rattle.wast_run.proofs.Common.{◌≡◌, List, [], ◌∷◌, ◌++◌, map, None, Option, sym, ap, ◌∙◌, subst, map-append, AllByRecursion, all_push}
-use Rattle.wast_run.proofs.Common.{IsLinked, Fits, ListedCall, named_of, set_of, SetModule, link_refusal, items, IsAccepted, IsAcceptedSet}
-use Rattle.wast_run.proofs.Common.{UnitsLink, program_of, units_in, alone}
+use Rattle.wast_run.proofs.Common.{◌≡◌, List, [], ◌∷◌, ◌++◌, map, None, Option, sym, ap, ◌∙◌, map-append, all_push, IsLinked, Fits}
+use Rattle.wast_run.proofs.Common.{ListedCall, named_of, set_of, SetModule, link_refusal, items, IsAccepted, IsAcceptedSet, UnitsLink}
+use Rattle.wast_run.proofs.Common.{program_of, units_in, alone}
 use Rattle.c_tree.specs.Tree as tree
 use Rattle.crun.specs.Sessions.{State}
 
@@ -10,8 +10,7 @@ module _ (modules : List SetModule) (m : SetModule) where
       → IsAcceptedSet (set_of (modules ++ m ∷ []))
   set_more before one linked = record {
     linked = linked;
-    accepted = subst (AllByRecursion IsAccepted) (sym (map-append named_of modules (m ∷ [])))
-        (all_push IsAccepted (map named_of modules) (named_of m) before.accepted one);
+    accepted = rw (map-append named_of modules (m ∷ [])) (all_push IsAccepted (map named_of modules) (named_of m) before.accepted one);
     host_bytes = tt;
   }
 
@@ -24,8 +23,7 @@ module _ (modules : List SetModule) (m : SetModule) where
   -- they link
   pub links_more : UnitsLink → (before : List (List tree.Item)) (one : List tree.Item) → before ≡ (program_of (set_of modules)).units
       → one ≡ items (named_of m) → IsAcceptedSet (set_of (modules ++ m ∷ [])) → link_refusal (alone (before ++ one ∷ [])) ≡ None
-  links_more link before one are is accepted =
-      subst (λ us. link_refusal (alone us) ≡ None) (sym (units_more before one are is)) (link _ accepted)
+  links_more link before one are is accepted = rw (units_more before one are is) (link _ accepted)
 
 -- where there are no units, no call fits
 pub none_fits : {H : Type 0} (modules : List SetModule) (session : Option (State H))

@@ -24,14 +24,12 @@ alike a b c e f = e ∙ sym f
 
 one_judged : (bytes : List ℕ) (a b : Option FileVerdict) → IsJudged bytes a → IsJudged bytes b → a ≡ b
 one_judged bytes None None said other = refl
-one_judged bytes None (Some b) said other = absurd (omega arith)
-one_judged bytes (Some a) None said other = absurd (omega arith)
 one_judged bytes (Some a) (Some b) said other = ap Some (one_file_verdict bytes a b said.1 other.1)
+one_judged bytes _ _ said other = absurd (omega arith)
 
 one_file : (contents : Contents) (name : Name) (a b : Option FileVerdict) → IsFile contents name a → IsFile contents name b → a ≡ b
 one_file contents name a b (bytes, held, judged) (others, held', judged') =
-    let same = same_Some others bytes (sym held' ∙ held) in
-    one_judged bytes a b judged (subst (λ l. IsJudged l b) same judged')
+    one_judged bytes a b judged (subst (λ l. IsJudged l b) (same_Some others bytes (sym held' ∙ held)) judged')
 
 -- ---- one command
 
@@ -79,8 +77,7 @@ module _ (contents : Contents) (steps : ℕ) where
   one_lead [] at words others after other a b = (alike words others [] a.0 b.0, alike after other at a.1 b.1)
   one_lead (c ∷ commands) at words others after other (w, ws, between, comes, lead, is) (v, vs, between', comes', lead', is') =
       let same = one_word w v between between' contents steps at c comes comes' in
-      let rest = one_lead commands between' ws vs after other
-      (subst (λ s. Lead contents steps s commands ws after) same.1 lead) lead' in
+      let rest = one_lead commands between' ws vs after other (rw same.1 at lead) lead' in
       (is ∙ ap (λ x. x ∷ ws) same.0 ∙ ap (λ l. v ∷ l) rest.0 ∙ sym is', rest.1)
 
   pub one_report : (commands : List Command) (words others : List Word)
@@ -124,10 +121,7 @@ prefix_of_report contents steps between (c ∷ rest) first others after text lea
 pub part_is_prefix : (contents : Contents) (steps : ℕ) (commands : List Command) (words : List Word) (text : List ℕ)
     → AreWords contents steps commands words → IsPart contents steps commands text → IsPrefix text (report_of words)
 part_is_prefix contents steps commands words text (after, lead) part =
-    let whole = front_words contents steps part.front part.rest at_first words after
-    (subst (λ l. Lead contents steps at_first l words after) part.split lead) in
+    let whole = front_words contents steps part.front part.rest at_first words after (rw part.split at lead) in
     let same = (one_lead contents steps part.front at_first part.words whole.0 part.after whole.2
     (lead_plain contents steps at_first part.front part.words part.after part.lead) whole.3).0 in
-    subst (λ ws. IsPrefix text (report_of ws)) (sym whole.5)
-    (prefix_of_report contents steps whole.2 part.rest whole.0 whole.1 after text whole.4
-    (subst (λ ws. IsPrefix text (lines_before ws part.rest)) same part.prefix))
+    rw whole.5 (prefix_of_report contents steps whole.2 part.rest whole.0 whole.1 after text whole.4 (rw same at part.prefix))

@@ -57,8 +57,7 @@ module _ (all : List Command) where
   last_reads front rest Unwritten events split none = none_read events none
   last_reads front rest WantOfMemory events split (inl none) = none_read events none
   last_reads front rest WantOfMemory events split (inr (file, answer, reads)) = next_reads front rest file answer events split reads
-  last_reads front rest Usage events split reads = absurd reads
-  last_reads front rest (Refused why) events split reads = absurd reads
+  last_reads front rest _ events split reads = absurd reads
 
   report_reads : (steps : ℕ) (old new : Option (List ℕ)) (ending : Ending) (events : List Event)
       → ReportsOver steps all old new ending events → AreReads events

@@ -17,12 +17,11 @@ pub behind_more : (contents : Contents) (steps index : ℕ) (front : List Comman
     → IsBehind contents steps (front ++ command ∷ []) after old new count
 behind_more contents steps index front command w at after old now new ok count many counted behind tells =
     let words = behind.words in
-    let line_is = line_more words w index (lead_length contents steps at_first front words at behind.lead ∙ many) in
     record {
       words = words ++ w ∷ [];
       lead = lead_more contents steps at_first front words at after command w behind.lead (tells.0, tells.1);
       written = whole_behind old now new (lines_of words) (command_line (index + 1) w) behind.written tells.2
-          ∙ ap (extended old) (sym line_is);
+          ∙ ap (extended old) (sym (line_more words w index (lead_length contents steps at_first front words at behind.lead ∙ many)));
       counted = counted ∙ ap (λ n. if is_ok w then suc n else n) behind.counted ∙ sym (count_more words w);
     }
 
@@ -47,8 +46,7 @@ pub whole_report : (told : Told) (steps : ℕ) (commands : List Command) (old no
     → Tells told (λ m. HasReported m steps commands old new (ok == total))
 whole_report told steps commands old now new ok total many behind gained m tells =
     let b = behind m tells in
-    subst (λ n. HasReported m steps commands old new (ok == n)) (sym many)
-    (all_reported m steps commands b.0 old now new ok b.1 (gained ∙ ap (λ n. extended now (total_line n ok)) many))
+    rw many (all_reported m steps commands b.0 old now new ok b.1 (gained ∙ ap (λ n. extended now (total_line n ok)) many))
 
 module _ (contents : Contents) (steps : ℕ) (commands front rest : List Command) (split : commands ≡ front ++ rest) where
   part_of : (words : List Word) (after : Setting) (text : List ℕ) → LeadInTime contents steps at_first front words after
@@ -83,8 +81,7 @@ pub gained_part : (contents : Contents) (steps : ℕ) (commands front rest : Lis
     → IsBehind contents steps front at old now ok → TellsPart contents steps index at command now new
     → HasGained contents steps commands old new
 gained_part contents steps commands front rest command index at old now new ok split many behind (inl same) =
-    subst (HasGained contents steps commands old) (sym same)
-    (gained_lines contents steps commands front (command ∷ rest) split at old now ok behind)
+    rw same (gained_lines contents steps commands front (command ∷ rest) split at old now ok behind)
 gained_part contents steps commands front rest command index at old now new ok split many behind
     (inr (w, after, comes, timely, (part, prefix, gained))) =
     let words = behind.words in
@@ -93,8 +90,7 @@ gained_part contents steps commands front rest command index at old now new ok s
       part_of contents steps commands (front ++ command ∷ []) rest (split ∙ sym (append_assoc front (command ∷ []) rest))
           (words ++ w ∷ []) after (lines_of words ++ part)
           (lead_more contents steps at_first front words at after command w behind.lead (comes, timely))
-          (subst (IsPrefix (lines_of words ++ part)) (sym line_is)
-          (prefix_behind (lines_of words) part (command_line (index + 1) w) prefix)),
+          (rw line_is (prefix_behind (lines_of words) part (command_line (index + 1) w) prefix)),
       gained ∙ ap (λ o. extended o part) behind.written ∙ extended_twice old (lines_of words) part,
     )
 
@@ -115,8 +111,7 @@ gained_total contents steps commands at old now new ok behind (part, prefix, gai
         words = words;
         after = at;
         lead = behind.lead;
-        prefix = subst (λ line. IsPrefix (lines_of words ++ part) (lines_of words ++ line)) line_is
-            (prefix_behind (lines_of words) part (total_line (length commands) ok) prefix);
+        prefix = rw line_is at (prefix_behind (lines_of words) part (total_line (length commands) ok) prefix);
       },
       gained ∙ ap (λ o. extended o part) behind.written ∙ extended_twice old (lines_of words) part,
     )
@@ -156,6 +151,5 @@ part_before contents steps before behind command file text names missing part =
       words = part.words;
       after = part.after;
       lead = part.lead;
-      prefix = subst (IsPrefix text)
-          (ap (lines_before part.words) more.2 ∙ lines_not_last part.words more.0 command behind) part.prefix;
+      prefix = rw (ap (lines_before part.words) more.2 ∙ lines_not_last part.words more.0 command behind) at part.prefix;
     }

@@ -211,12 +211,11 @@ behind_more_over start old new steps index front command w at after out now now'
     (IsBehindOver steps (front ++ command ∷ []) after out now' count)
     (λ first last behind tells.
     let words = behind.words in
-    let line_is = line_more words w index (lead_over_length steps at_first front words at first behind.lead ∙ many) in
     record {
       words = words ++ w ∷ [];
       lead = lead_over_more steps at_first front words at after command w first last behind.lead tells.0 tells.1;
       written = whole_behind out now now' (lines_of words) (command_line (index + 1) w) behind.written tells.2
-          ∙ ap (extended out) (sym line_is);
+          ∙ ap (extended out) (sym (line_more words w index (lead_over_length steps at_first front words at first behind.lead ∙ many)));
       counted = counted ∙ ap (λ n. if is_ok w then suc n else n) behind.counted ∙ sym (count_more words w);
     })
 
@@ -224,13 +223,11 @@ behind_more_over start old new steps index front command w at after out now now'
 
 last_read : (command : Command) (rest : List Command) (o : Option Name) → file_of command ≡ o → (why : Reason) (events : List Event)
     → StopsOver o why events → LastReads why (command ∷ rest) events
-last_read command rest None is why events (memory, none) =
-    subst (λ why. LastReads why (command ∷ rest) events) (sym memory) (inl none)
+last_read command rest None is why events (memory, none) = rw memory (inl none)
 last_read command rest (Some name) is (Unread file) events (same, answer, no_file, calls) =
     (answer, (is ∙ ap Some (sym same), calls ∙ ap (λ f. module_read f answer) (sym same)), no_file)
 last_read command rest (Some name) is WantOfMemory events (answer, calls) = inr (name, answer, (is, calls))
-last_read command rest (Some name) is Usage events stop = absurd stop
-last_read command rest (Some name) is _ events stop = absurd stop
+last_read command rest _ is _ events stop = absurd stop
 
 -- the lines so far
 lines_here : (command : Command) (rest : List Command) (words : List Word) (why : Reason) (events : List Event)
@@ -356,8 +353,7 @@ module _ (old new : List Event) (steps : ℕ) (commands : List Command) (out now
         stop = no_more [] why line;
         text = lines_of words ++ part;
         lines = part_lines [] words (lines_of words ++ part) why line
-            (subst (λ line. IsPrefix (lines_of words ++ part) (lines_of words ++ line)) (total_is words b.0 events b.1.lead b.1.counted)
-            (prefix_behind (lines_of words) part (total_line total ok) prefix));
+            (rw (total_is words b.0 events b.1.lead b.1.counted) at (prefix_behind (lines_of words) part (total_line total ok) prefix));
         gained = gained ∙ ap (λ o. extended o part) b.1.written ∙ extended_twice out (lines_of words) part;
       }) passes
 
@@ -405,15 +401,12 @@ module _ (words : List Name) (line : Line) (is : line_of words ≡ Some line) wh
   fault_job : (answer : Answer) (why : ScriptFault) → IsFaultBy answer why → IsJobBy line answer (Stops (Refused why))
   fault_job (Ok text) why by = by
   fault_job (Err reading.TooLong) why by = ap (λ w. Stops (Refused w)) by
-  fault_job (Err reading.Absent) why by = absurd by
-  fault_job (Err _) why by = absurd by
+  fault_job _ why by = absurd by
 
   unread_job : (answer : Answer) → IsNoFile answer → IsJobBy line answer (Stops (Unread line.script))
-  unread_job (Ok text) no_file = absurd no_file
-  unread_job (Err reading.TooLong) no_file = absurd no_file
   unread_job (Err reading.Absent) no_file = refl
   unread_job (Err reading.Failed) no_file = refl
-  unread_job (Err reading.Memory) no_file = absurd no_file
+  unread_job _ no_file = absurd no_file
 
   script_ends_so : (out : Option (List ℕ)) (why : Reason) (events : List Event) → StopsScriptOver line.script why events
       → WantsMemory line out out (Err why) events ⊎ DoesLine line out out (Err why) events

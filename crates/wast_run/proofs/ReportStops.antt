@@ -29,8 +29,7 @@ module _ (told : Told) (steps : ℕ) (commands : List Command) (start reads read
   telling_stops front rest command index (Unread file) split many before behind (names, inl faulted, same) = (
     record { front = front; command = command; rest = rest; split = split; names = names },
     inl (record { rose = rose_from start reads reads' before faulted.rose; named = faulted.named }),
-    λ m tells. subst (HasGained m steps commands old) (sym same)
-        (gained_lines m steps commands front (command ∷ rest) split at old now ok (behind m tells)),
+    λ m tells. rw same (gained_lines m steps commands front (command ∷ rest) split at old now ok (behind m tells)),
   )
   telling_stops front rest command index (Unread file) split many before behind (names, inr (m, tells, missing), same) = (
     record { front = front; command = command; rest = rest; split = split; names = names },
@@ -48,8 +47,7 @@ module _ (told : Told) (steps : ℕ) (commands : List Command) (start reads read
         missing = missing;
       },
     ),
-    λ m tells. subst (HasGained m steps commands old) (sym same)
-        (gained_lines m steps commands front (command ∷ rest) split at old now ok (behind m tells)),
+    λ m tells. rw same (gained_lines m steps commands front (command ∷ rest) split at old now ok (behind m tells)),
   )
   telling_stops front rest command index Unwritten split many before behind (rose, part) = (
     rose_from first faults faults' later rose,

@@ -22,9 +22,7 @@ of_found make holds (Some a) c is = subst HasModuleName (same_Some (make a) c is
 long_enough : (n : ℕ) → nat_le 1 n && nat_le n 1024 ≡ true → (1 ≤ n) × (n ≤ 1024)
 long_enough n is =
     let h = both_hold (nat_le 1 n) (nat_le n 1024) is in
-    let low = h.0 in
-    let high = h.1 in
-    (grind (arith, nat_tests, low), grind (arith, nat_tests, high))
+    (grind (arith, nat_tests, h.0), grind (arith, nat_tests, h.1))
 
 of_module : (name filename : Option (List ℕ)) (c : Command)
     → option_map script.Module (module_with name filename) ≡ Some c → HasModuleName c
@@ -39,13 +37,11 @@ of_module None filename c is = absurd (none-some c is)
 
 of_return : (call : Option Call) (expected : Option (Option Value)) (c : Command) → return_with call expected ≡ Some c → HasModuleName c
 of_return (Some call) (Some expected) c is = subst HasModuleName (same_Some (script.AssertReturn call expected) c is) tt
-of_return (Some call) None c is = absurd (none-some c is)
-of_return None expected c is = absurd (none-some c is)
+of_return _ _ c is = absurd (none-some c is)
 
 of_trap : (call : Option Call) (cause : Option TrapKind) (c : Command) → trap_with call cause ≡ Some c → HasModuleName c
 of_trap (Some call) (Some cause) c is = subst HasModuleName (same_Some (script.AssertTrap call cause) c is) tt
-of_trap (Some call) None c is = absurd (none-some c is)
-of_trap None cause c is = absurd (none-some c is)
+of_trap _ _ c is = absurd (none-some c is)
 
 -- what each of some kinds gives, the first of them that passes gives
 of_first : {A : Type 0} (f : A → Option Command) (passes : A → Bool) (xs : List A)

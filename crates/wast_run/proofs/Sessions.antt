@@ -92,8 +92,7 @@ no_ask m (a ∷ asks) after journal asked = absurd (none_there a.host asked.answ
 pub nothing_asked : {H : Type 0} (m : HostModule H) (before after : List H) (old new asks : List Asked) → before ≡ [] → old ≡ []
     → Asks m before old asks after new → (after ≡ []) × (new ≡ [])
 nothing_asked {H} m before after old new asks no_hosts none_asked asked =
-    no_ask m asks after new (subst (λ js. Asks m [] js asks after new) none_asked
-    (subst (λ (hs : List H). Asks m hs old asks after new) no_hosts asked))
+    no_ask m asks after new (subst (λ js. Asks m [] js asks after new) none_asked (rw no_hosts at asked))
 
 -- ---- the program stays
 
@@ -141,8 +140,7 @@ module _ {H : Type 0} (m : HostModule H) (before s : State H) (x c : SymbolCall)
     no_hosts = quiet.0;
     none_asked = quiet.1;
     told = told_by behind.told [] o;
-    stands = subst (λ y. Stands m s (done ++ y ∷ []) (told_by behind.told [] o)) seen
-        (stands (standing_is ∙ ready_of_end o ended) done behind.told [] behind.stands unwritten);
+    stands = rw seen at (stands (standing_is ∙ ready_of_end o ended) done behind.told [] behind.stands unwritten);
   }
 
 -- ---- the init functions
@@ -190,8 +188,7 @@ module _ {H : Type 0} (m : HostModule H) (start now : State H) (same : RunsTheSa
       → (rest : List SymbolCall) → StopsAt stop (length kept) (run_of m start (symbols_in kept ++ rest))
   kept_stop kept k item less at o stop e behind came rest =
       of_first m start now same (StopsAt stop (length kept)) (symbols_in kept ++ rest)
-      (subst (λ cs. StopsAt stop (length kept) (run_of m now cs)) calls_are
-      (stops_in_call o stop k (length kept) less e (front_count seen kept k item item less at) here))
+      (rw calls_are at (stops_in_call o stop k (length kept) less e (front_count seen kept k item item less at) here))
     where
       more : List SymbolCall
       more = symbols_in (drop (k + 1) kept)
@@ -211,8 +208,7 @@ module _ {H : Type 0} (m : HostModule H) (start now : State H) (same : RunsTheSa
       → CameTo o (InCall (length kept)) (run_of m start (symbols_of kept last))
   last_came kept last o behind came =
       of_first m start now same (CameTo o (InCall (length kept))) (symbols_of kept last)
-      (subst (λ n. CameTo o (InCall n) (run_of m now (symbols_of kept last))) (length-map kept seen)
-      (came (symbols_in kept) [] behind (last_of_none o)))
+      (rw (length-map kept seen) at (came (symbols_in kept) [] behind (last_of_none o)))
 
 -- a session without hosts runs the units alone
 pub program_is : {H : Type 0} (m : HostModule H) (s : State H) (linked : List (List Item) × List HostSymbol) → s.linked ≡ linked

@@ -2,7 +2,7 @@
 use Rattle.wast_run.proofs.Common.{◌≡◌, ℕ, ◌<◌, ◌≤◌, Bool, true, false, ◌≢◌, ◌⊎◌, List, [], ◌∷◌, ◌++◌, length, if◌then◌else◌, ◌==◌, Some}
 use Rattle.wast_run.proofs.Common.{None, Option, MatchOption, sym, refl, ◌∙◌, subst, inl, inr, append-nil, arith, same_Some, get}
 use Rattle.wast_run.proofs.Common.{AllByRecursion, Rose, Contents, Name, Tells, none_written, prefix_of_itself, line_of, Command, Reason}
-use Rattle.wast_run.proofs.Common.{Refused, Unread, Unwritten, Usage, WantOfMemory, fault_status, status_of, IsScript, ScriptFault, Answers}
+use Rattle.wast_run.proofs.Common.{Refused, Unread, Unwritten, Usage, WantOfMemory, fault_status, status_of, ScriptFault, Answers}
 use Rattle.wast_run.proofs.Common.{GainedPart, GainsPrefix, IsAnswered, IsJob, IsJobBehind, IsUnread, Refuses, Reported, ReportedPart}
 use Rattle.wast_run.proofs.Common.{Reports, Stops, GainsLinesBefore, HasItsFile, IsFirstMissing, IsNamed, IsPart, file_of, LeadInTime}
 use Rattle.wast_run.proofs.Common.{Setting, at_first, ok_count, report_of, StopsWork, Word, GivesFirst}
@@ -31,9 +31,6 @@ zero_or_one : (b : Bool) (status : ℕ) → status ≡ (if b then 0 else 1) → 
 zero_or_one true status is = inl is
 zero_or_one false status is = inr (inl is)
 
-below : (a b : ℕ) → a < b → b ≡ a → ⊥
-below a b less e = omega (arith, less, e)
-
 between : (n : ℕ) → 2 ≤ n → n ≤ 5 → (2 ≤ n) × (n ≤ 5)
 between n low high = (low, high)
 
@@ -49,12 +46,12 @@ status_between Unwritten = between 4 (omega arith) (omega arith)
 status_between WantOfMemory = between 5 (omega arith) (omega arith)
 
 pub fault_not_3 : (why : ScriptFault) → fault_status why ≢ 3
-fault_not_3 fault.Memory e = below 3 5 (omega arith) e
-fault_not_3 _ e = below 2 3 (omega arith) (sym e)
+fault_not_3 fault.Memory e = omega (arith, e)
+fault_not_3 _ e = omega (arith, e)
 
 pub fault_not_4 : (why : ScriptFault) → fault_status why ≢ 4
-fault_not_4 fault.Memory e = below 4 5 (omega arith) e
-fault_not_4 _ e = below 2 4 (omega arith) (sym e)
+fault_not_4 fault.Memory e = omega (arith, e)
+fault_not_4 _ e = omega (arith, e)
 
 -- the status that is reported: that of the reason, or want of memory
 abbrev pub Ends : Reason → ℕ → Type 0
@@ -62,26 +59,17 @@ Ends why status = (status ≡ status_of why) ⊎ (status ≡ 5)
 
 -- a stop's status is no report's
 pub no_report : (why : Reason) (status : ℕ) → Ends why status → (status ≡ 0) ⊎ (status ≡ 1) → ⊥
-no_report why status (inl is) (inl at_0) = omega (arith, is, at_0, (status_between why).0)
-no_report why status (inl is) (inr at_1) = omega (arith, is, at_1, (status_between why).0)
-no_report why status (inr is) (inl at_0) = omega (arith, is, at_0)
-no_report why status (inr is) (inr at_1) = omega (arith, is, at_1)
+no_report why status ends came = omega (arith, ends, came, (status_between why).0)
 
 pub status_small : (why : Reason) (status : ℕ) → Ends why status → status ≤ 5
-status_small why status (inl is) = omega (arith, is, (status_between why).1)
-status_small why status (inr is) = omega (arith, is)
+status_small why status ends = omega (arith, ends, (status_between why).1)
 
--- which of the two it is
-ends_so : (why : Reason) (status wanted : ℕ) → Ends why status → status ≡ wanted → wanted ≢ 5 → status_of why ≡ wanted
-ends_so why status wanted (inl is) e not = sym is ∙ e
-ends_so why status wanted (inr is) e not = absurd (not (sym e ∙ is))
-
-said : (S : Type 0) (status wanted : ℕ) → S ⊎ (status ≡ 5) → status ≡ wanted → wanted ≢ 5 → S
-said S status wanted (inl says) e not = says
-said S status wanted (inr is) e not = absurd (not (sym e ∙ is))
-
-not_5 : (n : ℕ) → n ≤ 4 → n ≢ 5
-not_5 n le e = omega (arith, le, e)
+-- a status that is not want of memory's is the reason's, and its line was said
+ends_so : (why : Reason) (S : Type 0) (status wanted : ℕ) → Ends why status → S ⊎ (status ≡ 5) → status ≡ wanted → wanted ≤ 4
+    → (status_of why ≡ wanted) × S
+ends_so why S status wanted (inl is) (inl says) e few = (sym is ∙ e, says)
+ends_so why S status wanted (inr five) says e few = absurd (omega (arith, five, e, few))
+ends_so why S status wanted is (inr five) e few = absurd (omega (arith, five, e, few))
 
 module _ {F O : Type 0} (words : List Name) (files : Files F) (out : Sink O) (x y : F) (u v : O) where
   abbrev Gives : Name → List ℕ → Type 0
@@ -110,50 +98,43 @@ module _ {F O : Type 0} (words : List Name) (files : Files F) (out : Sink O) (x 
     pub stop_refused : (S : Reason → Type 0) → S why ⊎ (status ≡ 5) → status ≡ 2
         → (why : Reason) × (status_of why ≡ 2) × Refuses words (files.told x) why × S why
     stop_refused S says two =
-        by why stop (ends_so why status 2 ends two (not_5 2 (omega arith))) (said (S why) status 2 says two (not_5 2 (omega arith)))
+        let (is, line) = ends_so why (S why) status 2 ends says two (omega arith) in by why stop is line
       where
         by : (why : Reason) → Stopped why → status_of why ≡ 2 → S why
             → (why : Reason) × (status_of why ≡ 2) × Refuses words (files.told x) why × S why
         by Usage stop is says = (Usage, is, stop.0, says)
         by (Refused why) stop is says = (Refused why, is, stop.0, says)
-        by (Unread file) stop is says = absurd (below 2 3 (omega arith) is)
-        by Unwritten stop is says = absurd (below 2 4 (omega arith) is)
-        by WantOfMemory stop is says = absurd (below 2 5 (omega arith) is)
+        by _ stop is says = absurd (omega (arith, is))
 
     pub stop_unread : (S : Reason → Type 0) → S why ⊎ (status ≡ 5) → status ≡ 3
         → (file : Name) × NotRead file × S (Unread file)
     stop_unread S says three =
-        by why stop (ends_so why status 3 ends three (not_5 3 (omega arith))) (said (S why) status 3 says three (not_5 3 (omega arith)))
+        let (is, line) = ends_so why (S why) status 3 ends says three (omega arith) in by why stop is line
       where
         by : (why : Reason) → Stopped why → status_of why ≡ 3 → S why
             → (file : Name) × NotRead file × S (Unread file)
-        by Usage stop is says = absurd (below 2 3 (omega arith) (sym is))
         by (Refused why) stop is says = absurd (fault_not_3 why is)
         by (Unread file) stop is says = (file, stop.0, says)
-        by Unwritten stop is says = absurd (below 3 4 (omega arith) is)
-        by WantOfMemory stop is says = absurd (below 3 5 (omega arith) is)
+        by _ stop is says = absurd (omega (arith, is))
 
     pub stop_unwritten : (S : Reason → Type 0) → S why ⊎ (status ≡ 5) → status ≡ 4
         → Rose (out.faults u) (out.faults v) × Tells (files.told x) (λ m. ReportedPart words m (out.told u) (out.told v)) × S Unwritten
     stop_unwritten S says four =
-        by why stop (ends_so why status 4 ends four (not_5 4 (omega arith))) (said (S why) status 4 says four (not_5 4 (omega arith)))
+        let (is, line) = ends_so why (S why) status 4 ends says four (omega arith) in by why stop is line
       where
         by : (why : Reason) → Stopped why → status_of why ≡ 4 → S why
             → Rose (out.faults u) (out.faults v) × Tells (files.told x) (λ m. ReportedPart words m (out.told u) (out.told v)) × S Unwritten
-        by Usage stop is says = absurd (below 2 4 (omega arith) (sym is))
         by (Refused why) stop is says = absurd (fault_not_4 why is)
-        by (Unread file) stop is says = absurd (below 3 4 (omega arith) (sym is))
         by Unwritten stop is says = (stop.0, stop.2, says)
-        by WantOfMemory stop is says = absurd (below 4 5 (omega arith) is)
+        by _ stop is says = absurd (omega (arith, is))
 
     pub stop_silent : status ≡ 2 → out.told v ≡ out.told u
-    stop_silent two = by why stop (ends_so why status 2 ends two (not_5 2 (omega arith)))
+    stop_silent two = by why stop (ends_so why (Unit {0}) status 2 ends (inl tt) two (omega arith)).0
       where
         by : (why : Reason) → Stopped why → status_of why ≡ 2 → out.told v ≡ out.told u
-        by (Unread file) stop is = absurd (below 2 3 (omega arith) is)
-        by Unwritten stop is = absurd (below 2 4 (omega arith) is)
-        by WantOfMemory stop is = absurd (below 2 5 (omega arith) is)
-        by _ stop is = stop.1
+        by Usage stop is = stop.1
+        by (Refused why) stop is = stop.1
+        by _ stop is = absurd (omega (arith, is))
 
     -- words without a reading
     pub stop_usage : line_of words ≡ None → (status ≡ 2) ⊎ (status ≡ 5)
@@ -163,58 +144,53 @@ module _ {F O : Type 0} (words : List Name) (files : Files F) (out : Sink O) (x 
         by Usage stop ends = ends
         by (Refused why) stop ends = absurd (stop.0.0 none)
         by (Unread file) stop ends =
-            absurd (subst (λ o. MatchOption o ⊥ (λ line. (file ≡ line.script)
-            ⊎ ((text : List ℕ) × Gives line.script text × (commands : List Command) × IsScript text commands × IsNamed commands file)))
-            none stop.0.0)
+            absurd (rw none at stop.0.0)
         by Unwritten stop ends = absurd (stop.1 none)
         by WantOfMemory stop ends = elim ends [ inl is ↦ inr is | inr is ↦ inr is ]
 
-    pub stop_complete : Tells (files.told x) (λ m. (Rose (files.read_faults x) (files.read_faults y) → ⊥)
-        → (Rose (out.faults u) (out.faults v) → ⊥) → (status ≡ 5) ⊎ IsAnswered words m status)
-    stop_complete m tells no_read no_write = either ends
+    -- the answer is that to the job, unless a line was not written or memory was wanting
+    answered : (m : Contents) → files.told x ≡ Some m → (Rose (files.read_faults x) (files.read_faults y) → ⊥)
+        → Stopped Unwritten ⊎ (status ≡ 5) ⊎ IsAnswered words m status
+    answered m tells no_read = either ends
       where
-        by : (why : Reason) → Stopped why → status ≡ status_of why → (status ≡ 5) ⊎ IsAnswered words m status
-        by Usage stop is = inr (Stops Usage, usage_job m stop.0, is)
-        by (Refused why) stop is = inr (Stops (Refused why), stop.0.1 m tells, is)
+        by : (why : Reason) → Stopped why → status ≡ status_of why → Stopped Unwritten ⊎ (status ≡ 5) ⊎ IsAnswered words m status
+        by Usage stop is = inr (inr (Stops Usage, usage_job m stop.0, is))
+        by (Refused why) stop is = inr (inr (Stops (Refused why), stop.0.1 m tells, is))
         by (Unread file) ((to_read, inl faulted), part) is = absurd (no_read faulted.rose)
         by (Unread file) ((to_read, inr (n, tells_n, inl job)), part) is =
             let same : n ≡ m = same_Some n m (sym tells_n ∙ tells) in
-            inr (Stops (Unread file), subst (λ m. IsJob words m (Stops (Unread file))) same job, is)
+            inr (inr (Stops (Unread file), subst (λ m. IsJob words m (Stops (Unread file))) same job, is))
         by (Unread file) ((to_read, inr (n, tells_n, inr (steps, commands, job, missing))), part) is =
             let same : n ≡ m = same_Some n m (sym tells_n ∙ tells) in
-            inr (
+            inr (inr (
               Reports steps commands,
               subst (λ m. IsJob words m (Reports steps commands)) same job,
               inl (file, subst (λ m. IsFirstMissing m commands file) same missing, is),
-            )
-        by Unwritten stop is = absurd (no_write stop.0)
-        by WantOfMemory stop is = inl is
+            ))
+        by Unwritten stop is = inl stop
+        by WantOfMemory stop is = inr (inl is)
 
-        either : Ends why status → (status ≡ 5) ⊎ IsAnswered words m status
+        either : Ends why status → Stopped Unwritten ⊎ (status ≡ 5) ⊎ IsAnswered words m status
         either (inl is) = by why stop is
-        either (inr five) = inl five
+        either (inr five) = inr (inl five)
 
-    module _ (apart : AreApart) where
-      pub stop_always : Tells (files.told x) (λ m. (Rose (files.read_faults x) (files.read_faults y) → ⊥) → (other : Reason)
-          → IsJob words m (Stops other) → (status ≡ status_of other) ⊎ (status ≡ 5))
-      stop_always m tells no_read other other_job = either ends
-        where
-          by : (why : Reason) → Stopped why → status ≡ status_of why → (status ≡ status_of other) ⊎ (status ≡ 5)
-          by Usage stop is = inl (is ∙ one_status words m Usage other (usage_job m stop.0) other_job)
-          by (Refused why) stop is = inl (is ∙ one_status words m (Refused why) other (stop.0.1 m tells) other_job)
-          by (Unread file) ((to_read, inl faulted), part) is = absurd (no_read faulted.rose)
-          by (Unread file) ((to_read, inr (n, tells_n, inl job)), part) is =
-              let same : n ≡ m = same_Some n m (sym tells_n ∙ tells) in
-              inl (is ∙ one_status words m (Unread file) other (subst (λ m. IsJob words m (Stops (Unread file))) same job) other_job)
-          by (Unread file) ((to_read, inr (n, tells_n, inr (steps, commands, job, missing))), part) is =
-              let same : n ≡ m = same_Some n m (sym tells_n ∙ tells) in
-              absurd (job_apart apart words m steps commands other (subst (λ m. IsJob words m (Reports steps commands)) same job) other_job)
-          by Unwritten stop is = let p = stop.2 m tells in absurd (job_apart apart words m p.0 p.1 other p.2 other_job)
-          by WantOfMemory stop is = inr is
+    pub stop_complete : Tells (files.told x) (λ m. (Rose (files.read_faults x) (files.read_faults y) → ⊥)
+        → (Rose (out.faults u) (out.faults v) → ⊥) → (status ≡ 5) ⊎ IsAnswered words m status)
+    stop_complete m tells no_read no_write = elim (answered m tells no_read) [
+      | inl unwritten ↦ absurd (no_write unwritten.0)
+      | inr came ↦ came
+    ]
 
-          either : Ends why status → (status ≡ status_of other) ⊎ (status ≡ 5)
-          either (inl is) = by why stop is
-          either (inr five) = inr five
+    pub stop_always : AreApart → Tells (files.told x) (λ m. (Rose (files.read_faults x) (files.read_faults y) → ⊥) → (other : Reason)
+        → IsJob words m (Stops other) → (status ≡ status_of other) ⊎ (status ≡ 5))
+    stop_always apart m tells no_read other other_job = by (answered m tells no_read)
+      where
+        by : Stopped Unwritten ⊎ (status ≡ 5) ⊎ IsAnswered words m status → (status ≡ status_of other) ⊎ (status ≡ 5)
+        by (inl unwritten) =
+            let p = unwritten.2 m tells in absurd (job_apart apart words m p.0 p.1 other p.2 other_job)
+        by (inr (inl five)) = inr five
+        by (inr (inr (Stops first, job, is))) = inl (is ∙ one_status words m first other job other_job)
+        by (inr (inr (Reports steps commands, job, answers))) = absurd (job_apart apart words m steps commands other job other_job)
 
 -- ---- what `out` has gained
 
@@ -263,8 +239,7 @@ module _ (apart : AreApart) (one : IsOneScript) (words : List Name) (m : Content
   answer_to status (inr (Stops why, other, answers)) = absurd (job_apart apart words m steps commands why job other)
   answer_to status (inr (Reports others asked, other, answers)) =
       let same = one_list one words m others steps asked commands other job in
-      inr (subst (λ steps. Answers m (Reports steps commands) status) same.0
-      (subst (λ commands. Answers m (Reports others commands) status) same.1 answers))
+      inr (subst (λ steps. Answers m (Reports steps commands) status) same.0 (rw same.1 at answers))
 
   pub reported_always : (status : ℕ) → AllByRecursion (HasItsFile m) commands → (status ≡ 5) ⊎ IsAnswered words m status
       → (status ≡ 0) ⊎ (status ≡ 1) ⊎ (status ≡ 5)
@@ -297,8 +272,7 @@ module _ (one : IsOneScript) (words : List Name) (m : Contents) (old new : Optio
   part_gains (inr (others, asked, other, (text, part, gained))) steps commands all job are =
       let same = one_list one words m others steps asked commands other job in (
         text,
-        part_is_prefix m steps commands all text are
-            (subst (λ steps. IsPart m steps commands text) same.0 (subst (λ commands. IsPart m others commands text) same.1 part)),
+        part_is_prefix m steps commands all text are (rw same.0 at (subst (λ commands. IsPart m others commands text) same.1 part)),
         gained,
       )
 

@@ -1,9 +1,9 @@
 -- Why the commands stop, and why a script is refused, as why the work stops.
-use Rattle.wast_run.proofs.Common.{◌≡◌, ℕ, ◌≤◌, Bool, ◌⊎◌, List, if◌then◌else◌, Some, None, Option, MatchOption, sym, refl, ap, ◌∙◌, subst}
-use Rattle.wast_run.proofs.Common.{inl, inr, none-some, get, rose_from, Faulted, Contents, Name, Told, Tells, Line, line_of, Command}
-use Rattle.wast_run.proofs.Common.{Reason, Refused, Unread, Unwritten, Usage, WantOfMemory, IsScript, HasReading, IsJob, IsJobBehind}
-use Rattle.wast_run.proofs.Common.{IsToRead, Job, Reported, ReportedPart, Reports, Stops, IsNamed, HasGained, IsUnreadFile, StopsCommand}
-use Rattle.wast_run.proofs.Common.{StopsFile, StopsReport, StopsScript, StopsWords, StopsWork, HasReported}
+use Rattle.wast_run.proofs.Common.{◌≡◌, ℕ, ◌≤◌, Bool, ◌⊎◌, List, if◌then◌else◌, Some, None, Option, sym, refl, ap, ◌∙◌, subst, inl, inr}
+use Rattle.wast_run.proofs.Common.{none-some, get, rose_from, Faulted, Contents, Name, Told, Tells, Line, line_of, Command, Reason, Refused}
+use Rattle.wast_run.proofs.Common.{Unread, Unwritten, Usage, WantOfMemory, IsScript, HasReading, IsJob, IsJobBehind, IsToRead, Job}
+use Rattle.wast_run.proofs.Common.{Reported, ReportedPart, Reports, Stops, IsNamed, HasGained, IsUnreadFile, StopsCommand, StopsFile}
+use Rattle.wast_run.proofs.Common.{StopsReport, StopsScript, StopsWords, StopsWork, HasReported}
 
 pub file_stops : (told : Told) (file : Name) (before after : ℕ) (named : Option Name) (why : Reason)
     → StopsFile told file before after named why → StopsCommand told (Some file) before after named why
@@ -17,8 +17,7 @@ pub words_stop : (words : List Name) (told : Told) (Gives : Name → List ℕ �
     → StopsWords words why → StopsWork words told Gives reads reads' named old old faults faults why
 words_stop words told Gives reads reads' named old faults Usage stop = (stop, refl)
 words_stop words told Gives reads reads' named old faults WantOfMemory stop = λ m tells. inl refl
-words_stop words told Gives reads reads' named old faults (Refused why) stop = absurd stop
-words_stop words told Gives reads reads' named old faults _ stop = absurd stop
+words_stop words told _ reads reads' named old faults _ stop = absurd stop
 
 module _ (words : List Name) (line : Line) (is : line_of words ≡ Some line) (told : Told) (Gives : Name → List ℕ → Type 0) where
   has_reading : HasReading words
@@ -26,8 +25,7 @@ module _ (words : List Name) (line : Line) (is : line_of words ≡ Some line) (t
 
   -- what a line asks for is what the words ask for
   pub job_by_line : (m : Contents) (job : Job) → IsJobBehind line (get m line.script) job → IsJob words m job
-  job_by_line m job behind =
-      subst (λ o. MatchOption o (job ≡ Stops Usage) (λ line. IsJobBehind line (get m line.script) job)) (sym is) behind
+  job_by_line m job behind = rw is behind
 
   pub job_of_text : (m : Contents) (text : List ℕ) (job : Job) → get m line.script ≡ Some text → IsJobBehind line (Some text) job
       → IsJob words m job
@@ -40,9 +38,7 @@ module _ (words : List Name) (line : Line) (is : line_of words ≡ Some line) (t
       → (file ≡ line.script)
       ⊎ ((text : List ℕ) × Gives line.script text × (commands : List Command) × IsScript text commands × IsNamed commands file)
       → IsToRead words Gives file
-  to_read file which = subst (λ o. MatchOption o ⊥ (λ line. (file ≡ line.script)
-      ⊎ ((text : List ℕ) × Gives line.script text × (commands : List Command) × IsScript text commands × IsNamed commands file)))
-      (sym is) which
+  to_read file which = rw is which
 
   pub script_stops : (reads reads' : ℕ) (named : Option Name) (old : Option (List ℕ)) (faults : ℕ) (why : Reason)
       → StopsScript told line.script reads reads' named why
@@ -55,8 +51,7 @@ module _ (words : List Name) (line : Line) (is : line_of words ≡ Some line) (t
       inr (
         m,
         tells,
-        inl (subst (λ file. IsJob words m (Stops (Unread file))) (sym same)
-            (job_of_none m none)),
+        inl (rw same (job_of_none m none)),
       ),
     ),
     λ m tells. inl refl,

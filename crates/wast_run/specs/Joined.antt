@@ -2,7 +2,7 @@
 use Rattle.std.specs.Prelude.{◌≡◌, List, [], map, Option, Some, None, ⊤}
 use Rattle.c_tree.specs.Tree as tree
 use Rattle.c_tree.specs.View.{unit_of}
-use Rattle.c_unit.specs.Sets.{IsAcceptedSet, program_of}
+use Rattle.unit_meaning.specs.Sets.{IsAcceptedSet, program_of}
 use Rattle.crun.specs.Sessions.{State}
 use Rattle.wasm_set.specs.Sets.{set_of}
 use Rattle.wast_run.specs.declared.linked_modules.LinkedModules.{LinkedModules}

@@ -10,9 +10,10 @@ use Rattle.w2c_base.specs.Run.{Call as InCall, values_in}
 use Rattle.wasm_tree.specs.declared.tree.Module.{Module}
 use Rattle.wasm_spelling.specs.declared.fault.ReadFault.TheVariants as fault
 use Rattle.wasm_tree.specs.Limits.{most_module_bytes}
+use Rattle.wasm_tree.specs.NamedModule.{NamedModule}
 use Rattle.wasm_typing.specs.Verdict.{Accepted, Invalid}
 use Rattle.wasm_valid.specs.FileVerdict.{FileVerdict, Unread, Read, IsVerdictOn}
-use Rattle.wasm_meaning.specs.LinkedSet.{LinkedSet, NamedModule, IsLinked}
+use Rattle.wasm_meaning.specs.LinkedSet.{LinkedSet, IsLinked}
 use Rattle.wasm_meaning.specs.Execution.{Trapped}
 use Rattle.wasm_meaning.specs.Run.{ListedCall, Fits, WasmRun, Ended, Stopped}
 use Rattle.c_meaning.specs.Run as c

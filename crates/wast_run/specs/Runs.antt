@@ -10,7 +10,7 @@ use Rattle.wasm_meaning.specs.Execution.{OutOfSteps, Trapped}
 use Rattle.wasm_meaning.specs.Run.{Ended, ListedCall, Stopped, WasmRun, wasm_run}
 use Rattle.c_meaning.specs.Run as c
 use Rattle.alike.specs.Alike.{Alike}
-use Rattle.c_unit.specs.Sets.{IsAcceptedSet, IsListing, c_run_of, program_of}
+use Rattle.unit_meaning.specs.Sets.{IsAcceptedSet, IsListing, c_run_of, program_of}
 use Rattle.wast_script.specs.declared.command.Call.{Call}
 use Rattle.wast_run.specs.declared.runs.Came.{Came}
 use Rattle.wast_run.specs.declared.runs.Came.TheVariants as came

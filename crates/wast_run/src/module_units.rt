@@ -3,14 +3,15 @@ ghost use Rattle.std.specs.Prelude.{◌≡◌, ◌≤◌, ◌<◌, [], length, m
 ghost use Rattle.c_tree.specs.View.{unit_of};
 ghost use Rattle.c_meaning.specs.Linking.{link_refusal};
 ghost use Rattle.c_unit.specs.Items.{items};
-ghost use Rattle.c_unit.specs.Sets.{IsAccepted};
+ghost use Rattle.c_unit.specs.Accepted.{IsAccepted};
 ghost use Rattle.wast_run.specs.Ran.{alone};
 
 use c_link::{LinkRefusal, Linked, link};
 use c_rules::CheckedUnit;
 use c_tree::{Unit, well_formed_units_are_spelled};
-use c_unit::{unit, units_are_proper};
+use c_unit::unit;
 use std::alloc::Global;
+use unit_rules::units_are_proper;
 use w2c_base::Memory;
 use wasm_typing::ValidModule;
 

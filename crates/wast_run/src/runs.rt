@@ -4,8 +4,8 @@ ghost use Rattle.wast_run.specs.Ran.{came_in};
 ghost use Rattle.wast_run.specs.Runs.{EnoughStepsEndRuns, RunsAreAlike};
 
 use crate::session_runs::Ran;
-use c_unit::units_do_what_modules_do;
 use crun::Outcome;
+use unit_meaning::units_do_what_modules_do;
 use w2c_base::{TrapKind, Value};
 
 /// What a run came to.

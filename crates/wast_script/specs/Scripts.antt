@@ -1,7 +1,7 @@
 -- What a text says as a script, or the first reason why it is none. A script is a JSON object whose member `commands` is an
 -- array of at most 10,000 objects, each of the form of a command.
-use Rattle.std.specs.Prelude.{◌≡◌, ℕ, ◌<◌, ◌≤◌, ◌&&◌, Bool, List, length, nat_le, IsUtf8, ⊤, codes}
-use Rattle.std.specs.Prelude.{Option, Some, None, is_some, if◌then◌else◌, option_and_then}
+use Rattle.std.specs.Prelude.{◌≡◌, ℕ, ◌<◌, ◌≤◌, ◌&&◌, Bool, List, length, nat_le, IsUtf8, ⊤, codes, Option, Some, None, is_some}
+use Rattle.std.specs.Prelude.{if◌then◌else◌, option_and_then}
 use Rattle.std.specs.List.{list_all, position_from}
 use Rattle.serde_json.specs.Data.{Data}
 use Rattle.serde_json.specs.Find.{as_object}

@@ -7,8 +7,7 @@ ghost use Rattle.wast_script.specs.declared.fault.ScriptFault.TheVariants as fau
 ghost use Rattle.wast_script.specs.CommandLine.{line_of};
 ghost use Rattle.wast_script.specs.Commands.{AssertInvalid, AssertMalformed, AssertReturn, AssertTrap, Invoke, Module};
 ghost use Rattle.wast_script.specs.Forms.{command_of};
-ghost use Rattle.wast_script.specs.Samples.{assertion, call, file_at, listed, module_at, said_call, value_object};
-ghost use Rattle.wast_script.specs.Samples.{two_commands, two_commands_are};
+ghost use Rattle.wast_script.specs.Samples.{assertion, call, file_at, listed, module_at, said_call, value_object, two_commands, two_commands_are};
 ghost use Rattle.wast_script.specs.Scripts.{IsFault, IsScript};
 ghost use Rattle.wast_script.specs.Values.{value_of};
 

@@ -1,8 +1,7 @@
 // The command that a JSON object stands for.
 ghost use Rattle.std.specs.Prelude.{◌≡◌, option_map, string_bytes, IfOk};
 ghost use Rattle.serde_json.specs.View.{view};
-ghost use Rattle.wast_script.specs.Forms.{call_in, call_with, cause_in, command_by, command_of};
-ghost use Rattle.wast_script.specs.Forms.{expected_in, expected_of, module_in, module_with};
+ghost use Rattle.wast_script.specs.Forms.{call_in, call_with, cause_in, command_by, command_of, expected_in, expected_of, module_in, module_with};
 ghost use Rattle.wast_script.specs.declared.kind.Kind.TheVariants as TheKind;
 ghost use Rattle.wast_script.specs.Seen.{seen_call, seen_command, seen_module};
 

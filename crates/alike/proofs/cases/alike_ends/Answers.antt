@@ -4,8 +4,9 @@ use Rattle.w2c_base.specs.declared.value.Value.TheVariants as value
 use Rattle.w2c_base.specs.Lookup.{named}
 use Rattle.c_meaning.specs.State as state
 use Rattle.w2c_base.specs.declared.value.ValType.TheVariants.{I32}
+use Rattle.c_tree.specs.DefinedNames.{global_name}
 use Rattle.wasm_meaning.specs.Samples as wasm
-use Rattle.alike.specs.Alike.{SameElement, global_name}
+use Rattle.alike.specs.Alike.{SameElement}
 use Rattle.alike.specs.Samples.{linked, own, static_func, exported_func}
 use Rattle.alike.proofs.cases.alike_ends.Goals as goal
 

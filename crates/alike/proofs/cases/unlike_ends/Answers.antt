@@ -5,9 +5,9 @@ use Rattle.w2c_base.specs.declared.value.Value.TheVariants.{I32, I64}
 use Rattle.w2c_base.specs.Trap.{code_of}
 use Rattle.w2c_base.specs.declared.signature.FuncType.{FuncType}
 use Rattle.w2c_base.specs.Signature.{sig_number_of}
+use Rattle.c_tree.specs.DefinedNames.{func_name, global_name}
 use Rattle.wasm_meaning.specs.LinkedSet.{FuncAddress, ModuleFunc, HostFunc}
 use Rattle.c_meaning.specs.State as state
-use Rattle.alike.specs.Alike.{func_name, global_name}
 use Rattle.alike.proofs.cases.unlike_ends.Goals as goal
 
 -- numbers by which the two sides are told apart

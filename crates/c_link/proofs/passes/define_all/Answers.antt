@@ -1,6 +1,6 @@
 use Rattle.c_link.proofs.Common.{◌≡◌, ◌<◌, map, length, slice_get, Some, flat_map, sym, ap, ◌∙◌, subst, take_all, length-map, option_or}
 use Rattle.c_link.proofs.Common.{numbered_at, mapped_at, named, numbered, unit_of, external_functions, first, twice, c_symbols, told}
-use Rattle.c_link.proofs.Common.{unit_offers, AllChecked, IsRefusal, types_in}
+use Rattle.c_link.proofs.Common.{unit_offers, IsRefusal, types_in}
 use Rattle.c_link.proofs.FirstRefusal.{twice_in, twice_units}
 use Rattle.c_link.proofs.Walks.{left_first, left_more, refused, units_end}
 use Rattle.c_link.proofs.Tables.{all_taken, holds_as, holds_more, unit_added}
@@ -14,14 +14,12 @@ returns-in-Err-clause-first c =
     let symbols = c_symbols c.args.hosts.now in
     let u = c.loop-u.u in
     let unit = c.index-units-u.result in
-    let same = c.as_slice-items.ensures ∙ c.unit.ensures.unit in
     let at : slice_get units u ≡ Some (unit_of unit) = mapped_at unit_of c.args.units.now u unit c.loop-u-test.true c.index-units-u.is in
     subst (IsRefusal c.in-Err.refusal) (sym (twice_units units symbols))
     (refused c.in-Err.refusal _ _ _ (left_first (twice_in units symbols) (numbered units) u (u, unit_of unit) (numbered_at units u
     (unit_of unit) at) c.loop-u.invariant.1)
     (subst (IsRefusal c.in-Err.refusal) (twice_found c.loop-u.table units symbols u (unit_of unit) c.loop-u.invariant.0)
-    (subst (λ items. IsRefusal c.in-Err.refusal
-    (first (flat_map (twice (types_in c.loop-u.table) u) (external_functions (unit_of items))))) same c.in-Err.ensures.first)))
+    (rw (c.as_slice-items.ensures ∙ c.unit.ensures.unit) at c.in-Err.ensures.first)))
 
 pub loop-u-preserved : goal.loop-u-preserved
 loop-u-preserved c =
@@ -55,5 +53,4 @@ returns-clause-once c =
     c.loop-u-test.false c.loop-u.invariant.1
 
 pub returns-clause-kept : goal.returns-clause-kept
-returns-clause-kept c =
-    subst AllChecked (take_all c.loop-u.u (map unit_of c.args.units.now) (rw length-map c.loop-u-test.false)) c.loop-u.invariant.2
+returns-clause-kept c = rw (take_all c.loop-u.u (map unit_of c.args.units.now) (rw length-map c.loop-u-test.false)) at c.loop-u.invariant.2

@@ -14,9 +14,7 @@ returns-in-Err-clause-first c =
     mapped_at unit_of c.args.units.now u c.index-units-u.result c.loop-u-test.true c.index-units-u.is in
     subst (IsRefusal c.in-Err.refusal) (sym (unresolved_units found units))
     (refused c.in-Err.refusal _ _ _ (left_first (unresolved_in found) (numbered units) u (u, unit_of c.index-units-u.result)
-    (numbered_at units u (unit_of c.index-units-u.result) at) c.loop-u.invariant)
-    (subst (λ items. IsRefusal c.in-Err.refusal (first (flat_map (unresolved found u) (external_functions (unit_of items))))) same
-    c.in-Err.ensures.first))
+    (numbered_at units u (unit_of c.index-units-u.result) at) c.loop-u.invariant) (rw same at c.in-Err.ensures.first))
 
 pub loop-u-preserved : goal.loop-u-preserved
 loop-u-preserved c =

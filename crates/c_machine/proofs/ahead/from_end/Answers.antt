@@ -1,13 +1,12 @@
-use Rattle.c_machine.proofs.Common.{◌-◌, [], ◌∷◌, map, sym, subst, arith, length-map, mapped_at, stmt_of}
-use Rattle.c_machine.proofs.Labels.{IsAhead, ahead_first, ahead_label, ahead_other}
+use Rattle.c_machine.proofs.Common.{◌-◌, [], ◌∷◌, map, sym, arith, length-map, mapped_at, stmt_of}
+use Rattle.c_machine.proofs.Labels.{ahead_first, ahead_label, ahead_other}
 use Rattle.c_machine.proofs.ahead.from_end.Goals as goal
 use Rattle.c_machine.proofs.ahead.from_end.Goals.{then-not-is_label, else-not-is_label}
 
 pub loop-i-init : goal.loop-i-init
 loop-i-init c =
     rw (c.in_ok-push.ensures.items, c.in_ok-places.ensures.items)
-    (subst (λ n. IsAhead (map stmt_of c.args.stmts.now) n n (n ∷ [])) (length-map c.args.stmts.now stmt_of)
-    (ahead_first (map stmt_of c.args.stmts.now)))
+    (rw (length-map c.args.stmts.now stmt_of) at (ahead_first (map stmt_of c.args.stmts.now)))
 
 pub loop-i-preserved : goal.loop-i-preserved
 loop-i-preserved c =

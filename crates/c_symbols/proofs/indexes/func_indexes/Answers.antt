@@ -1,5 +1,5 @@
 use Rattle.c_symbols.proofs.Common.{◌++◌, map, flat_map, refl, ap, ◌∙◌, func_of_import}
-use Rattle.c_symbols.proofs.Grown.{flat_map_next, map_next, read_again}
+use Rattle.w2c_base.proofs.Grown.{flat_map_next, map_next, read_again}
 use Rattle.c_symbols.proofs.ByKind.{nothing_left, func_brought, no_func_brought}
 use Rattle.c_symbols.proofs.indexes.func_indexes.Goals as goal
 use Rattle.c_symbols.proofs.indexes.func_indexes.Goals.{in-Func+in_ok-push, in_default}

@@ -6,8 +6,7 @@ use Rattle.c_trim.proofs.trimming.trim.Goals as goal
 pub known-requires-clause-formed : goal.known-requires-clause-formed
 known-requires-clause-formed c =
     trimmed_formed (unit_of c.args.u.now) (unit_of c.in_ok-kept.kept)
-    (subst (λ l. IsTrimmed (unit_of l)
-    (unit_of c.in_ok-kept.kept)) c.unit-unit.ensures.unit c.in_ok-kept.ensures) c.unit-unit.ensures.formed
+    (rw c.unit-unit.ensures.unit at c.in_ok-kept.ensures) c.unit-unit.ensures.formed
 
 pub known-requires-clause-kept : goal.known-requires-clause-kept
 known-requires-clause-kept c =

@@ -1,5 +1,5 @@
 use Rattle.c_unit.proofs.Common.{◌+◌, map, ap, bytes_if, bytes_of}
-use Rattle.c_unit.proofs.Numberings.{put_numbered, put_all}
+use Rattle.c_init.proofs.Numberings.{put_numbered, put_all}
 use Rattle.c_unit.proofs.with_bytes.with_bytes.Goals as goal
 
 pub loop-segment-preserved : goal.loop-segment-preserved

@@ -1,6 +1,6 @@
 use Rattle.crun_cli.proofs.Common.{◌≡◌, ℕ, zero, suc, false, List, [], ◌∷◌, slice_get, Some, codes, Option, sym, refl, ap, subst, Host}
 use Rattle.crun_cli.proofs.Common.{Value, I32, I64, extended, SymbolCall, CRun, c_run, call_with, env, host_call, lines_of, Answered, Keeps}
-use Rattle.crun_cli.proofs.Common.{host_of, replies_in, HostModule, Asked, asked_events, run_with, HasRun, HasStatus}
+use Rattle.crun_cli.proofs.Common.{host_of, replies_in, HostModule, Asked, asked_events, HasRun, HasStatus}
 use Rattle.std.specs.Fmt.{digits}
 use Rattle.std.proofs.lemmas.Option.{none-some, same_Some}
 use Rattle.c_tree.specs.declared.tree.CType.TheVariants.{U64}
@@ -41,16 +41,14 @@ module _ {H : Type 0} (m : HostModule H) (before : H) (is_env : host_of m before
       → (asks : List Asked) (after : List H) → Answered m (before ∷ []) asks after → asks ≡ []
   no_asks silent [] after is = refl
   no_asks silent (a ∷ asks) after (middle, answers, rest) = absurd (silent a.function a.args a.reply (m.state answers.new)
-      (subst (λ (h : H). m.may h (m.state h) a.function a.args a.reply (m.state answers.new))
-      (sym (the_one before answers.old a.host answers.old_is)) answers.may))
+      (rw (the_one before answers.old a.host answers.old_is) answers.may))
 
   no_run : ((function : ℕ) (args : List Value) (answer : HostReply) (after : List ℕ)
       → m.may before (m.state before) function args answer after → ⊥)
       → (new : Option (List ℕ)) (status : ℕ)
       → HasRun m (before ∷ []) (host_call U64 ∷ []) calls 2 false (Some []) new status → ⊥
   no_run silent new status r =
-      let waits = subst (λ (asks : List Asked). HasStatus (run_with m (before ∷ []) (host_call U64 ∷ []) calls 2 asks).outcome status)
-      (no_asks silent r.asks r.after r.answered) r.has_status in
+      let waits = rw (no_asks silent r.asks r.after r.answered) at r.has_status in
       subst (λ (host : Host). HasStatus (with_host host []).outcome status) is_env waits
 
 pub returns-clause-answered : goal.returns-clause-answered

@@ -1,5 +1,5 @@
-use Rattle.crun_cli.proofs.Common.{◌≡◌, ℕ, ◌+◌, ◌<◌, ◌≤◌, List, ◌∷◌, ◌++◌, length, take, drop, IfSome, Option, ◌∙◌, subst, arith, take_all}
-use Rattle.crun_cli.proofs.Common.{length-map, SymbolCall, State, call_seen, calls_seen}
+use Rattle.crun_cli.proofs.Common.{◌≡◌, ℕ, ◌+◌, ◌<◌, ◌≤◌, ◌∷◌, ◌++◌, length, take, drop, ◌∙◌, subst, arith, take_all, length-map, call_seen}
+use Rattle.crun_cli.proofs.Common.{calls_seen}
 use Rattle.crun_cli.specs.Playing.{HasPlayed, IsBehind, IsLeft}
 use Rattle.crun_cli.proofs.Behind.{all_played}
 use Rattle.crun_cli.proofs.CallLists.{calls_before, calls_next, calls_split}
@@ -11,10 +11,7 @@ returns-in-Ok-Some-clause-played g c = λ e old behind.
     let k = c.loop-index.index in
     let item = c.index-calls-index.result in
     let lt : k < length calls = omega arith in
-    let played = subst (λ o. IfSome o (λ s. (e : State _) (done more : List SymbolCall) (old : Option (List ℕ)) → length done ≡ k
-    → IsBehind g.H.HostModule e c.loop-index.session done old (g.O.Sink.told c.loop-index.out)
-    → HasPlayed g.H.HostModule e c.play_call.new.session (done ++ call_seen item ∷ more) old (g.O.Sink.told c.play_call.new.out) s))
-    c.in-Ok-Some.field-0-is c.in-Ok-Some.ensures.played in
+    let played = rw c.in-Ok-Some.field-0-is at c.in-Ok-Some.ensures.played in
     subst (λ cs. HasPlayed g.H.HostModule e c.play_call.new.session cs old (g.O.Sink.told c.play_call.new.out) c.in-Ok-Some.status)
     (calls_split calls k item lt c.index-calls-index.is)
     (played e (take k (calls_seen calls)) (drop (k + 1) (calls_seen calls)) old (calls_before calls k lt)
@@ -49,10 +46,7 @@ loop-index-preserved g c =
 
 pub returns-clause-played : goal.returns-clause-played
 returns-clause-played g c = λ e old behind.
-    let calls = c.args.calls.now in
     let k = c.loop-index.index in
-    let past : length (calls_seen calls) ≤ k = omega (arith, c.loop-index-test.false, length-map calls call_seen) in
-    all_played g.H.HostModule e c.loop-index.session (calls_seen calls) old (g.O.Sink.told c.loop-index.out)
-    (subst (λ cs. IsBehind g.H.HostModule e c.loop-index.session cs old (g.O.Sink.told c.loop-index.out))
-    (take_all k (calls_seen calls) past)
-    (c.loop-index.invariant.behind e old behind))
+    let past : length (calls_seen c.args.calls.now) ≤ k = omega (arith, c.loop-index-test.false, length-map c.args.calls.now call_seen) in
+    all_played g.H.HostModule e c.loop-index.session (calls_seen c.args.calls.now) old (g.O.Sink.told c.loop-index.out)
+    (rw (take_all k (calls_seen c.args.calls.now) past) at (c.loop-index.invariant.behind e old behind))

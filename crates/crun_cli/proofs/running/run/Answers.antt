@@ -1,7 +1,7 @@
-use Rattle.crun_cli.proofs.Common.{ℕ, List, Ok, Err, option_map, sym, refl, ap, ◌∙◌, subst, both_passed, passed_so, Passes, Tells, names_of}
-use Rattle.crun_cli.proofs.Common.{AreReplays, replaying, Recorded, RunLine, AllRead, AreInputs, StopsInputs, GivesInputs, TriesInputs}
-use Rattle.crun_cli.proofs.Common.{seen_run, reason_of, stop_for, FilesSeen, files_seen, stopped_by, HoldsJournal, Outside, SinkSeen}
-use Rattle.crun_cli.proofs.Common.{outside, sink_seen, PassesRun, StopsWork, TriesReplay, ended_by}
+use Rattle.crun_cli.proofs.Common.{ℕ, List, Ok, Err, option_map, sym, refl, ap, ◌∙◌, subst, both_passed, passed_so, Passes, names_of}
+use Rattle.crun_cli.proofs.Common.{replaying, RunLine, AllRead, GivesInputs, TriesInputs, seen_run, reason_of, stop_for, FilesSeen}
+use Rattle.crun_cli.proofs.Common.{files_seen, stopped_by, Outside, SinkSeen, outside, sink_seen, PassesRun, StopsWork, TriesReplay}
+use Rattle.crun_cli.proofs.Common.{ended_by}
 use Rattle.w2c_io.specs.Events.{Event}
 use Rattle.crun_cli.proofs.EndPasses.{run_handed, run_replayed}
 use Rattle.crun_cli.proofs.Passing.{inputs_stopped, replay_stopped}
@@ -28,9 +28,7 @@ returns-in-Err-clause-stop g c = λ words is.
     (inputs_stop g.H.HostModule c.args.hosts.items line words is old new (record {
       files = record { told = c.read_inputs.ensures.told; current = c.read_inputs.ensures.current };
       lines = refl;
-    }) c.in-Err.stop
-    (subst (λ ns. StopsInputs old.files.told (names_of ns) line.calls old.files.read_faults new.files.read_faults new.files.fault_name
-    c.in-Err.stop) c.as_slice.ensures.value c.in-Err.ensures.stop))
+    }) c.in-Err.stop (rw c.as_slice.ensures.value at c.in-Err.ensures.stop))
 
 pub returns-in-Ok-run_and_record-clause-ran : goal.returns-in-Ok-run_and_record-clause-ran
 returns-in-Ok-run_and_record-clause-ran g c = λ words is m tells.
@@ -42,9 +40,7 @@ returns-in-Ok-run_and_record-clause-ran g c = λ words is m tells.
     let new : Outside = outside files g.O.Sink c.run_and_record.new.files c.run_and_record.new.out in
     let texts = c.in-Ok.inputs.units.items in
     let text = c.in-Ok.inputs.calls in
-    let read = subst (λ ns. Tells start.told (λ m. AreInputs m (names_of ns) line.calls texts text)) c.as_slice.ensures.value
-    c.in-Ok.ensures.read in
-    handed_ran g.H.HostModule c.args.hosts.items line words is start.told texts text read
+    handed_ran g.H.HostModule c.args.hosts.items line words is start.told texts text (rw c.as_slice.ensures.value at c.in-Ok.ensures.read)
     (ap (λ o. option_map (λ name. name.now) o) c.in-None.is) (record { files = start; out = out }) new c.in-Ok-run_and_record.status
     (ran_from g.H.HostModule c.args.hosts.items line start middle out new c.read_inputs.ensures.told texts text
     c.in-Ok-run_and_record.status c.in-Ok-run_and_record.ensures.ran) m tells
@@ -59,10 +55,8 @@ returns-in-None-clause-stop g c = λ words is.
     let new : Outside = outside files g.O.Sink c.run_and_record.new.files c.run_and_record.new.out in
     let texts = c.in-Ok.inputs.units.items in
     let text = c.in-Ok.inputs.calls in
-    let read = subst (λ ns. Tells start.told (λ m. AreInputs m (names_of ns) line.calls texts text)) c.as_slice.ensures.value
-    c.in-Ok.ensures.read in
     let why = reason_of c.in-Err-run_and_record.stop in
-    handed_stop g.H.HostModule c.args.hosts.items line words is start.told texts text read
+    handed_stop g.H.HostModule c.args.hosts.items line words is start.told texts text (rw c.as_slice.ensures.value at c.in-Ok.ensures.read)
     (ap (λ o. option_map (λ name. name.now) o) c.in-None.is) (record { files = start; out = out }) new refl why
     (stop_from g.H.HostModule c.args.hosts.items line start middle out new c.read_inputs.ensures.told c.read_inputs.ensures.current
     c.read_inputs.ensures.writes texts text why c.in-Err-run_and_record.ensures.stop)
@@ -75,12 +69,10 @@ returns-in-Err-replayed_hosts-clause-stop g c = λ words is.
     let middle : FilesSeen = files_seen files c.read_inputs.new.files in
     let out : SinkSeen = sink_seen g.O.Sink c.args.out.now in
     let new : Outside = outside files g.O.Sink c.replayed_hosts.new.files c.args.out.now in
-    let texts = c.in-Ok.inputs.units.items in
     let text = c.in-Ok.inputs.calls in
-    let read = subst (λ ns. Tells start.told (λ m. AreInputs m (names_of ns) line.calls texts text)) c.as_slice.ensures.value
-    c.in-Ok.ensures.read in
+    let read = rw c.as_slice.ensures.value at c.in-Ok.ensures.read in
     let why = reason_of c.in-Err-replayed_hosts.stop in
-    replay_stop g.H.HostModule c.args.hosts.items line words is start.told texts text read c.in-Some.name.now
+    replay_stop g.H.HostModule c.args.hosts.items line words is start.told c.in-Ok.inputs.units.items text read c.in-Some.name.now
     (ap (λ o. option_map (λ name. name.now) o) c.in-Some.is) (record { files = start; out = out }) new refl (record {
       files = record {
         told = c.replayed_hosts.ensures.told ∙ c.read_inputs.ensures.told;
@@ -102,10 +94,8 @@ returns-in-Ok-run_and_record-2-clause-ran g c = λ words is m tells.
     let texts = c.in-Ok.inputs.units.items in
     let text = c.in-Ok.inputs.calls in
     let replays = c.in-Ok-replayed_hosts.replays.items in
-    let read = subst (λ ns. Tells start.told (λ m. AreInputs m (names_of ns) line.calls texts text)) c.as_slice.ensures.value
-    c.in-Ok.ensures.read in
-    let held = subst (λ t. Tells t (λ m. (j : Recorded) × HoldsJournal m c.in-Some.name.now j × AreReplays j replays))
-    c.read_inputs.ensures.told c.in-Ok-replayed_hosts.ensures.hosts in
+    let read = rw c.as_slice.ensures.value at c.in-Ok.ensures.read in
+    let held = rw c.read_inputs.ensures.told at c.in-Ok-replayed_hosts.ensures.hosts in
     replayed_ran g.H.HostModule c.args.hosts.items line words is start.told texts text read c.in-Some.name.now
     (ap (λ o. option_map (λ name. name.now) o) c.in-Some.is) replays held (record { files = start; out = out }) new
     c.in-Ok-run_and_record-2.status
@@ -123,10 +113,8 @@ returns-clause-stop g c = λ words is.
     let texts = c.in-Ok.inputs.units.items in
     let text = c.in-Ok.inputs.calls in
     let replays = c.in-Ok-replayed_hosts.replays.items in
-    let read = subst (λ ns. Tells start.told (λ m. AreInputs m (names_of ns) line.calls texts text)) c.as_slice.ensures.value
-    c.in-Ok.ensures.read in
-    let held = subst (λ t. Tells t (λ m. (j : Recorded) × HoldsJournal m c.in-Some.name.now j × AreReplays j replays))
-    c.read_inputs.ensures.told c.in-Ok-replayed_hosts.ensures.hosts in
+    let read = rw c.as_slice.ensures.value at c.in-Ok.ensures.read in
+    let held = rw c.read_inputs.ensures.told at c.in-Ok-replayed_hosts.ensures.hosts in
     let why = reason_of c.in-Err-run_and_record-2.stop in
     replayed_run_stop g.H.HostModule c.args.hosts.items line words is start.told texts text read c.in-Some.name.now
     (ap (λ o. option_map (λ name. name.now) o) c.in-Some.is) replays held (record { files = start; out = out }) new refl why
@@ -136,12 +124,11 @@ returns-clause-stop g c = λ words is.
 
 pub returns-in-Err-clause-passed : goal.returns-in-Err-clause-passed
 returns-in-Err-clause-passed g c =
-    let files = g.F.Files in
     let m = g.H.HostModule in
     let hosts = c.args.hosts.items in
     let line : RunLine = seen_run c.args.line.now in
-    let start = files.trace c.args.files.now in
-    let middle = files.trace c.read_inputs.new.files in
+    let start = g.F.Files.trace c.args.files.now in
+    let middle = g.F.Files.trace c.read_inputs.new.files in
     let told = g.O.Sink.told c.args.out.now in
     subst (λ s. Passes start middle (PassesRun m hosts line told told (ended_by (Err s)) (stopped_by {A = ℕ} (Err s))))
     (sym c.stop_of.ensures)
@@ -149,68 +136,59 @@ returns-in-Err-clause-passed g c =
     (PassesRun m hosts line told told (ended_by (Err (stop_for c.in-Err.stop))) (stopped_by {A = ℕ} (Err (stop_for c.in-Err.stop))))
     (λ events tried. inputs_stopped m hosts line told told (ended_by (Err (stop_for c.in-Err.stop)))
     (stopped_by {A = ℕ} (Err (stop_for c.in-Err.stop))) c.in-Err.stop events tried (refl, refl))
-    (subst (λ ns. Passes start middle (TriesInputs (names_of ns) line.calls c.in-Err.stop)) c.as_slice.ensures.value
-    c.in-Err.ensures.tried))
+    (rw c.as_slice.ensures.value at c.in-Err.ensures.tried))
 
 pub returns-in-Ok-run_and_record-clause-passed : goal.returns-in-Ok-run_and_record-clause-passed
 returns-in-Ok-run_and_record-clause-passed g c =
-    let files = g.F.Files in
     run_handed g.H.HostModule c.args.hosts.items (seen_run c.args.line.now) (g.O.Sink.told c.args.out.now)
     (g.O.Sink.told c.run_and_record.new.out) (Ok c.in-Ok-run_and_record.status) c.in-Ok.inputs.units.items c.in-Ok.inputs.calls
-    (files.trace c.args.files.now) (files.trace c.read_inputs.new.files) (files.trace c.run_and_record.new.files) _
+    (g.F.Files.trace c.args.files.now) (g.F.Files.trace c.read_inputs.new.files) (g.F.Files.trace c.run_and_record.new.files) _
     (ap (λ ns. names_of ns) c.as_slice.ensures.value) c.in-Ok.ensures.passed (ap (λ o. option_map (λ name. name.now) o) c.in-None.is)
     c.in-Ok-run_and_record.ensures.passed
 
 pub returns-in-None-clause-passed : goal.returns-in-None-clause-passed
 returns-in-None-clause-passed g c =
-    let files = g.F.Files in
     run_handed g.H.HostModule c.args.hosts.items (seen_run c.args.line.now) (g.O.Sink.told c.args.out.now)
     (g.O.Sink.told c.run_and_record.new.out) (Err c.in-Err-run_and_record.stop) c.in-Ok.inputs.units.items c.in-Ok.inputs.calls
-    (files.trace c.args.files.now) (files.trace c.read_inputs.new.files) (files.trace c.run_and_record.new.files) _
+    (g.F.Files.trace c.args.files.now) (g.F.Files.trace c.read_inputs.new.files) (g.F.Files.trace c.run_and_record.new.files) _
     (ap (λ ns. names_of ns) c.as_slice.ensures.value) c.in-Ok.ensures.passed (ap (λ o. option_map (λ name. name.now) o) c.in-None.is)
     c.in-Err-run_and_record.ensures.passed
 
 pub returns-in-Err-replayed_hosts-clause-passed : goal.returns-in-Err-replayed_hosts-clause-passed
 returns-in-Err-replayed_hosts-clause-passed g c =
-    let files = g.F.Files in
-    let m = g.H.HostModule in
     let hosts = c.args.hosts.items in
     let line : RunLine = seen_run c.args.line.now in
-    let start = files.trace c.args.files.now in
-    let middle = files.trace c.read_inputs.new.files in
+    let start = g.F.Files.trace c.args.files.now in
+    let middle = g.F.Files.trace c.read_inputs.new.files in
     let texts = c.in-Ok.inputs.units.items in
     let text = c.in-Ok.inputs.calls in
     let Gives : List Event → Type 0 = GivesInputs line.units line.calls (AllRead texts text) in
-    let gives : Passes start middle Gives =
-    subst (λ ns. Passes start middle (GivesInputs (names_of ns) line.calls (AllRead texts text))) c.as_slice.ensures.value
-    c.in-Ok.ensures.passed in
-    let new = files.trace c.replayed_hosts.new.files in
+    let gives : Passes start middle Gives = rw c.as_slice.ensures.value at c.in-Ok.ensures.passed in
+    let new = g.F.Files.trace c.replayed_hosts.new.files in
     let name = c.in-Some.name.now in
     let told = g.O.Sink.told c.args.out.now in
     let ends = ended_by (Err c.in-Err-replayed_hosts.stop) in
     let stopped = stopped_by {A = ℕ} (Err c.in-Err-replayed_hosts.stop) in
     let why = reason_of c.in-Err-replayed_hosts.stop in
-    both_passed start middle new Gives (TriesReplay name why) (PassesRun m hosts line told told ends stopped)
-    (λ first last gave tried. replay_stopped m hosts line told told ends stopped texts text first gave name
+    both_passed start middle new Gives (TriesReplay name why) (PassesRun g.H.HostModule hosts line told told ends stopped)
+    (λ first last gave tried. replay_stopped g.H.HostModule hosts line told told ends stopped texts text first gave name
     (ap (λ o. option_map (λ n. n.now) o) c.in-Some.is) last why tried (refl, refl))
     gives c.in-Err-replayed_hosts.ensures.tried
 
 pub returns-in-Ok-run_and_record-2-clause-passed : goal.returns-in-Ok-run_and_record-2-clause-passed
 returns-in-Ok-run_and_record-2-clause-passed g c =
-    let files = g.F.Files in
     run_replayed g.H.HostModule c.args.hosts.items (seen_run c.args.line.now) (g.O.Sink.told c.args.out.now)
     (g.O.Sink.told c.run_and_record-in-Some.new.out) (Ok c.in-Ok-run_and_record-2.status) c.in-Ok.inputs.units.items c.in-Ok.inputs.calls
-    (files.trace c.args.files.now) (files.trace c.read_inputs.new.files) (files.trace c.run_and_record-in-Some.new.files) _
+    (g.F.Files.trace c.args.files.now) (g.F.Files.trace c.read_inputs.new.files) (g.F.Files.trace c.run_and_record-in-Some.new.files) _
     (ap (λ ns. names_of ns) c.as_slice.ensures.value) c.in-Ok.ensures.passed
-    (files.trace c.replayed_hosts.new.files) c.in-Some.name.now (ap (λ o. option_map (λ n. n.now) o) c.in-Some.is)
+    (g.F.Files.trace c.replayed_hosts.new.files) c.in-Some.name.now (ap (λ o. option_map (λ n. n.now) o) c.in-Some.is)
     c.in-Ok-replayed_hosts.replays.items c.in-Ok-replayed_hosts.ensures.passed c.in-Ok-run_and_record-2.ensures.passed
 
 pub returns-clause-passed : goal.returns-clause-passed
 returns-clause-passed g c =
-    let files = g.F.Files in
     run_replayed g.H.HostModule c.args.hosts.items (seen_run c.args.line.now) (g.O.Sink.told c.args.out.now)
     (g.O.Sink.told c.run_and_record-in-Some.new.out) (Err c.in-Err-run_and_record-2.stop) c.in-Ok.inputs.units.items c.in-Ok.inputs.calls
-    (files.trace c.args.files.now) (files.trace c.read_inputs.new.files) (files.trace c.run_and_record-in-Some.new.files) _
+    (g.F.Files.trace c.args.files.now) (g.F.Files.trace c.read_inputs.new.files) (g.F.Files.trace c.run_and_record-in-Some.new.files) _
     (ap (λ ns. names_of ns) c.as_slice.ensures.value) c.in-Ok.ensures.passed
-    (files.trace c.replayed_hosts.new.files) c.in-Some.name.now (ap (λ o. option_map (λ n. n.now) o) c.in-Some.is)
+    (g.F.Files.trace c.replayed_hosts.new.files) c.in-Some.name.now (ap (λ o. option_map (λ n. n.now) o) c.in-Some.is)
     c.in-Ok-replayed_hosts.replays.items c.in-Ok-replayed_hosts.ensures.passed c.in-Err-run_and_record-2.ensures.passed

@@ -6,14 +6,12 @@ pub returns-in-Err : goal.returns-in-Err
 returns-in-Err g c =
     let lines = asked_line (hosts_of g.H.HostModule c.args.hosts.now) in
     let k = c.loop-ask.ask-index in
-    let asks = c.args.asks.now in
-    stopped_at lines _ _ _ _ _ _ (take k asks) c.ask-item.result (drop (k + 1) asks) asks c.in-Err.answer
-    (front_split asks k c.ask-item.result c.loop-ask-test.true c.ask-item.is) c.loop-ask.invariant c.in-Err.ensures
+    stopped_at lines _ _ _ _ _ _ (take k c.args.asks.now) c.ask-item.result (drop (k + 1) c.args.asks.now) c.args.asks.now c.in-Err.answer
+    (front_split c.args.asks.now k c.ask-item.result c.loop-ask-test.true c.ask-item.is) c.loop-ask.invariant c.in-Err.ensures
 
 pub loop-ask-preserved : goal.loop-ask-preserved
 loop-ask-preserved g c =
     let lines = asked_line (hosts_of g.H.HostModule c.args.hosts.now) in
     let k = c.loop-ask.ask-index in
-    let asks = c.args.asks.now in
-    subst (AreWritten lines _ _ _ _) (sym (front_next asks k c.ask-item.result c.loop-ask-test.true c.ask-item.is))
-    (one_more lines c.in-Ok.field-0 _ _ _ _ _ _ (take k asks) c.ask-item.result c.loop-ask.invariant c.in-Ok.ensures)
+    subst (AreWritten lines _ _ _ _) (sym (front_next c.args.asks.now k c.ask-item.result c.loop-ask-test.true c.ask-item.is))
+    (one_more lines c.in-Ok.field-0 _ _ _ _ _ _ (take k c.args.asks.now) c.ask-item.result c.loop-ask.invariant c.in-Ok.ensures)

@@ -1,5 +1,5 @@
-use Rattle.crun_cli.proofs.Common.{◌≡◌, ℕ, List, Ok, Err, subst, passed_so, Says, texts, error_line, reason_of, stopped_by, outside}
-use Rattle.crun_cli.proofs.Common.{PassesFor, PassesWords, StopsFor, ended_by}
+use Rattle.crun_cli.proofs.Common.{◌≡◌, ℕ, List, Ok, Err, passed_so, Says, texts, error_line, reason_of, stopped_by, outside, PassesFor}
+use Rattle.crun_cli.proofs.Common.{PassesWords, StopsFor, ended_by}
 use Rattle.crun_cli.proofs.Passing.{stopped_for, words_so}
 use Rattle.crun_cli.proofs.TopLaws.{
   done_again,
@@ -80,17 +80,15 @@ returns-in-Err-clause-part g c = λ status.
 
 pub returns-in-Ok-clause-passed : goal.returns-in-Ok-clause-passed
 returns-in-Ok-clause-passed g c =
-    let files = g.F.Files in
-    let err = g.E.Sink in
     let hosts = c.args.hosts.items in
     let words = texts c.args.words.now in
     let told = g.O.Sink.told c.args.out.now in
     let told' = g.O.Sink.told c.work.new.out in
     let ends = ended_by (Ok c.in-Ok.status) in
     let stopped = stopped_by {A = ℕ} (Ok c.in-Ok.status) in
-    let says = λ (line : List ℕ). Says (err.told c.args.err.now) (err.told c.args.err.now) (err.faults c.args.err.now)
-    (err.faults c.args.err.now) line in
-    passed_so (files.trace c.args.files.now) (files.trace c.work.new.files) (PassesWords _ hosts words told told' ends stopped)
+    let says = λ (line : List ℕ). Says (g.E.Sink.told c.args.err.now) (g.E.Sink.told c.args.err.now) (g.E.Sink.faults c.args.err.now)
+    (g.E.Sink.faults c.args.err.now) line in
+    passed_so (g.F.Files.trace c.args.files.now) (g.F.Files.trace c.work.new.files) (PassesWords _ hosts words told told' ends stopped)
     (PassesFor _ hosts words told told' c.in-Ok.status says)
     (words_so _ hosts told told' ends (λ s. c.in-Ok.status ≡ s) stopped (StopsFor c.in-Ok.status says)
     (λ status is. is) (λ why none. absurd none)
@@ -99,22 +97,19 @@ returns-in-Ok-clause-passed g c =
 
 pub returns-in-Err-clause-passed : goal.returns-in-Err-clause-passed
 returns-in-Err-clause-passed g c =
-    let files = g.F.Files in
-    let err = g.E.Sink in
     let hosts = c.args.hosts.items in
     let words = texts c.args.words.now in
     let told = g.O.Sink.told c.args.out.now in
     let told' = g.O.Sink.told c.work.new.out in
     let ends = ended_by (Err c.in-Err.stop) in
     let stopped = stopped_by {A = ℕ} (Err c.in-Err.stop) in
-    let says = λ (line : List ℕ). Says (err.told c.args.err.now) (err.told c.report.new.err) (err.faults c.args.err.now)
-    (err.faults c.report.new.err) line in
-    passed_so (files.trace c.args.files.now) (files.trace c.work.new.files) (PassesWords _ hosts words told told' ends stopped)
+    let says = λ (line : List ℕ). Says (g.E.Sink.told c.args.err.now) (g.E.Sink.told c.report.new.err) (g.E.Sink.faults c.args.err.now)
+    (g.E.Sink.faults c.report.new.err) line in
+    passed_so (g.F.Files.trace c.args.files.now) (g.F.Files.trace c.work.new.files) (PassesWords _ hosts words told told' ends stopped)
     (PassesFor _ hosts words told told' c.report.result says)
     (words_so _ hosts told told' ends (λ s. c.report.result ≡ s) stopped (StopsFor c.report.result says)
     (λ status none. absurd none)
-    (λ why is. subst (StopsFor c.report.result says) is
-    (stopped_for c.report.result says (reason_of c.in-Err.stop) c.report.ensures.status c.report.ensures.says))
+    (λ why is. rw is at (stopped_for c.report.result says (reason_of c.in-Err.stop) c.report.ensures.status c.report.ensures.says))
     words)
     c.in-Err.ensures.passed
 

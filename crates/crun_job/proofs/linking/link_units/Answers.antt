@@ -24,9 +24,8 @@ returns-in-Ok-link-clause-hosts c = c.in-Ok-link.ensures.hosts
 
 pub returns-in-Err-clause-within : goal.returns-in-Err-clause-within
 returns-in-Err-clause-within c =
-    let texts = c.args.texts.now in
     let symbols = c_symbols c.args.hosts.now in
-    refused_within texts symbols c.in-Err.refusal (text_refused texts symbols c.in-Err.refusal c.in-Err.ensures.first)
+    refused_within c.args.texts.now symbols c.in-Err.refusal (text_refused c.args.texts.now symbols c.in-Err.refusal c.in-Err.ensures.first)
 
 pub returns-in-Err-link-clause-within : goal.returns-in-Err-link-clause-within
 returns-in-Err-link-clause-within c =

@@ -1,11 +1,10 @@
-use Rattle.std.proofs.Common.{◌↔◌, ◌≤◌, Err, IsTrue, ap, length, subst}
+use Rattle.std.proofs.Common.{◌↔◌, ◌≤◌, Err, ap}
 use Rattle.crun_startup.proofs.InitSymbols.{escape_found, no_escape}
 use Rattle.crun_startup.proofs.init_symbol.is_module_escape.Goals as goal
 
 pub returns-in-Ok : goal.returns-in-Ok
 returns-in-Ok c =
-    let told =
-    subst (λ n. IsTrue c.is_module_name.result ↔ (1 ≤ length n) × (length n ≤ 1024)) c.as_slice.ensures c.is_module_name.ensures in
+    let told = rw c.as_slice.ensures at c.is_module_name.ensures in
     escape_found c.in-Ok.name c.args.text.now c.is_module_name.result c.in-Ok.ensures.name c.in-Ok.ensures.bytes told
 
 pub returns-in-Err-NotEscaped : goal.returns-in-Err-NotEscaped

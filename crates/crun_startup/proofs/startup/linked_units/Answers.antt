@@ -1,5 +1,5 @@
 use Rattle.crun_startup.proofs.Common.{◌+◌, [], ◌∷◌, ◌++◌, map, take, sym, refl, subst, arith, length-append, seen_at, take_next, unit_of}
-use Rattle.crun_startup.proofs.Common.{AreUnits, IsUnit}
+use Rattle.crun_startup.proofs.Common.{AreUnits}
 use Rattle.crun_startup.proofs.UnitsPush.{units_push}
 use Rattle.crun_startup.proofs.startup.linked_units.Goals as goal
 
@@ -15,6 +15,5 @@ loop-k-preserved c =
       subst (AreUnits symbols (take (k + 1) units)) (sym c.in_ok-push.ensures.items)
           (subst (λ us. AreUnits symbols us (made ++ l ∷ []))
           (sym (take_next units k (unit_of l.items.value) (seen_at unit_of c.args.linked.now.0 k _ one.0)))
-          (units_push symbols (take k units) (unit_of l.items.value) made l refl
-          (subst (λ n. IsUnit symbols n l) (sym c.loop-k.invariant.0) one.1) c.loop-k.invariant.1)),
+          (units_push symbols (take k units) (unit_of l.items.value) made l refl (rw c.loop-k.invariant.0 one.1) c.loop-k.invariant.1)),
     )

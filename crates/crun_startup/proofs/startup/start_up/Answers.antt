@@ -1,4 +1,4 @@
-use Rattle.crun_startup.proofs.Common.{map, sym, subst, unit_of, Symbols, AreSymbols, naming_of, AreUnits}
+use Rattle.crun_startup.proofs.Common.{map, subst, unit_of, Symbols, AreUnits}
 use Rattle.crun_startup.proofs.CalledFound.{symbols_are}
 use Rattle.crun_startup.proofs.TablesFound.{linked, unit_tables}
 use Rattle.crun_startup.proofs.TypesFound.{types_are}
@@ -23,5 +23,4 @@ returns-clause-types c p is have =
 pub returns-clause-symbols : goal.returns-clause-symbols
 returns-clause-symbols c p is have =
     let units = map unit_of c.args.linked.now.0 in
-    subst (λ (s : Symbols). AreSymbols (naming_of p.units) p s) (sym c.in_ok-seen.ensures)
-    (symbols_are p units c.args.linked.now.1 c.args.counts.now is have _ c.in_ok-symbols.ensures)
+    rw c.in_ok-seen.ensures (symbols_are p units c.args.linked.now.1 c.args.counts.now is have _ c.in_ok-symbols.ensures)

@@ -6,9 +6,8 @@ use Rattle.crun_startup.proofs.symbols.host_ids.Goals as goal
 pub loop-host-preserved : goal.loop-host-preserved
 loop-host-preserved c =
     let counts = c.args.counts.now in
-    let h = c.loop-host.host in
-    gathered_next (flat_map ids_of) (flats ids_of) (numbered counts) [] c.loop-host.ids.items _ h _
-    (numbered_at counts h _ (slice_get-get_or counts h _ c.loop-host-test.true))
+    gathered_next (flat_map ids_of) (flats ids_of) (numbered counts) [] c.loop-host.ids.items _ c.loop-host.host _
+    (numbered_at counts c.loop-host.host _ (slice_get-get_or counts c.loop-host.host _ c.loop-host-test.true))
     (c.in_ok-put_ids.ensures ∙ ap (λ l. c.loop-host.ids.items ++ l) (sym (append-nil _))) c.loop-host.invariant
 
 pub returns : goal.returns

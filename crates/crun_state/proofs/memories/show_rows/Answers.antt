@@ -14,8 +14,7 @@ returns-in-Err g c =
 
 pub loop-row-preserved : goal.loop-row-preserved
 loop-row-preserved g c =
-    let row = c.loop-row.row in
     let lines = row_line c.args.unit c.args.name.now c.args.memory.now.bytes in
-    subst (AreWritten lines _ _ _ _) (sym (range_next row))
-    (one_more lines c.in-Ok.field-0 _ _ _ _ _ _ (range_with_len 0 row) row c.loop-row.invariant
-    (c.in-Ok.ensures (lines row) c.row_line.ensures))
+    subst (AreWritten lines _ _ _ _) (sym (range_next c.loop-row.row))
+    (one_more lines c.in-Ok.field-0 _ _ _ _ _ _ (range_with_len 0 c.loop-row.row) c.loop-row.row c.loop-row.invariant
+    (c.in-Ok.ensures (lines c.loop-row.row) c.row_line.ensures))

@@ -1,5 +1,5 @@
-use Rattle.crun_state.proofs.Common.{◌+◌, ◌-◌, map, length, Ok, Err, sym, ap, subst, arith, rules, range_with_len, unit_of, hosts_of}
-use Rattle.crun_state.proofs.Common.{AreWritten, all_written, one_more, range_next, range_split, stopped_at, writes_text, lines_of_unit}
+use Rattle.crun_state.proofs.Common.{◌+◌, ◌-◌, map, length, Ok, Err, sym, ap, arith, rules, range_with_len, unit_of, hosts_of, all_written}
+use Rattle.crun_state.proofs.Common.{one_more, range_next, range_split, stopped_at, writes_text, lines_of_unit}
 use Rattle.crun_state.proofs.Shown.{state_shown}
 use Rattle.crun_state.proofs.state.show_state.Goals as goal
 
@@ -17,8 +17,7 @@ pub loop-unit-preserved : goal.loop-unit-preserved
 loop-unit-preserved g c =
     let lines = lines_of_unit (hosts_of g.H.HostModule c.args.hosts.now) (map unit_of c.args.units.now) c.args.objects.now in
     let u = c.loop-unit.unit in
-    subst (AreWritten lines _ _ _ _) (sym (range_next u))
-    (one_more lines c.in-Ok.field-0 _ _ _ _ _ _ (range_with_len 0 u) u c.loop-unit.invariant c.in-Ok.ensures)
+    rw (range_next u) (one_more lines c.in-Ok.field-0 _ _ _ _ _ _ (range_with_len 0 u) u c.loop-unit.invariant c.in-Ok.ensures)
 
 pub returns : goal.returns
 returns g c =

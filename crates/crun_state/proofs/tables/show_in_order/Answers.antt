@@ -5,9 +5,8 @@ use Rattle.crun_state.proofs.tables.show_in_order.Goals as goal
 
 pub returns-in-Err : goal.returns-in-Err
 returns-in-Err g c =
-    let hosts = hosts_of g.H.HostModule c.args.hosts.now in
     let names = naming_of (map unit_of c.args.units.now) in
-    let lines = lines_at (table_cell_lines hosts names c.args.unit) c.args.own.now.tables.items in
+    let lines = lines_at (table_cell_lines (hosts_of g.H.HostModule c.args.hosts.now) names c.args.unit) c.args.own.now.tables.items in
     let k = c.loop-k.k in
     let entries = map entry_of c.args.names.now in
     let x = entry_at c.args.names.now k in
@@ -17,9 +16,8 @@ returns-in-Err g c =
 
 pub loop-k-preserved : goal.loop-k-preserved
 loop-k-preserved g c =
-    let hosts = hosts_of g.H.HostModule c.args.hosts.now in
     let names = naming_of (map unit_of c.args.units.now) in
-    let lines = lines_at (table_cell_lines hosts names c.args.unit) c.args.own.now.tables.items in
+    let lines = lines_at (table_cell_lines (hosts_of g.H.HostModule c.args.hosts.now) names c.args.unit) c.args.own.now.tables.items in
     let k = c.loop-k.k in
     let entries = map entry_of c.args.names.now in
     let x = entry_at c.args.names.now k in

@@ -1,7 +1,6 @@
 use Rattle.crun_units.proofs.Common.{◌≡◌, ◌<◌, [], ◌∷◌, map, length, get_or, sym, subst, arith, passed_so, Passes, unit_of, UnitsRead}
-use Rattle.crun_units.proofs.Common.{GivesUnits, TriesUnits, seen_trim, Write, WantOfMemory, RefusesTexts, reason_of, stop_for}
-use Rattle.crun_units.proofs.Common.{AreUnitTexts, AreUntouched, files_seen, IsTrimJob, IsTrimmedText, IsUnitsJobOver, StopsWrite}
-use Rattle.crun_units.proofs.Common.{TriesUnit}
+use Rattle.crun_units.proofs.Common.{GivesUnits, TriesUnits, seen_trim, Write, WantOfMemory, reason_of, stop_for, AreUnitTexts}
+use Rattle.crun_units.proofs.Common.{AreUntouched, files_seen, IsTrimJob, IsTrimmedText, IsUnitsJobOver, StopsWrite, TriesUnit}
 use Rattle.crun_units.proofs.Passing.{reading_tried, refusal_tried, unit_asked, wanting_tried}
 use Rattle.crun_units.proofs.WriteStops.{asked, one_unit, reading_stops, refusal_stops, trim_refused, trimmed_text}
 use Rattle.crun_units.proofs.trimming.trimmed_unit.Goals as goal
@@ -24,8 +23,7 @@ returns-in-Err-check_units-clause-stop g c =
     let untouched : AreUntouched old new = record { told = c.in-Ok.ensures.told; current = c.in-Ok.ensures.current } in
     refusal_stops (IsTrimmedText line) (line.unit ∷ []) line.output old new untouched texts c.in-Ok.ensures.read
     c.in-Err-check_units.refusal (reason_of c.stop_at.result)
-    (trim_refused line texts c.in-Err-check_units.refusal
-    (subst (λ ts. RefusesTexts ts c.in-Err-check_units.refusal) c.as_slice.ensures.value c.in-Err-check_units.ensures.first))
+    (trim_refused line texts c.in-Err-check_units.refusal (rw c.as_slice.ensures.value at c.in-Err-check_units.ensures.first))
     c.stop_at.ensures
 
 pub bounds-checked-0 : goal.bounds-checked-0
@@ -66,14 +64,12 @@ pub returns-in-Err-check_units-clause-tried : goal.returns-in-Err-check_units-cl
 returns-in-Err-check_units-clause-tried g c =
     let line = seen_trim c.args.line.now in
     let of = IsTrimmedText line in
-    let old = g.F.Files.trace c.args.files.now in
     let new = g.F.Files.trace c.read_units.new.files in
     let texts = c.in-Ok.texts.items in
     let reason = reason_of c.stop_at.result in
-    passed_so old new (GivesUnits (line.unit ∷ []) (UnitsRead texts)) (TriesUnit (line.unit ∷ []) of reason)
+    passed_so (g.F.Files.trace c.args.files.now) new (GivesUnits (line.unit ∷ []) (UnitsRead texts)) (TriesUnit (line.unit ∷ []) of reason)
     (λ events gave. refusal_tried (line.unit ∷ []) of texts events gave c.in-Err-check_units.refusal reason
-    (trim_refused line texts c.in-Err-check_units.refusal
-    (subst (λ ts. RefusesTexts ts c.in-Err-check_units.refusal) c.as_slice.ensures.value c.in-Err-check_units.ensures.first))
+    (trim_refused line texts c.in-Err-check_units.refusal (rw c.as_slice.ensures.value at c.in-Err-check_units.ensures.first))
     c.stop_at.ensures)
     c.in-Ok.ensures.passed
 

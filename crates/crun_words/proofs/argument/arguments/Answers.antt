@@ -1,5 +1,4 @@
-use Rattle.crun_words.proofs.Common.{◌<◌, length, IfNone, slice_index_or, Option, subst, arith, rules, slice_get-get_or, Value, Void}
-use Rattle.crun_words.proofs.Common.{IsArgument}
+use Rattle.crun_words.proofs.Common.{◌<◌, length, slice_index_or, arith, rules, slice_get-get_or, Void}
 use Rattle.crun_words.proofs.ArgumentValues.{no_argument, not_each, one_more}
 use Rattle.crun_words.proofs.argument.arguments.Goals as goal
 
@@ -13,13 +12,10 @@ returns-in_default-clause-none c = λ values are.
     let params = c.args.params.now in
     let numbers = c.args.numbers.now in
     let k = c.loop-k.k in
-    let ty = slice_index_or params k Void in
-    let number = slice_index_or numbers k 0 in
     let within : k < length params = omega (arith, c.loop-k.invariant.each, c.loop-k-test.true) in
-    no_argument params numbers values k ty number c.loop-k.invariant.some
+    no_argument params numbers values k (slice_index_or params k Void) (slice_index_or numbers k 0) c.loop-k.invariant.some
     (slice_get-get_or params k Void within) (slice_get-get_or numbers k 0 c.loop-k-test.true)
-    (subst (λ (found : Option Value). IfNone found ((value : Value) → IsArgument ty number value → ⊥)) c.in_default.is
-    c.argument.ensures.none) are
+    (rw c.in_default.is at c.argument.ensures.none) are
 
 pub loop-k-preserved : goal.loop-k-preserved
 loop-k-preserved c =

@@ -1,99 +1,77 @@
-use Rattle.crun_words.proofs.Common.{◌≡◌, [], ◌∷◌, None, codes, refl, line_of}
+use Rattle.crun_words.proofs.Common.{refl}
 use Rattle.clap.proofs.OnLiterals.{clap_on_literals}
 use Rattle.program_words.specs.Command.{rows_read}
 use Rattle.crun_words.specs.Command.{values_of}
 use Rattle.crun_words.proofs.cases.merges_and_trims_that_are_refused.Goals as goal
 
-merge_of_none_is : line_of (codes "--merge" ∷ codes "o.c" ∷ []) ≡ None
+pub returns-clause-merge_of_none : goal.returns-clause-merge_of_none
 unfolding values_of rows_read clap_on_literals
-merge_of_none_is = refl
+returns-clause-merge_of_none c = refl
 
-trim_of_none_is : line_of (codes "--trim" ∷ codes "o.c" ∷ []) ≡ None
+pub returns-clause-trim_of_none : goal.returns-clause-trim_of_none
 unfolding values_of rows_read clap_on_literals
-trim_of_none_is = refl
+returns-clause-trim_of_none c = refl
 
-trim_of_two_is : line_of (codes "--trim" ∷ codes "o.c" ∷ codes "u.c" ∷ codes "v.c" ∷ []) ≡ None
+pub returns-clause-trim_of_two : goal.returns-clause-trim_of_two
 unfolding values_of rows_read clap_on_literals
-trim_of_two_is = refl
+returns-clause-trim_of_two c = refl
 
-merged_to_no_c_file_is : line_of (codes "--merge" ∷ codes "o.h" ∷ codes "u.c" ∷ []) ≡ None
+pub returns-clause-merged_to_no_c_file : goal.returns-clause-merged_to_no_c_file
 unfolding values_of rows_read clap_on_literals
-merged_to_no_c_file_is = refl
+returns-clause-merged_to_no_c_file c = refl
 
-trimmed_to_no_c_file_is : line_of (codes "--trim" ∷ codes ".c" ∷ codes "u.c" ∷ []) ≡ None
+pub returns-clause-trimmed_to_no_c_file : goal.returns-clause-trimmed_to_no_c_file
 unfolding values_of rows_read clap_on_literals
-trimmed_to_no_c_file_is = refl
+returns-clause-trimmed_to_no_c_file c = refl
 
-merge_and_trim_is : line_of (codes "--merge" ∷ codes "o.c" ∷ codes "--trim" ∷ codes "p.c" ∷ codes "u.c" ∷ []) ≡ None
+pub returns-clause-merge_and_trim : goal.returns-clause-merge_and_trim
 unfolding values_of rows_read clap_on_literals
-merge_and_trim_is = refl
+returns-clause-merge_and_trim c = refl
 
-merge_twice_is : line_of (codes "--merge" ∷ codes "o.c" ∷ codes "--merge" ∷ codes "p.c" ∷ codes "u.c" ∷ []) ≡ None
+pub returns-clause-merge_twice : goal.returns-clause-merge_twice
 unfolding values_of rows_read clap_on_literals
-merge_twice_is = refl
+returns-clause-merge_twice c = refl
 
-trim_twice_is : line_of (codes "--trim" ∷ codes "o.c" ∷ codes "--trim" ∷ codes "p.c" ∷ codes "u.c" ∷ []) ≡ None
+pub returns-clause-trim_twice : goal.returns-clause-trim_twice
 unfolding values_of rows_read clap_on_literals
-trim_twice_is = refl
+returns-clause-trim_twice c = refl
 
-merge_with_steps_is : line_of (codes "--merge" ∷ codes "o.c" ∷ codes "--steps" ∷ codes "1" ∷ codes "u.c" ∷ []) ≡ None
+pub returns-clause-merge_with_steps : goal.returns-clause-merge_with_steps
 unfolding values_of rows_read clap_on_literals
-merge_with_steps_is = refl
+returns-clause-merge_with_steps c = refl
 
-merge_with_calls_is : line_of (codes "--merge" ∷ codes "o.c" ∷ codes "--calls" ∷ codes "c" ∷ codes "u.c" ∷ []) ≡ None
+pub returns-clause-merge_with_calls : goal.returns-clause-merge_with_calls
 unfolding values_of rows_read clap_on_literals
-merge_with_calls_is = refl
+returns-clause-merge_with_calls c = refl
 
-merge_with_state_is : line_of (codes "--merge" ∷ codes "o.c" ∷ codes "--state" ∷ codes "u.c" ∷ []) ≡ None
+pub returns-clause-merge_with_state : goal.returns-clause-merge_with_state
 unfolding values_of rows_read clap_on_literals
-merge_with_state_is = refl
+returns-clause-merge_with_state c = refl
 
-merge_with_a_journal_is : line_of (codes "--merge" ∷ codes "o.c" ∷ codes "--record" ∷ codes "j" ∷ codes "u.c" ∷ []) ≡ None
+pub returns-clause-merge_with_a_journal : goal.returns-clause-merge_with_a_journal
 unfolding values_of rows_read clap_on_literals
-merge_with_a_journal_is = refl
+returns-clause-merge_with_a_journal c = refl
 
-merge_with_a_replay_is : line_of (codes "--merge" ∷ codes "o.c" ∷ codes "--replay" ∷ codes "j" ∷ codes "u.c" ∷ []) ≡ None
+pub returns-clause-merge_with_a_replay : goal.returns-clause-merge_with_a_replay
 unfolding values_of rows_read clap_on_literals
-merge_with_a_replay_is = refl
+returns-clause-merge_with_a_replay c = refl
 
-trim_with_steps_is : line_of (codes "--trim" ∷ codes "o.c" ∷ codes "--steps" ∷ codes "1" ∷ codes "u.c" ∷ []) ≡ None
+pub returns-clause-trim_with_steps : goal.returns-clause-trim_with_steps
 unfolding values_of rows_read clap_on_literals
-trim_with_steps_is = refl
+returns-clause-trim_with_steps c = refl
 
-trim_with_calls_is : line_of (codes "--trim" ∷ codes "o.c" ∷ codes "--calls" ∷ codes "c" ∷ codes "u.c" ∷ []) ≡ None
+pub returns-clause-trim_with_calls : goal.returns-clause-trim_with_calls
 unfolding values_of rows_read clap_on_literals
-trim_with_calls_is = refl
+returns-clause-trim_with_calls c = refl
 
-trim_with_state_is : line_of (codes "--trim" ∷ codes "o.c" ∷ codes "--state" ∷ codes "u.c" ∷ []) ≡ None
+pub returns-clause-trim_with_state : goal.returns-clause-trim_with_state
 unfolding values_of rows_read clap_on_literals
-trim_with_state_is = refl
+returns-clause-trim_with_state c = refl
 
-trim_with_a_journal_is : line_of (codes "--trim" ∷ codes "o.c" ∷ codes "--record" ∷ codes "j" ∷ codes "u.c" ∷ []) ≡ None
+pub returns-clause-trim_with_a_journal : goal.returns-clause-trim_with_a_journal
 unfolding values_of rows_read clap_on_literals
-trim_with_a_journal_is = refl
+returns-clause-trim_with_a_journal c = refl
 
-trim_with_a_replay_is : line_of (codes "--trim" ∷ codes "o.c" ∷ codes "--replay" ∷ codes "j" ∷ codes "u.c" ∷ []) ≡ None
+pub returns-clause-trim_with_a_replay : goal.returns-clause-trim_with_a_replay
 unfolding values_of rows_read clap_on_literals
-trim_with_a_replay_is = refl
-
-pub returns : goal.returns
-returns c = record {
-  merge_of_none = merge_of_none_is;
-  trim_of_none = trim_of_none_is;
-  trim_of_two = trim_of_two_is;
-  merged_to_no_c_file = merged_to_no_c_file_is;
-  trimmed_to_no_c_file = trimmed_to_no_c_file_is;
-  merge_and_trim = merge_and_trim_is;
-  merge_twice = merge_twice_is;
-  trim_twice = trim_twice_is;
-  merge_with_steps = merge_with_steps_is;
-  merge_with_calls = merge_with_calls_is;
-  merge_with_state = merge_with_state_is;
-  merge_with_a_journal = merge_with_a_journal_is;
-  merge_with_a_replay = merge_with_a_replay_is;
-  trim_with_steps = trim_with_steps_is;
-  trim_with_calls = trim_with_calls_is;
-  trim_with_state = trim_with_state_is;
-  trim_with_a_journal = trim_with_a_journal_is;
-  trim_with_a_replay = trim_with_a_replay_is;
-}
+returns-clause-trim_with_a_replay c = refl

@@ -117,18 +117,16 @@ returns-in-Err-Memory-clause-tried g c =
 
 pub named-requires-in-Err-TooLong : goal.named-requires-in-Err-TooLong
 named-requires-in-Err-TooLong g c =
-    let files = g.F.Files in
     let is : c.in-Err-TooLong.field-0 ≡ read.TooLong c.in-Err-TooLong.k = c.in-Err-TooLong.field-0-is in
-    let within = long_within most_unit_bytes most_units_bytes (files.told c.args.files.now) (names_of c.args.units.now)
-    (files.read_faults c.args.files.now) (files.read_faults c.read_files.new.files) (files.fault_name c.read_files.new.files)
+    let within = long_within most_unit_bytes most_units_bytes (g.F.Files.told c.args.files.now) (names_of c.args.units.now)
+    (g.F.Files.read_faults c.args.files.now) (g.F.Files.read_faults c.read_files.new.files) (g.F.Files.fault_name c.read_files.new.files)
     c.in-Err-TooLong.k c.in-Err-TooLong.field-0 c.in-Err-TooLong.ensures.stop is in
     omega (arith, within, length-names c.args.units.now)
 
 pub named-requires-in-Err-Past : goal.named-requires-in-Err-Past
 named-requires-in-Err-Past g c =
-    let files = g.F.Files in
     let is : c.in-Err-Past.field-0 ≡ read.Past c.in-Err-Past.k c.in-Err-Past.place = c.in-Err-Past.field-0-is in
-    let within = past_within most_unit_bytes most_units_bytes (files.told c.args.files.now) (names_of c.args.units.now)
-    (files.read_faults c.args.files.now) (files.read_faults c.read_files.new.files) (files.fault_name c.read_files.new.files)
+    let within = past_within most_unit_bytes most_units_bytes (g.F.Files.told c.args.files.now) (names_of c.args.units.now)
+    (g.F.Files.read_faults c.args.files.now) (g.F.Files.read_faults c.read_files.new.files) (g.F.Files.fault_name c.read_files.new.files)
     c.in-Err-Past.k c.in-Err-Past.field-0 c.in-Err-Past.ensures.stop c.in-Err-Past.place is in
     omega (arith, within, length-names c.args.units.now)

@@ -5,11 +5,10 @@ use Rattle.host_replay.proofs.read.read_journal.Goals as goal
 
 pub read_lines-requires-clause-small : goal.read_lines-requires-clause-small
 read_lines-requires-clause-small c =
-    let few = few_parts c.args.bytes.now in
     let cuts : length (texts c.in_ok-all.all.items) ≡ length (cut 10 c.args.bytes.now) = ap length c.in_ok-all.ensures in
     let all = length-map c.in_ok-all.all.items (λ (b : Bor (List ℕ)). b.now) in
     let seen : length c.as_slice.result.now ≡ length c.in_ok-all.all.items = ap length c.as_slice.ensures.value in
-    omega (arith, few, cuts, all, seen, c.in-Some.ensures.cases.1, c.requires)
+    omega (arith, few_parts c.args.bytes.now, cuts, all, seen, c.in-Some.ensures.cases.1, c.requires)
 
 pub read_lines-requires-clause-no_newline : goal.read_lines-requires-clause-no_newline
 read_lines-requires-clause-no_newline c =

@@ -1,4 +1,4 @@
-use Rattle.std.proofs.Common.{◌≡◌, ◌+◌, ◌<◌, ◌≤◌, rules, ◌∙◌, ap, subst, length, drop, get_or, Option, Result, Ok, Err, inr}
+use Rattle.std.proofs.Common.{◌≡◌, ◌+◌, ◌<◌, ◌≤◌, rules, ◌∙◌, ap, subst, length, drop, Option, Result, Ok, Err, inr}
 use Rattle.std.proofs.lemmas.List.{drop_all}
 use Rattle.std.proofs.lemmas.Result.{err_from_is_err_and}
 use Rattle.w2c_io.specs.Contents.{Name, appending, AppendsPart}
@@ -52,9 +52,7 @@ loop-item-init g c =
     let files = g.F.Files in
     record {
       written = begun (files.told c.args.files.now) (files.told c.put.new.self) (files.current c.args.files.now)
-          (unit_of c.args.unit.now)
-          (subst (λ l. files.told c.put.new.self ≡ appending (files.told c.args.files.now) (files.current c.args.files.now) l)
-          c.text.ensures c.in_ok-put.ensures.written);
+          (unit_of c.args.unit.now) (rw c.text.ensures at c.in_ok-put.ensures.written);
       passed = put_include (files.trace c.args.files.now) (files.trace c.put.new.self) (unit_of c.args.unit.now)
           (whole_passed (files.trace c.args.files.now) (files.trace c.put.new.self) c.text.result.now (fixed_text tok.Include) (Ok tt)
           c.text.ensures c.in_ok-put.ensures.traced);
@@ -66,16 +64,14 @@ loop-item-init g c =
 
 pub print_item_to-requires-clause-formed : goal.print_item_to-requires-clause-formed
 print_item_to-requires-clause-formed g c =
-    let files = g.F.Files in
     let xs = c.args.unit.now in
     let same : c.as_slice-item-items.result.now ≡ xs = c.as_slice-item-items.ensures ∙ c.unit-items.ensures.unit in
     let i = c.loop-item.item-index in
     let item = c.item-item.result in
-    let next = ap unit_of (at_front xs i item (subst (λ l. i < length l) same c.loop-item-test.true)
-    (subst (λ l. item ≡ get_or l i item) same c.item-item.is)) in (
+    let next = ap unit_of (at_front xs i item (subst (λ l. i < length l) same c.loop-item-test.true) (rw same at c.item-item.is)) in (
       unit_of c.args.unit.now,
       c.unit-items.ensures.formed,
-      is_contained (files.told c.args.files.now) (files.told c.loop-item.files) (files.current c.args.files.now)
+      is_contained (g.F.Files.told c.args.files.now) (g.F.Files.told c.loop-item.files) (g.F.Files.current c.args.files.now)
           (unit_of c.args.unit.now) (unit_of (drop i xs)) (unit_of (drop (i + 1) xs)) (item_of item) c.loop-item.invariant.written next,
     )
 
@@ -86,14 +82,11 @@ returns-in_err-print_item_to-clause-part g c =
     let same : c.as_slice-item-items.result.now ≡ xs = c.as_slice-item-items.ensures ∙ c.unit-items.ensures.unit in
     let i = c.loop-item.item-index in
     let item = c.item-item.result in
-    let next = ap unit_of (at_front xs i item (subst (λ l. i < length l) same c.loop-item-test.true)
-    (subst (λ l. item ≡ get_or l i item) same c.item-item.is)) in
+    let next = ap unit_of (at_front xs i item (subst (λ l. i < length l) same c.loop-item-test.true) (rw same at c.item-item.is)) in
     let p = err_from_is_err_and c.from_residual-in_err-print_item_to.result c.from_residual-in_err-print_item_to.ensures.1 in
     rw p.1 (stops_in (files.told c.args.files.now) (files.told c.loop-item.files) (files.told c.print_item_to.new.files)
     (files.current c.args.files.now) (unit_of c.args.unit.now) (unit_of (drop i xs)) (unit_of (drop (i + 1) xs)) (item_of item)
-    c.loop-item.invariant.written next
-    (subst (λ (current : Option Name). AppendsPart (files.told c.loop-item.files) (files.told c.print_item_to.new.files) current
-    (print_item_of (item_of item))) c.loop-item.invariant.current c.in_err-print_item_to.ensures.part))
+    c.loop-item.invariant.written next (rw c.loop-item.invariant.current at c.in_err-print_item_to.ensures.part))
 
 pub returns-in_err-print_item_to-clause-tried : goal.returns-in_err-print_item_to-clause-tried
 returns-in_err-print_item_to-clause-tried g c =
@@ -102,8 +95,7 @@ returns-in_err-print_item_to-clause-tried g c =
     let same : c.as_slice-item-items.result.now ≡ xs = c.as_slice-item-items.ensures ∙ c.unit-items.ensures.unit in
     let i = c.loop-item.item-index in
     let item = c.item-item.result in
-    let next = ap unit_of (at_front xs i item (subst (λ l. i < length l) same c.loop-item-test.true)
-    (subst (λ l. item ≡ get_or l i item) same c.item-item.is)) in
+    let next = ap unit_of (at_front xs i item (subst (λ l. i < length l) same c.loop-item-test.true) (rw same at c.item-item.is)) in
     let p = err_from_is_err_and c.from_residual-in_err-print_item_to.result c.from_residual-in_err-print_item_to.ensures.1 in
     rw (p.1, p.2) (fails_in (files.trace c.args.files.now) (files.trace c.loop-item.files) (files.trace c.print_item_to.new.files)
     (unit_of c.args.unit.now) (unit_of (drop i xs)) (unit_of (drop (i + 1) xs)) (item_of item) c.in_err-print_item_to.field-0.0
@@ -133,8 +125,7 @@ loop-item-preserved g c =
     let same : c.as_slice-item-items.result.now ≡ xs = c.as_slice-item-items.ensures ∙ c.unit-items.ensures.unit in
     let i = c.loop-item.item-index in
     let item = c.item-item.result in
-    let next = ap unit_of (at_front xs i item (subst (λ l. i < length l) same c.loop-item-test.true)
-    (subst (λ l. item ≡ get_or l i item) same c.item-item.is)) in
+    let next = ap unit_of (at_front xs i item (subst (λ l. i < length l) same c.loop-item-test.true) (rw same at c.item-item.is)) in
     record {
       written = one_more (files.told c.args.files.now) (files.told c.loop-item.files) (files.told c.print_item_to.new.files)
           (files.current c.args.files.now) (unit_of c.args.unit.now) (unit_of (drop i xs)) (unit_of (drop (i + 1) xs)) (item_of item)
@@ -152,23 +143,20 @@ loop-item-preserved g c =
 
 pub returns-clause-written : goal.returns-clause-written
 returns-clause-written g c =
-    let files = g.F.Files in
     let xs = c.args.unit.now in
     let same : c.as_slice-item-items.result.now ≡ xs = c.as_slice-item-items.ensures ∙ c.unit-items.ensures.unit in
-    all_written (files.told c.args.files.now) (files.told c.loop-item.files) (files.current c.args.files.now)
+    all_written (g.F.Files.told c.args.files.now) (g.F.Files.told c.loop-item.files) (g.F.Files.current c.args.files.now)
     (unit_of c.args.unit.now) (unit_of (drop c.loop-item.item-index xs)) c.loop-item.invariant.written
     (ap unit_of (drop_all c.loop-item.item-index xs (subst (λ l. length l ≤ c.loop-item.item-index) same c.loop-item-test.false)))
 
 pub returns-clause-cause : goal.returns-clause-cause
 returns-clause-cause g c =
-    let files = g.F.Files in
-    done_cause _ (files.write_faults c.args.files.now) (files.write_faults c.loop-item.files) c.loop-item.invariant.kept
+    done_cause _ (g.F.Files.write_faults c.args.files.now) (g.F.Files.write_faults c.loop-item.files) c.loop-item.invariant.kept
 
 pub returns-clause-passed : goal.returns-clause-passed
 returns-clause-passed g c =
-    let files = g.F.Files in
     let xs = c.args.unit.now in
     let same : c.as_slice-item-items.result.now ≡ xs = c.as_slice-item-items.ensures ∙ c.unit-items.ensures.unit in
-    put_all (files.trace c.args.files.now) (files.trace c.loop-item.files)
+    put_all (g.F.Files.trace c.args.files.now) (g.F.Files.trace c.loop-item.files)
     (unit_of c.args.unit.now) (unit_of (drop c.loop-item.item-index xs)) c.loop-item.invariant.passed
     (ap unit_of (drop_all c.loop-item.item-index xs (subst (λ l. length l ≤ c.loop-item.item-index) same c.loop-item-test.false)))

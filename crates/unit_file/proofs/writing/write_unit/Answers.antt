@@ -26,10 +26,9 @@ returns-in_err-finish-clause-begun g c =
 
 pub returns-clause-whole : goal.returns-clause-whole
 returns-clause-whole g c =
-    let files = g.F.Files in
     c.in_ok-finish.ensures.told
-    ∙ put_whole (files.told c.args.files.now) (files.told c.begin.new.self) (files.told c.put_unit.new.files)
-    (files.current c.begin.new.self) c.args.file.now (print_of (unit_of c.args.unit.now)) c.in_ok-begin.ensures.begun
+    ∙ put_whole (g.F.Files.told c.args.files.now) (g.F.Files.told c.begin.new.self) (g.F.Files.told c.put_unit.new.files)
+    (g.F.Files.current c.begin.new.self) c.args.file.now (print_of (unit_of c.args.unit.now)) c.in_ok-begin.ensures.begun
     c.in_ok-begin.ensures.current c.in_default.ensures.written
 
 -- ---- what passes through the files
@@ -43,9 +42,8 @@ returns-in_err-begin-clause-tried g c =
 
 pub returns-in-Err-clause-tried : goal.returns-in-Err-clause-tried
 returns-in-Err-clause-tried g c =
-    let files = g.F.Files in
-    part_written (files.trace c.args.files.now) (files.trace c.begin.new.self) (files.trace c.put_unit.new.files)
-    (files.trace c.give_up.new.files) c.args.file.now (print_of (unit_of c.args.unit.now)) c.in-Err.answer
+    part_written (g.F.Files.trace c.args.files.now) (g.F.Files.trace c.begin.new.self) (g.F.Files.trace c.put_unit.new.files)
+    (g.F.Files.trace c.give_up.new.files) c.args.file.now (print_of (unit_of c.args.unit.now)) c.in-Err.answer
     c.in_ok-begin.ensures.traced c.in-Err.ensures.tried c.give_up.ensures.passed
 
 pub returns-in_err-finish-clause-tried : goal.returns-in_err-finish-clause-tried
@@ -58,7 +56,6 @@ returns-in_err-finish-clause-tried g c =
 
 pub returns-clause-passed : goal.returns-clause-passed
 returns-clause-passed g c =
-    let files = g.F.Files in
-    file_written (files.trace c.args.files.now) (files.trace c.begin.new.self) (files.trace c.put_unit.new.files)
-    (files.trace c.finish.new.self) c.args.file.now (print_of (unit_of c.args.unit.now))
+    file_written (g.F.Files.trace c.args.files.now) (g.F.Files.trace c.begin.new.self) (g.F.Files.trace c.put_unit.new.files)
+    (g.F.Files.trace c.finish.new.self) c.args.file.now (print_of (unit_of c.args.unit.now))
     c.in_ok-begin.ensures.traced c.in_default.ensures.passed c.in_ok-finish.ensures.traced

@@ -1,5 +1,5 @@
-use Rattle.w2c_files.proofs.Common.{◌+◌, [], ◌∷◌, ◌++◌, take, drop, sym, refl, subst, arith, take-append-drop, rules, Passes, ReadsSome}
-use Rattle.w2c_files.proofs.Common.{StopsFile, names_of}
+use Rattle.w2c_files.proofs.Common.{◌+◌, [], ◌∷◌, ◌++◌, take, drop, sym, refl, arith, take-append-drop, rules, Passes, ReadsSome, StopsFile}
+use Rattle.w2c_files.proofs.Common.{names_of}
 use Rattle.w2c_files.proofs.Loops.{fit_more, length-names, one_more_held, stops_at, total_more}
 use Rattle.w2c_files.proofs.ReadPassed.{one_more_read, next_stops, memory_stops, all_passed, if_memory}
 use Rattle.w2c_files.proofs.reading.read_files.Goals as goal
@@ -13,9 +13,7 @@ returns-in-Err-clause-stop g c =
     let limits = c.args.limits in
     let told = c.loop-k.invariant.told in
     let why : StopsFile limits.each c.loop-k.left (files.told c.args.files.now) name c.loop-k.k (files.read_faults c.loop-k.files)
-    (files.read_faults c.read_file.new.files) (files.fault_name c.read_file.new.files) c.in-Err.stop =
-    subst (λ t. StopsFile limits.each c.loop-k.left t name c.loop-k.k (files.read_faults c.loop-k.files)
-    (files.read_faults c.read_file.new.files) (files.fault_name c.read_file.new.files) c.in-Err.stop) told c.in-Err.ensures.stop in
+    (files.read_faults c.read_file.new.files) (files.fault_name c.read_file.new.files) c.in-Err.stop = rw told at c.in-Err.ensures.stop in
     stops_at limits.each limits.all c.loop-k.left (files.told c.args.files.now) (names_of names) c.loop-k.k name c.loop-k.all.items at
     c.loop-k.invariant.held c.loop-k.invariant.fit c.loop-k.invariant.left (files.read_faults c.args.files.now)
     (files.read_faults c.loop-k.files) (files.read_faults c.read_file.new.files) (files.fault_name c.read_file.new.files) c.in-Err.stop
@@ -56,8 +54,7 @@ returns-in-Err-clause-tried g c =
 
 pub returns-clause-passed : goal.returns-clause-passed
 returns-clause-passed g c =
-    let files = g.F.Files in
-    all_passed c.args.limits.each (files.trace c.args.files.now) (files.trace c.loop-k.files) (names_of c.args.names.now) c.loop-k.k
+    all_passed c.args.limits.each (g.F.Files.trace c.args.files.now) (g.F.Files.trace c.loop-k.files) (names_of c.args.names.now) c.loop-k.k
     c.loop-k.all.items (let n = length-names c.args.names.now in omega (arith, n, c.loop-k-test.false, c.loop-k.auto.k-end))
     c.loop-k.invariant.passed
 

@@ -12,11 +12,10 @@ cut_from k xs =
 pub loop-rest-preserved : goal.loop-rest-preserved
 loop-rest-preserved g c =
     let held = c.loop-rest.invariant in
-    let count = c.in-Ok.count in
     let rest = c.loop-rest.rest.now in
     let contents = g.W.Write.contents in (
-      held.0 ++ take count rest,
-      held.1 ∙ ap (λ (l : List ℕ). held.0 ++ l) (cut_from count rest) ∙ sym (append_assoc held.0 (take count rest) _),
-      appends_more (contents c.args.out.now) (contents c.loop-rest.out) (contents c.write.new.self) held.0 (take count rest) held.2
+      held.0 ++ take c.in-Ok.count rest,
+      held.1 ∙ ap (λ (l : List ℕ). held.0 ++ l) (cut_from c.in-Ok.count rest) ∙ sym (append_assoc held.0 (take c.in-Ok.count rest) _),
+      appends_more (contents c.args.out.now) (contents c.loop-rest.out) (contents c.write.new.self) held.0 (take c.in-Ok.count rest) held.2
           c.in-Ok.ensures.bytes,
     )

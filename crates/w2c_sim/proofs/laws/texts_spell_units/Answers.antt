@@ -9,4 +9,4 @@ pub returns-clause-accepted : goal.returns-clause-accepted
 returns-clause-accepted c = verdict_on
 
 pub returns-clause-unit : goal.returns-clause-unit
-returns-clause-unit c = spells_unit
+returns-clause-unit c = spells_unit c.units_are_proper.ensures

@@ -6,7 +6,8 @@ use Rattle.w2c_sim.proofs.translation.print_texts.Goals as goal
 
 pub print_both-requires : goal.print_both-requires
 print_both-requires c =
-    subst Formed (sym c.in_ok-unit.ensures.unit) (unit_is_formed (record { name = c.args.name.now; tree = c.args.m.now }) c.requires)
+    subst Formed (sym c.in_ok-unit.ensures.unit)
+    (unit_is_formed c.units_are_proper.ensures (record { name = c.args.name.now; tree = c.args.m.now }) c.requires)
 
 pub returns : goal.returns
 returns c = both c.print_both.result c.print_both.ensures.unit c.print_both.ensures.header

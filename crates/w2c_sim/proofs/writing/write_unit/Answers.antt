@@ -8,7 +8,8 @@ use Rattle.w2c_sim.proofs.writing.write_unit.Goals as goal
 
 pub write_items-requires-clause-formed : goal.write_items-requires-clause-formed
 write_items-requires-clause-formed g c =
-    subst Formed (sym c.in_ok-items.ensures.left) (unit_is_formed (record { name = c.args.name.now; tree = c.args.m.now })
+    subst Formed (sym c.in_ok-items.ensures.left)
+    (unit_is_formed c.units_are_proper.ensures (record { name = c.args.name.now; tree = c.args.m.now })
     (named_is_accepted c.args.name.now c.args.m.now
     (subst IsValid c.module.ensures.same c.module.ensures.valid) (subst WithinLimits c.module.ensures.same c.module.ensures.within)
     c.requires.named c.requires.short (slice_bytes c.args.name.now c.type_inv.name)))

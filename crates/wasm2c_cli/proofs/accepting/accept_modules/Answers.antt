@@ -1,5 +1,4 @@
-use Rattle.wasm2c_cli.proofs.Common.{◌≡◌, ◌<◌, length, subst, arith, rules, names_of, AreBytes, Accepted, IsRefusal}
-use Rattle.wasm_valid.specs.FileVerdict.{Read, IsVerdictOn}
+use Rattle.wasm2c_cli.proofs.Common.{◌≡◌, ◌<◌, length, subst, arith, rules, names_of, AreBytes, IsRefusal}
 use Rattle.wasm2c_cli.proofs.Taken.{one_more_taken, source_at, stops_accepting}
 use Rattle.wasm2c_cli.proofs.accepting.accept_modules.Goals as goal
 
@@ -19,5 +18,4 @@ loop-k-preserved c =
     let at = source_at sources c.loop-k.k c.index-sources-k.result within c.index-sources-k.is in
     let seen : c.as_slice.result.now ≡ c.index-sources-k.result = search rules in
     one_more_taken sources c.loop-k.k c.index-sources-k.result c.loop-k.modules.items c.push.new.self.items c.in-Ok.module at
-    c.loop-k.invariant (subst AreBytes seen c.in-Ok.ensures.bytes)
-    (subst (λ b. IsVerdictOn b (Read c.in-Ok.module Accepted)) seen c.in-Ok.ensures.accepted) c.in_ok-push-in-Ok.ensures.items
+    c.loop-k.invariant (subst AreBytes seen c.in-Ok.ensures.bytes) (rw seen at c.in-Ok.ensures.accepted) c.in_ok-push-in-Ok.ensures.items

@@ -1,4 +1,4 @@
-use Rattle.wasm2c_cli.proofs.ExampleJob.{two_unit}
+use Rattle.c_print.proofs.WorkedUnit.{two_unit}
 use Rattle.wasm2c_cli.proofs.ExampleRuns.{two_enough, two_over, two_spells}
 use Rattle.wasm2c_cli.proofs.example.two_c_gives_42.Goals as goal
 

@@ -10,49 +10,35 @@ use Rattle.wasm2c_cli.proofs.top.wasm2c_top.Goals as goal
 
 pub returns-in-Ok-clause-complete : goal.returns-in-Ok-clause-complete
 returns-in-Ok-clause-complete g c =
-    let files = g.F.Files in
-    finish_complete (texts c.args.words.now) (files.told c.args.files.now) (files.told c.work.new.files)
-    (files.read_faults c.args.files.now) (files.read_faults c.work.new.files)
-    (files.write_faults c.args.files.now) (files.write_faults c.work.new.files)
+    finish_complete (texts c.args.words.now) g.F.Files g.E.Sink c.args.files.now c.work.new.files c.args.err.now c.summarize.new.err
     c.in-Ok.finished c.summarize.result c.in-Ok.ensures.done c.summarize.ensures.status
 
 pub returns-in-Ok-clause-done : goal.returns-in-Ok-clause-done
 returns-in-Ok-clause-done g c = λ zero.
-    let files = g.F.Files in
-    finish_done (texts c.args.words.now) (files.told c.args.files.now) (files.told c.work.new.files)
+    finish_done (texts c.args.words.now) g.F.Files g.E.Sink c.args.files.now c.work.new.files c.args.err.now c.summarize.new.err
     c.in-Ok.finished c.in-Ok.ensures.done
 
 pub returns-in-Ok-clause-units : goal.returns-in-Ok-clause-units
 returns-in-Ok-clause-units g c = λ zero names.
-    let files = g.F.Files in
-    finish_units distinct_outputs (texts c.args.words.now) (files.told c.args.files.now) (files.told c.work.new.files)
-    c.in-Ok.finished c.in-Ok.ensures.done names
+    finish_units distinct_outputs c.texts_spell_units.ensures.unit (texts c.args.words.now) (g.F.Files.told c.args.files.now)
+    (g.F.Files.told c.work.new.files) c.in-Ok.finished c.in-Ok.ensures.done names
 
 pub returns-in-Ok-clause-linked : goal.returns-in-Ok-clause-linked
 returns-in-Ok-clause-linked g c = λ zero names.
-    let files = g.F.Files in
     are_linked c.linked_units_do_what_modules_do.ensures
-    (texts c.args.words.now) (files.told c.args.files.now) (files.told c.work.new.files)
-    (finish_units distinct_outputs (texts c.args.words.now) (files.told c.args.files.now) (files.told c.work.new.files)
-    c.in-Ok.finished c.in-Ok.ensures.done names)
+    (texts c.args.words.now) (g.F.Files.told c.args.files.now) (g.F.Files.told c.work.new.files)
+    (finish_units distinct_outputs c.texts_spell_units.ensures.unit (texts c.args.words.now) (g.F.Files.told c.args.files.now)
+    (g.F.Files.told c.work.new.files) c.in-Ok.finished c.in-Ok.ensures.done names)
 
 pub returns-in-Ok-clause-summary : goal.returns-in-Ok-clause-summary
 returns-in-Ok-clause-summary g c = λ zero.
-    let files = g.F.Files in
-    let err = g.E.Sink in
-    finish_summary (texts c.args.words.now) (files.told c.args.files.now) (files.told c.work.new.files)
-    c.in-Ok.finished c.in-Ok.ensures.done
-    (err.told c.args.err.now) (err.told c.summarize.new.err) (err.faults c.args.err.now) (err.faults c.summarize.new.err)
-    (c.summarize.ensures.says zero)
+    finish_summary (texts c.args.words.now) g.F.Files g.E.Sink c.args.files.now c.work.new.files c.args.err.now c.summarize.new.err
+    c.in-Ok.finished c.in-Ok.ensures.done (c.summarize.ensures.says zero)
 
 pub returns-in-Ok-clause-silent : goal.returns-in-Ok-clause-silent
 returns-in-Ok-clause-silent g c = λ zero.
-    let files = g.F.Files in
-    let err = g.E.Sink in
-    finish_silent (texts c.args.words.now) (files.told c.args.files.now) (files.told c.work.new.files)
-    c.in-Ok.finished c.in-Ok.ensures.done
-    (err.told c.args.err.now) (err.told c.summarize.new.err) (err.faults c.args.err.now) (err.faults c.summarize.new.err)
-    (c.summarize.ensures.says zero)
+    finish_silent (texts c.args.words.now) g.F.Files g.E.Sink c.args.files.now c.work.new.files c.args.err.now c.summarize.new.err
+    c.in-Ok.finished c.in-Ok.ensures.done (c.summarize.ensures.says zero)
 
 pub returns-in-Ok-clause-untouched : goal.returns-in-Ok-clause-untouched
 returns-in-Ok-clause-untouched g c = finish_no_stop c.summarize.result c.summarize.ensures.status
@@ -65,54 +51,34 @@ returns-in-Ok-clause-unfailed g c = λ zero. (c.in-Ok.ensures.reads_kept, c.in-O
 
 pub returns-in-Ok-clause-stands : goal.returns-in-Ok-clause-stands
 returns-in-Ok-clause-stands g c = λ five.
-    let files = g.F.Files in
-    finish_stands (texts c.args.words.now) (files.told c.args.files.now) (files.told c.work.new.files)
+    finish_stands (texts c.args.words.now) g.F.Files g.E.Sink c.args.files.now c.work.new.files c.args.err.now c.summarize.new.err
     c.in-Ok.finished c.in-Ok.ensures.done
 
 pub returns-in-Ok-clause-part : goal.returns-in-Ok-clause-part
 returns-in-Ok-clause-part g c = λ five.
-    let err = g.E.Sink in
-    finish_part c.in-Ok.finished (err.told c.args.err.now) (err.told c.summarize.new.err) c.summarize.ensures.part
+    finish_part c.in-Ok.finished (g.E.Sink.told c.args.err.now) (g.E.Sink.told c.summarize.new.err) c.summarize.ensures.part
 
 -- ---- work that stopped
 
 pub returns-in-Err-clause-complete : goal.returns-in-Err-clause-complete
 returns-in-Err-clause-complete g c =
-    let files = g.F.Files in
-    stop_complete (texts c.args.words.now) (files.told c.args.files.now) (files.told c.work.new.files)
-    (files.read_faults c.args.files.now) (files.read_faults c.work.new.files)
-    (files.write_faults c.args.files.now) (files.write_faults c.work.new.files) (files.fault_name c.work.new.files)
+    stop_complete (texts c.args.words.now) g.F.Files g.E.Sink c.args.files.now c.work.new.files c.args.err.now c.report.new.err
     c.report.result c.in-Err.stop c.in-Err.ensures.stop c.report.ensures.status
 
 pub returns-in-Err-clause-refused : goal.returns-in-Err-clause-refused
-returns-in-Err-clause-refused g c = λ one.
-    let files = g.F.Files in
-    let err = g.E.Sink in
-    stop_refused (err.told c.args.err.now) (err.told c.report.new.err) (err.faults c.args.err.now) (err.faults c.report.new.err)
-    c.report.result (texts c.args.words.now) (files.told c.args.files.now) (files.told c.work.new.files)
-    (files.read_faults c.args.files.now) (files.read_faults c.work.new.files)
-    (files.write_faults c.args.files.now) (files.write_faults c.work.new.files) (files.fault_name c.work.new.files)
-    one c.in-Err.stop c.in-Err.ensures.stop c.report.ensures.status c.report.ensures.says
+returns-in-Err-clause-refused g c =
+    stop_refused (texts c.args.words.now) g.F.Files g.E.Sink c.args.files.now c.work.new.files c.args.err.now c.report.new.err
+    c.report.result c.in-Err.stop c.in-Err.ensures.stop c.report.ensures.status c.report.ensures.says
 
 pub returns-in-Err-clause-read_fault : goal.returns-in-Err-clause-read_fault
-returns-in-Err-clause-read_fault g c = λ three.
-    let files = g.F.Files in
-    let err = g.E.Sink in
-    stop_unread (err.told c.args.err.now) (err.told c.report.new.err) (err.faults c.args.err.now) (err.faults c.report.new.err)
-    c.report.result (texts c.args.words.now) (files.told c.args.files.now) (files.told c.work.new.files)
-    (files.read_faults c.args.files.now) (files.read_faults c.work.new.files)
-    (files.write_faults c.args.files.now) (files.write_faults c.work.new.files) (files.fault_name c.work.new.files)
-    three c.in-Err.stop c.in-Err.ensures.stop c.report.ensures.status c.report.ensures.says
+returns-in-Err-clause-read_fault g c =
+    stop_unread (texts c.args.words.now) g.F.Files g.E.Sink c.args.files.now c.work.new.files c.args.err.now c.report.new.err
+    c.report.result c.in-Err.stop c.in-Err.ensures.stop c.report.ensures.status c.report.ensures.says
 
 pub returns-in-Err-clause-write_fault : goal.returns-in-Err-clause-write_fault
-returns-in-Err-clause-write_fault g c = λ four.
-    let files = g.F.Files in
-    let err = g.E.Sink in
-    stop_unwritten (err.told c.args.err.now) (err.told c.report.new.err) (err.faults c.args.err.now) (err.faults c.report.new.err)
-    c.report.result (texts c.args.words.now) (files.told c.args.files.now) (files.told c.work.new.files)
-    (files.read_faults c.args.files.now) (files.read_faults c.work.new.files)
-    (files.write_faults c.args.files.now) (files.write_faults c.work.new.files) (files.fault_name c.work.new.files)
-    four c.in-Err.stop c.in-Err.ensures.stop c.report.ensures.status c.report.ensures.says
+returns-in-Err-clause-write_fault g c =
+    stop_unwritten (texts c.args.words.now) g.F.Files g.E.Sink c.args.files.now c.work.new.files c.args.err.now c.report.new.err
+    c.report.result c.in-Err.stop c.in-Err.ensures.stop c.report.ensures.status c.report.ensures.says
 
 pub returns-in-Err-clause-done : goal.returns-in-Err-clause-done
 returns-in-Err-clause-done g c = stop_not c.report.result c.in-Err.stop c.report.ensures.status
@@ -134,30 +100,22 @@ returns-in-Err-clause-unfailed g c = stop_not c.report.result c.in-Err.stop c.re
 
 pub returns-in-Err-clause-untouched : goal.returns-in-Err-clause-untouched
 returns-in-Err-clause-untouched g c =
-    let files = g.F.Files in
-    stop_untouched (texts c.args.words.now) (files.told c.args.files.now) (files.told c.work.new.files)
-    (files.read_faults c.args.files.now) (files.read_faults c.work.new.files)
-    (files.write_faults c.args.files.now) (files.write_faults c.work.new.files) (files.fault_name c.work.new.files)
+    stop_untouched (texts c.args.words.now) g.F.Files g.E.Sink c.args.files.now c.work.new.files c.args.err.now c.report.new.err
     c.report.result c.in-Err.stop c.in-Err.ensures.stop c.report.ensures.status
 
 pub returns-in-Err-clause-current : goal.returns-in-Err-clause-current
 returns-in-Err-clause-current g c =
-    let files = g.F.Files in
-    stop_current (files.current c.args.files.now) (files.current c.work.new.files) c.report.result c.in-Err.stop
+    stop_current (g.F.Files.current c.args.files.now) (g.F.Files.current c.work.new.files) c.report.result c.in-Err.stop
     c.in-Err.ensures.current c.report.ensures.status
 
 pub returns-in-Err-clause-stands : goal.returns-in-Err-clause-stands
 returns-in-Err-clause-stands g c = λ five.
-    let files = g.F.Files in
-    stop_stands (texts c.args.words.now) (files.told c.args.files.now) (files.told c.work.new.files)
-    (files.read_faults c.args.files.now) (files.read_faults c.work.new.files)
-    (files.write_faults c.args.files.now) (files.write_faults c.work.new.files) (files.fault_name c.work.new.files)
-    c.in-Err.stop c.in-Err.ensures.stop
+    stop_stands (texts c.args.words.now) g.F.Files g.E.Sink c.args.files.now c.work.new.files c.args.err.now c.report.new.err
+    c.report.result c.in-Err.stop c.in-Err.ensures.stop
 
 pub returns-in-Err-clause-part : goal.returns-in-Err-clause-part
 returns-in-Err-clause-part g c = λ five.
-    let err = g.E.Sink in
-    stop_part c.in-Err.stop (err.told c.args.err.now) (err.told c.report.new.err) c.report.ensures.part
+    stop_part c.in-Err.stop (g.E.Sink.told c.args.err.now) (g.E.Sink.told c.report.new.err) c.report.ensures.part
 
 -- ---- what passed through the files
 
@@ -172,21 +130,20 @@ returns-in-Ok-clause-passed g c =
 
 pub returns-in-Err-clause-passed : goal.returns-in-Err-clause-passed
 returns-in-Err-clause-passed g c =
-    let files = g.F.Files in
     let err = g.E.Sink in
     let words = texts c.args.words.now in
     let says = Says (err.told c.args.err.now) (err.told c.report.new.err) (err.faults c.args.err.now) (err.faults c.report.new.err) in
-    passed_so (files.trace c.args.files.now) (files.trace c.work.new.files) (TriesWork words c.in-Err.stop)
+    passed_so (g.F.Files.trace c.args.files.now) (g.F.Files.trace c.work.new.files) (TriesWork words c.in-Err.stop)
     (PassesFor words c.report.result says)
     (λ events tried. stop_passes words c.report.result says events c.in-Err.stop tried c.report.ensures.status c.report.ensures.says)
     c.in-Err.ensures.tried
 
 pub returns-in-Ok-clause-linked_put : goal.returns-in-Ok-clause-linked_put
 returns-in-Ok-clause-linked_put g c = λ zero names.
-    let files = g.F.Files in
     let words = texts c.args.words.now in
-    passed_so (files.trace c.args.files.now) (files.trace c.work.new.files) (PassesWork words) (PutsLinkedUnits words)
-    (λ events whole. puts_linked c.linked_units_do_what_modules_do.ensures words events whole names) c.in-Ok.ensures.passed
+    passed_so (g.F.Files.trace c.args.files.now) (g.F.Files.trace c.work.new.files) (PassesWork words) (PutsLinkedUnits words)
+    (λ events whole. puts_linked c.linked_units_do_what_modules_do.ensures c.texts_spell_units.ensures.unit words events whole names)
+    c.in-Ok.ensures.passed
 
 pub returns-in-Err-clause-linked_put : goal.returns-in-Err-clause-linked_put
 returns-in-Err-clause-linked_put g c = stop_not c.report.result c.in-Err.stop c.report.ensures.status

@@ -1,5 +1,4 @@
-use Rattle.wasm2c_cli.proofs.Common.{◌≡◌, length, IfErr, OnOk, ap, subst, arith, rules, Passes, WritesFiles, written, names_of, files_of}
-use Rattle.wasm2c_cli.proofs.Common.{AreTaken, StopsAccepting, StopsWriting, seen_targets, EndsWriting}
+use Rattle.wasm2c_cli.proofs.Common.{◌≡◌, length, ap, subst, arith, rules, names_of, files_of, AreTaken, StopsAccepting, seen_targets}
 use Rattle.wasm2c_cli.proofs.LineStops.{all_kept}
 use Rattle.wasm2c_cli.proofs.Taken.{length-taken}
 use Rattle.wasm2c_cli.proofs.Translated.{accepting_stops, reading_stopped, translation_finished, writing_stopped}
@@ -22,8 +21,7 @@ returns-in-Err-accept_modules-clause-stop g c =
     accepting_stops names (seen_targets c.args.targets.now) (files.told c.args.files.now) (files.told c.read_modules.new.files)
     c.in-Ok.sources.items c.in-Ok.ensures.told c.in-Ok.ensures.read (files.read_faults c.args.files.now)
     (files.read_faults c.read_modules.new.files) (files.write_faults c.args.files.now) (files.write_faults c.read_modules.new.files)
-    (files.fault_name c.read_modules.new.files) c.in-Err-accept_modules.stop
-    (subst (λ l. StopsAccepting names l c.in-Err-accept_modules.stop) seen c.in-Err-accept_modules.ensures.stop)
+    (files.fault_name c.read_modules.new.files) c.in-Err-accept_modules.stop (rw seen at c.in-Err-accept_modules.ensures.stop)
 
 pub write_modules-requires-clause-many : goal.write_modules-requires-clause-many
 write_modules-requires-clause-many g c =
@@ -45,9 +43,7 @@ returns-clause-done g c =
     let taken : AreTaken c.in-Ok.sources.items modules = subst (λ l. AreTaken l modules) seen c.in-Ok-accept_modules.ensures.taken in
     translation_finished names targets (files.told c.args.files.now) (files.told c.read_modules.new.files)
     c.in-Ok.sources.items c.in-Ok.ensures.told c.in-Ok.ensures.read modules taken (files.told c.write_modules.new.files)
-    c.write_modules.result c.write_modules.ensures.done c.write_modules.ensures.names
-    (subst (λ l. OnOk c.write_modules.result (files.told c.write_modules.new.files
-    ≡ written (files.told c.read_modules.new.files) (files_of targets l))) seen-2 c.write_modules.ensures.whole)
+    c.write_modules.result c.write_modules.ensures.done c.write_modules.ensures.names (rw seen-2 at c.write_modules.ensures.whole)
 
 pub returns-clause-current : goal.returns-clause-current
 returns-clause-current g c =
@@ -70,16 +66,12 @@ returns-clause-stop g c =
     c.in-Ok.sources.items c.in-Ok.ensures.told c.in-Ok.ensures.read modules taken (files.told c.write_modules.new.files)
     (files.read_faults c.args.files.now) (files.read_faults c.write_modules.new.files) (files.write_faults c.args.files.now)
     (files.write_faults c.read_modules.new.files) (files.write_faults c.write_modules.new.files)
-    (files.fault_name c.write_modules.new.files) c.write_modules.result c.in-Ok.ensures.writes
-    (subst (λ l. IfErr c.write_modules.result (StopsWriting (files.told c.read_modules.new.files) (files.told c.write_modules.new.files)
-    (files_of targets l) (files.write_faults c.read_modules.new.files) (files.write_faults c.write_modules.new.files)
-    (files.fault_name c.write_modules.new.files))) seen-2 c.write_modules.ensures.stop)
+    (files.fault_name c.write_modules.new.files) c.write_modules.result c.in-Ok.ensures.writes (rw seen-2 at c.write_modules.ensures.stop)
 
 pub returns-in-Err-clause-tried : goal.returns-in-Err-clause-tried
 returns-in-Err-clause-tried g c =
-    let files = g.F.Files in
-    reading_passed (names_of c.args.inputs.now) (seen_targets c.args.targets.now) (files.trace c.args.files.now)
-    (files.trace c.read_modules.new.files) c.in-Err.stop c.in-Err.ensures.tried
+    reading_passed (names_of c.args.inputs.now) (seen_targets c.args.targets.now) (g.F.Files.trace c.args.files.now)
+    (g.F.Files.trace c.read_modules.new.files) c.in-Err.stop c.in-Err.ensures.tried
 
 pub returns-in-Err-accept_modules-clause-tried : goal.returns-in-Err-accept_modules-clause-tried
 returns-in-Err-accept_modules-clause-tried g c =
@@ -101,9 +93,7 @@ returns-clause-passed g c =
     let taken : AreTaken c.in-Ok.sources.items modules = subst (λ l. AreTaken l modules) seen c.in-Ok-accept_modules.ensures.taken in
     all_passed names targets (files.trace c.args.files.now) (files.trace c.write_modules.new.files) c.in-Ok.sources.items
     c.in-Ok.ensures.fit c.in-Ok.ensures.together modules taken (files.trace c.read_modules.new.files)
-    c.in-Ok.ensures.passed c.write_modules.result c.write_modules.ensures.names
-    (subst (λ l. OnOk c.write_modules.result (Passes (files.trace c.read_modules.new.files) (files.trace c.write_modules.new.files)
-    (WritesFiles (files_of targets l)))) seen-2 c.write_modules.ensures.passed)
+    c.in-Ok.ensures.passed c.write_modules.result c.write_modules.ensures.names (rw seen-2 at c.write_modules.ensures.passed)
 
 pub returns-clause-tried : goal.returns-clause-tried
 returns-clause-tried g c =
@@ -116,6 +106,4 @@ returns-clause-tried g c =
     let taken : AreTaken c.in-Ok.sources.items modules = subst (λ l. AreTaken l modules) seen c.in-Ok-accept_modules.ensures.taken in
     writing_passed names targets (files.trace c.args.files.now) (files.trace c.write_modules.new.files) c.in-Ok.sources.items
     c.in-Ok.ensures.fit c.in-Ok.ensures.together modules taken (files.trace c.read_modules.new.files) c.in-Ok.ensures.passed
-    c.write_modules.result
-    (subst (λ l. IfErr c.write_modules.result (λ stop. Passes (files.trace c.read_modules.new.files)
-    (files.trace c.write_modules.new.files) (EndsWriting (files_of targets l) stop))) seen-2 c.write_modules.ensures.tried)
+    c.write_modules.result (rw seen-2 at c.write_modules.ensures.tried)

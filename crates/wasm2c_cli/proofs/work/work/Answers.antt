@@ -35,6 +35,5 @@ returns-clause-passed g c =
 
 pub returns-clause-tried : goal.returns-clause-tried
 returns-clause-tried g c =
-    let files = g.F.Files in
-    work_tried (files.trace c.args.files.now) (files.trace c.work_on.new.files) (texts c.args.words.now) (seen_line c.in-Ok.line)
+    work_tried (g.F.Files.trace c.args.files.now) (g.F.Files.trace c.work_on.new.files) (texts c.args.words.now) (seen_line c.in-Ok.line)
     c.work_on.result c.in-Ok.ensures.line c.work_on.ensures.tried

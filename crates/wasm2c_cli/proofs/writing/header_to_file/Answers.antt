@@ -30,23 +30,20 @@ returns-clause-whole g c =
 
 pub returns-in-Err-clause-tried : goal.returns-in-Err-clause-tried
 returns-in-Err-clause-tried g c =
-    let files = g.F.Files in
-    part_written (files.trace c.args.files.now) (files.trace c.begin.new.self) (files.trace c.write_header.new.files)
-    (files.trace c.give_up.new.files) c.args.file.now (header_text_of c.args.module.now c.args.module_name.now) c.in-Err.answer
+    part_written (g.F.Files.trace c.args.files.now) (g.F.Files.trace c.begin.new.self) (g.F.Files.trace c.write_header.new.files)
+    (g.F.Files.trace c.give_up.new.files) c.args.file.now (header_text_of c.args.module.now c.args.module_name.now) c.in-Err.answer
     c.in_ok-begin.ensures.traced c.in-Err.ensures.tried c.give_up.ensures.passed
 
 pub returns-clause-passed : goal.returns-clause-passed
 returns-clause-passed g c =
-    let files = g.F.Files in
-    finished (files.trace c.args.files.now) (files.trace c.begin.new.self) (files.trace c.write_header.new.files)
-    (files.trace c.finish.new.self) c.args.file.now (header_text_of c.args.module.now c.args.module_name.now) c.finish.result
+    finished (g.F.Files.trace c.args.files.now) (g.F.Files.trace c.begin.new.self) (g.F.Files.trace c.write_header.new.files)
+    (g.F.Files.trace c.finish.new.self) c.args.file.now (header_text_of c.args.module.now c.args.module_name.now) c.finish.result
     c.in_ok-begin.ensures.traced
     c.in_default.ensures.passed c.finish.ensures.traced
 
 pub returns-clause-tried : goal.returns-clause-tried
 returns-clause-tried g c =
-    let files = g.F.Files in
-    not_finished (files.trace c.args.files.now) (files.trace c.begin.new.self) (files.trace c.write_header.new.files)
-    (files.trace c.finish.new.self) c.args.file.now (header_text_of c.args.module.now c.args.module_name.now) c.finish.result
+    not_finished (g.F.Files.trace c.args.files.now) (g.F.Files.trace c.begin.new.self) (g.F.Files.trace c.write_header.new.files)
+    (g.F.Files.trace c.finish.new.self) c.args.file.now (header_text_of c.args.module.now c.args.module_name.now) c.finish.result
     c.in_ok-begin.ensures.traced
     c.in_default.ensures.passed c.finish.ensures.traced

@@ -1,59 +1,45 @@
-use Rattle.wasm2c_words.proofs.Common.{◌≡◌, [], ◌∷◌, None, codes, refl, line_of}
+use Rattle.wasm2c_words.proofs.Common.{refl}
 use Rattle.clap.proofs.OnLiterals.{clap_on_literals}
 use Rattle.program_words.specs.Command.{rows_read}
 use Rattle.wasm2c_words.specs.Command.{values_of}
 use Rattle.wasm2c_words.proofs.cases.lines_that_are_refused.Goals as goal
 
-no_word_is : line_of [] ≡ None
+pub returns-clause-no_word : goal.returns-clause-no_word
 unfolding values_of rows_read clap_on_literals
-no_word_is = refl
+returns-clause-no_word c = refl
 
-no_output_is : line_of (codes "a.wasm" ∷ []) ≡ None
+pub returns-clause-no_output : goal.returns-clause-no_output
 unfolding values_of rows_read clap_on_literals
-no_output_is = refl
+returns-clause-no_output c = refl
 
-output_twice_is : line_of (codes "a.wasm" ∷ codes "-o" ∷ codes "a.c" ∷ codes "-o" ∷ codes "b.c" ∷ []) ≡ None
+pub returns-clause-output_twice : goal.returns-clause-output_twice
 unfolding values_of rows_read clap_on_literals
-output_twice_is = refl
+returns-clause-output_twice c = refl
 
-no_value_is : line_of (codes "a.wasm" ∷ codes "-o" ∷ []) ≡ None
+pub returns-clause-no_value : goal.returns-clause-no_value
 unfolding values_of rows_read clap_on_literals
-no_value_is = refl
+returns-clause-no_value c = refl
 
-value_like_an_option_is : line_of (codes "x.wasm" ∷ codes "-o" ∷ codes "-a.c" ∷ []) ≡ None
+pub returns-clause-value_like_an_option : goal.returns-clause-value_like_an_option
 unfolding values_of rows_read clap_on_literals
-value_like_an_option_is = refl
+returns-clause-value_like_an_option c = refl
 
-unknown_is : line_of (codes "a.wasm" ∷ codes "-o" ∷ codes "a.c" ∷ codes "-x" ∷ []) ≡ None
+pub returns-clause-unknown : goal.returns-clause-unknown
 unfolding values_of rows_read clap_on_literals
-unknown_is = refl
+returns-clause-unknown c = refl
 
-help_is : line_of (codes "--help" ∷ []) ≡ None
+pub returns-clause-help : goal.returns-clause-help
 unfolding values_of rows_read clap_on_literals
-help_is = refl
+returns-clause-help c = refl
 
-no_function_is : line_of (codes "--gen" ∷ codes "0" ∷ codes "-o" ∷ codes "g.c" ∷ []) ≡ None
+pub returns-clause-no_function : goal.returns-clause-no_function
 unfolding values_of rows_read clap_on_literals
-no_function_is = refl
+returns-clause-no_function c = refl
 
-generated_from_a_file_is : line_of (codes "--gen" ∷ codes "1" ∷ codes "a.wasm" ∷ codes "-o" ∷ codes "g.c" ∷ []) ≡ None
+pub returns-clause-generated_from_a_file : goal.returns-clause-generated_from_a_file
 unfolding values_of rows_read clap_on_literals
-generated_from_a_file_is = refl
+returns-clause-generated_from_a_file c = refl
 
-same_module_is : line_of (codes "--dir" ∷ codes "out" ∷ codes "x/a.wasm" ∷ codes "y/a.wasm" ∷ []) ≡ None
+pub returns-clause-same_module : goal.returns-clause-same_module
 unfolding values_of rows_read clap_on_literals
-same_module_is = refl
-
-pub returns : goal.returns
-returns c = record {
-  no_word = no_word_is;
-  no_output = no_output_is;
-  output_twice = output_twice_is;
-  no_value = no_value_is;
-  value_like_an_option = value_like_an_option_is;
-  unknown = unknown_is;
-  help = help_is;
-  no_function = no_function_is;
-  generated_from_a_file = generated_from_a_file_is;
-  same_module = same_module_is;
-}
+returns-clause-same_module c = refl

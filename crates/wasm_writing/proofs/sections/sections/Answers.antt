@@ -1,8 +1,8 @@
-use Rattle.wasm_writing.proofs.Common.{◌≡◌, ℕ, ◌≤◌, List, length, get_or, take, ap, ◌∙◌, subst, arith, read_again, each, Puts, part_of}
+use Rattle.wasm_writing.proofs.Common.{◌≡◌, ℕ, ◌≤◌, List, length, get_or, take, ap, ◌∙◌, subst, arith, read_again, each, Puts, part_is}
 use Rattle.wasm_writing.proofs.Common.{filled}
 use Rattle.std.proofs.Math.Seq.{take-length}
-use Rattle.wasm_writing.specs.declared.sections.Part.TheVariants.{Types}
-use Rattle.wasm_writing.specs.declared.sections.Part.{Part}
+use Rattle.wasm_spelling.specs.declared.part.Part.TheVariants.{Types}
+use Rattle.wasm_spelling.specs.declared.part.Part.{Part}
 use Rattle.wasm_writing.proofs.Lists.{each_more}
 use Rattle.wasm_writing.proofs.sections.sections.Goals as goal
 
@@ -11,7 +11,7 @@ loop-part-preserved c =
     let l = c.loop-part in
     let parts = c.args.parts.now in
     let other : Part = Types in
-    each_more (λ (part : Part). filled c.args.m.now (part_of part)) parts l.part-index
+    each_more (λ (part : Part). filled c.args.m.now (part_is part)) parts l.part-index
     (get_or parts l.part-index other) _ _ _ c.loop-part-test.true (read_again parts l.part-index other c.loop-part-test.true) l.invariant
     c.section.ensures
 
@@ -21,5 +21,5 @@ whole {A} i l a b = let e : i ≡ length l = omega (arith, a, b) in ap (λ n. ta
 pub returns : goal.returns
 returns c =
     let parts = c.args.parts.now in
-    subst (λ (l : List Part). Puts (each (λ (part : Part). filled c.args.m.now (part_of part)) l) c.args.draft.now c.loop-part.draft)
+    subst (λ (l : List Part). Puts (each (λ (part : Part). filled c.args.m.now (part_is part)) l) c.args.draft.now c.loop-part.draft)
     (whole c.loop-part.part-index parts c.loop-part.auto.part-index-end c.loop-part-test.false) c.loop-part.invariant

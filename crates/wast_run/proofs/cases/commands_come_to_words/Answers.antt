@@ -1,10 +1,11 @@
-use Rattle.wast_run.proofs.Common.{◌≡◌, ℕ, List, [], ◌∷◌, ◌++◌, Some, None, Option, sym, refl, ap, ◌∙◌, inl, inr, arith, values_in, Value}
-use Rattle.wast_run.proofs.Common.{I32, I64, LinkedSet, ModuleFunc, Fits, ListedCall, EndsWith, Where, at_first, calls_with, listed, set_at}
+use Rattle.wast_run.proofs.Common.{◌≡◌, ℕ, List, [], ◌∷◌, Some, None, Option, sym, refl, ap, ◌∙◌, inl, inr, arith, values_in, Value, I32}
+use Rattle.wast_run.proofs.Common.{I64, LinkedSet, ModuleFunc, Fits, ListedCall, EndsWith, Where, at_first, calls_with, listed, set_at}
 use Rattle.wast_run.proofs.Common.{modules_run, units_run, Word, none-some}
 use Rattle.std.specs.Fmt.{digits}
 use Rattle.w2c_base.specs.declared.value.ValType.TheVariants as type
 use Rattle.c_meaning.specs.Run as c
 use Rattle.wast_run.specs.declared.word.Word.TheVariants as word
+use Rattle.wast_run.proofs.Assertions.{same_last}
 use Rattle.wast_run.specs.Samples.{sum_call, with_constants}
 use Rattle.wast_run.proofs.cases.commands_come_to_words.Goals as goal
 
@@ -41,14 +42,6 @@ units_are_over e = ended_differs (sym units_end ∙ e)
 
 -- ---- the last value of one
 
-not_empty : {A : Type 0} (xs : List A) (x : A) → [] ≡ xs ++ x ∷ [] → ⊥
-not_empty [] x e = absurd cc
-not_empty (y ∷ xs) x e = absurd cc
-
-only_one : {A : Type 0} (xs : List A) (x y : A) → x ∷ [] ≡ xs ++ y ∷ [] → x ≡ y
-only_one [] x y e = cc
-only_one (a ∷ xs) x y e = let rest : [] ≡ xs ++ y ∷ [] = cc in absurd (not_empty xs y rest)
-
 abbrev number_of : Option Value → ℕ
 number_of None = 0
 number_of (Some (I32 n)) = n
@@ -56,7 +49,7 @@ number_of (Some (I64 n)) = n
 
 other_value : EndsWith (Some (I32 41)) (modules_run set calls 50) → ⊥
 other_value right =
-    let same : Some (I32 42) ≡ Some (I32 41) = only_one right.1 _ _ (sym module_gives ∙ right.2) in
+    let same : Some (I32 42) ≡ Some (I32 41) = same_last [] right.1 _ _ (sym module_gives ∙ right.2) in
     let e : 42 ≡ 41 = ap number_of same in
     absurd (omega (arith, e))
 

@@ -10,15 +10,12 @@ returns-in-Err-Malformed c =
 
 pub returns-in-Err-Float : goal.returns-in-Err-Float
 returns-in-Err-Float c =
-    let bytes = c.args.bytes.now in
-    said_float bytes _ (subst (IsRefusal bytes) c.in-Err-Float.field-0-is c.in-Err-Float.ensures.refused)
+    said_float c.args.bytes.now _ (subst (IsRefusal c.args.bytes.now) c.in-Err-Float.field-0-is c.in-Err-Float.ensures.refused)
 
 pub returns-in-Err-Limit : goal.returns-in-Err-Limit
 returns-in-Err-Limit c =
-    let bytes = c.args.bytes.now in
-    said_limit bytes _ _ (subst (IsRefusal bytes) c.in-Err-Limit.field-0-is c.in-Err-Limit.ensures.refused)
+    said_limit c.args.bytes.now _ _ (subst (IsRefusal c.args.bytes.now) c.in-Err-Limit.field-0-is c.in-Err-Limit.ensures.refused)
 
 pub returns-in-Err-Invalid : goal.returns-in-Err-Invalid
 returns-in-Err-Invalid c =
-    let bytes = c.args.bytes.now in
-    said_invalid bytes _ _ (subst (IsRefusal bytes) c.in-Err-Invalid.field-0-is c.in-Err-Invalid.ensures.refused)
+    said_invalid c.args.bytes.now _ _ (subst (IsRefusal c.args.bytes.now) c.in-Err-Invalid.field-0-is c.in-Err-Invalid.ensures.refused)

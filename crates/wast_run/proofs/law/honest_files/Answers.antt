@@ -17,16 +17,11 @@ use Rattle.wast_run.proofs.law.honest_files.Goals as goal
 
 pub returns : goal.returns
 returns c = record {
-  reported = λ words m old new said said' status faults faults' events current told after passes honest.
-      honest_report words m old new said said' status faults faults' events current told after passes honest;
-  refused = λ words m old new said said' status faults faults' events current told after passes honest.
-      honest_refusal words m old new said said' status faults faults' events current told after passes honest;
-  unread = λ words m old new said said' status faults faults' events current told after passes honest.
-      honest_unread words m old new said said' status faults faults' events current told after passes honest;
-  part = λ words m old new said said' status faults faults' events current told after passes honest.
-      honest_part words m old new said said' status faults faults' events current told after passes honest;
-  answered = λ words m old new said said' status faults faults' events current told after passes honest.
-      honest_answer words m old new said said' status faults faults' events current told after passes honest;
+  reported = honest_report;
+  refused = honest_refusal;
+  unread = honest_unread;
+  part = honest_part;
+  answered = honest_answer;
   refused_always = λ words m old new said said' status faults faults' events current told after passes honest.
       honest_decided words m old new said said' status faults faults' events current told after passes honest
       c.one_reading.ensures.apart;
@@ -36,8 +31,7 @@ returns c = record {
   missing_always = λ words m old new said said' status faults faults' events current told after passes honest.
       honest_not_there words m old new said said' status faults faults' events current told after passes honest
       c.one_reading.ensures.apart c.one_reading.ensures.script;
-  write_fault = λ words m old new said said' status faults faults' events current told after passes honest.
-      honest_unwritten words m old new said said' status faults faults' events current told after passes honest;
+  write_fault = honest_unwritten;
   nothing_without_script = λ words m old new said said' status faults faults' events current told after passes honest.
       honest_quiet words m old new said said' status faults faults' events current told after passes honest
       c.one_reading.ensures.apart;
@@ -47,6 +41,5 @@ returns c = record {
   part_before = λ words m old new said said' status faults faults' events current told after passes honest.
       honest_before words m old new said said' status faults faults' events current told after passes honest
       c.one_reading.ensures.script;
-  stands = λ words m old new said said' status faults faults' events current told after passes honest.
-      told_kept words m old new said said' status faults faults' events current told after passes honest;
+  stands = told_kept;
 }

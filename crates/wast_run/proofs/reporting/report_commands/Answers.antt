@@ -7,9 +7,8 @@ use Rattle.wast_run.proofs.reporting.report_commands.Goals as goal
 pub returns-in-Ok-write_line-clause-reported : goal.returns-in-Ok-write_line-clause-reported
 returns-in-Ok-write_line-clause-reported g c =
     let commands = c.args.commands.now in
-    let out = g.O.Sink in
     whole_report (g.F.Files.told c.args.files.now) c.args.steps (seen_commands commands)
-    (out.told c.args.out.now) (out.told c.tell_commands.new.out) (out.told c.write_line.new.out) c.in-Ok.ok (length commands)
+    (g.O.Sink.told c.args.out.now) (g.O.Sink.told c.tell_commands.new.out) (g.O.Sink.told c.write_line.new.out) c.in-Ok.ok (length commands)
     (many_seen commands (length commands) refl) c.in-Ok.ensures.behind
     (c.in-Ok-write_line.ensures.whole (total_line (length commands) c.in-Ok.ok) c.total_line.ensures)
 
@@ -30,19 +29,16 @@ returns-in-Err-write_line-clause-stop g c =
 pub returns-in-Ok-write_line-clause-passed : goal.returns-in-Ok-write_line-clause-passed
 returns-in-Ok-write_line-clause-passed g c =
     let commands = c.args.commands.now in
-    let files = g.F.Files in
-    let out = g.O.Sink in
-    reported_over (files.trace c.args.files.now) (files.trace c.tell_commands.new.files) c.args.steps (seen_commands commands)
-    (out.told c.args.out.now) (out.told c.tell_commands.new.out) (out.told c.write_line.new.out) c.in-Ok.ok (length commands)
+    reported_over (g.F.Files.trace c.args.files.now) (g.F.Files.trace c.tell_commands.new.files) c.args.steps (seen_commands commands)
+    (g.O.Sink.told c.args.out.now) (g.O.Sink.told c.tell_commands.new.out) (g.O.Sink.told c.write_line.new.out) c.in-Ok.ok (length commands)
     (many_seen commands (length commands) refl) c.in-Ok.ensures.passed
     (c.in-Ok-write_line.ensures.whole (total_line (length commands) c.in-Ok.ok) c.total_line.ensures)
 
 pub returns-in-Err-write_line-clause-tried : goal.returns-in-Err-write_line-clause-tried
 returns-in-Err-write_line-clause-tried g c =
     let commands = c.args.commands.now in
-    let files = g.F.Files in
     let out = g.O.Sink in
-    no_total_over (files.trace c.args.files.now) (files.trace c.tell_commands.new.files) c.args.steps (seen_commands commands)
+    no_total_over (g.F.Files.trace c.args.files.now) (g.F.Files.trace c.tell_commands.new.files) c.args.steps (seen_commands commands)
     (out.told c.args.out.now) (out.told c.tell_commands.new.out) (out.told c.write_line.new.out) c.in-Ok.ok (length commands)
     (many_seen commands (length commands) refl) c.in-Ok.ensures.passed
     (out.faults c.tell_commands.new.out) (out.faults c.write_line.new.out) (reason_of c.in-Err-write_line.stop)

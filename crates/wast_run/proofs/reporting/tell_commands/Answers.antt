@@ -1,5 +1,5 @@
-use Rattle.wast_run.proofs.Common.{◌+◌, ◌≤◌, length, take, drop, sym, ◌∙◌, subst, arith, take_all, length-map, Told, Passes, reason_of}
-use Rattle.wast_run.proofs.Common.{seen_command, seen_commands, IsBehindOver, is_ok, HasModuleName, setting_of, IsBehind, StopsTelling}
+use Rattle.wast_run.proofs.Common.{◌+◌, ◌≤◌, length, take, drop, sym, ◌∙◌, subst, arith, take_all, length-map, Passes, reason_of}
+use Rattle.wast_run.proofs.Common.{seen_command, seen_commands, IsBehindOver, is_ok, HasModuleName, setting_of, IsBehind}
 use Rattle.w2c_base.proofs.Places.{mapped_next}
 use Rattle.wast_run.proofs.WordLines.{counted_few}
 use Rattle.wast_run.proofs.Lists.{all_mapped_at, mapped_front}
@@ -31,11 +31,7 @@ returns-in-Err-clause-stop g c =
     c.loop-index.ok (setting_of c.loop-index.stage) c.loop-index.invariant.later
     (take k seen) (drop (k + 1) seen) (seen_command item) k (reason_of c.in-Err.stop)
     (mapped_split seen_command commands k item lt c.index-commands-index.is) (mapped_front seen_command commands k lt)
-    c.loop-index.invariant.reads c.loop-index.invariant.behind
-    (subst (λ (told : Told). StopsTelling told c.args.steps k (setting_of c.loop-index.stage) (seen_command item)
-    (files.read_faults c.loop-index.files) (files.read_faults c.tell_command.new.files) (files.fault_name c.tell_command.new.files)
-    (out.told c.loop-index.out) (out.told c.tell_command.new.out) (out.faults c.loop-index.out) (out.faults c.tell_command.new.out)
-    (reason_of c.in-Err.stop)) c.loop-index.invariant.told c.in-Err.ensures.stop)
+    c.loop-index.invariant.reads c.loop-index.invariant.behind (rw c.loop-index.invariant.told at c.in-Err.ensures.stop)
 
 pub loop-index-preserved : goal.loop-index-preserved
 loop-index-preserved g c =
@@ -81,21 +77,18 @@ returns-clause-behind g c = λ m tells.
     let k = c.loop-index.index in
     let past : length (seen_commands commands) ≤ k = omega (arith, c.loop-index-test.false, length-map commands seen_command) in (
       setting_of c.loop-index.stage,
-      subst (λ front. IsBehind m c.args.steps front (setting_of c.loop-index.stage) (g.O.Sink.told c.args.out.now)
-          (g.O.Sink.told c.loop-index.out) c.loop-index.ok) (take_all k (seen_commands commands) past)
-          (c.loop-index.invariant.behind m tells),
+      rw (take_all k (seen_commands commands) past) at (c.loop-index.invariant.behind m tells),
     )
 
 pub returns-in-Err-clause-tried : goal.returns-in-Err-clause-tried
 returns-in-Err-clause-tried g c =
-    let files = g.F.Files in
     let out = g.O.Sink in
     let commands = c.args.commands.now in
     let seen = seen_commands commands in
     let k = c.loop-index.index in
     let item = c.index-commands-index.result in
     let lt = c.loop-index-test.true in
-    stops_in (files.trace c.args.files.now) (files.trace c.loop-index.files) (files.trace c.tell_command.new.files)
+    stops_in (g.F.Files.trace c.args.files.now) (g.F.Files.trace c.loop-index.files) (g.F.Files.trace c.tell_command.new.files)
     c.args.steps k seen (take k seen) (drop (k + 1) seen) (seen_command item) (setting_of c.loop-index.stage)
     (out.told c.args.out.now) (out.told c.loop-index.out) (out.told c.tell_command.new.out) c.loop-index.ok (reason_of c.in-Err.stop)
     (mapped_split seen_command commands k item lt c.index-commands-index.is) (mapped_front seen_command commands k lt)
@@ -108,8 +101,5 @@ returns-clause-passed g c =
     let commands = c.args.commands.now in
     let k = c.loop-index.index in
     let past : length (seen_commands commands) ≤ k = omega (arith, c.loop-index-test.false, length-map commands seen_command) in
-    let passed = subst (λ front. Passes (files.trace c.args.files.now) (files.trace c.loop-index.files)
-    (IsBehindOver c.args.steps front (setting_of c.loop-index.stage) (out.told c.args.out.now) (out.told c.loop-index.out)
-    c.loop-index.ok))
-    (take_all k (seen_commands commands) past) c.loop-index.invariant.passed in
+    let passed = rw (take_all k (seen_commands commands) past) at c.loop-index.invariant.passed in
     (passed.0, passed.1, (setting_of c.loop-index.stage, passed.2))

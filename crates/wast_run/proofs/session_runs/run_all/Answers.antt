@@ -1,5 +1,5 @@
-use Rattle.wast_run.proofs.Common.{◌≡◌, true, List, [], ◌∷◌, ◌++◌, length, IfSome, sym, ◌∙◌, subst, arith, SymbolCall, fits, AllFit}
-use Rattle.wast_run.proofs.Common.{StopsAt, run_of, symbol_of, symbols_in, symbols_of}
+use Rattle.wast_run.proofs.Common.{◌≡◌, true, [], ◌∷◌, ◌++◌, length, sym, ◌∙◌, subst, arith, fits, AllFit, StopsAt, symbol_of, symbols_in}
+use Rattle.wast_run.proofs.Common.{symbols_of}
 use Rattle.crun.specs.Sessions.{program_of}
 use Rattle.wast_run.proofs.Kept.{all_before, all_last}
 use Rattle.wast_run.proofs.Sessions.{last_came, of_first, runs_further, stops_later}
@@ -8,8 +8,7 @@ use Rattle.wast_run.proofs.session_runs.run_all.Goals as goal
 pub returns-in-Ok-Some-clause-ran : goal.returns-in-Ok-Some-clause-ran
 returns-in-Ok-Some-clause-ran g c =
     let s = c.args.session.now in
-    let stopped = subst (λ o. IfSome o (λ stop. (rest : List SymbolCall)
-    → StopsAt stop 0 (run_of g.H.HostModule s rest))) c.in-Ok-Some.field-0-is c.in-Ok-Some.ensures.stopped in
+    let stopped = rw c.in-Ok-Some.field-0-is at c.in-Ok-Some.ensures.stopped in
     stops_later c.in-Ok-Some.stop 0 (length c.args.kept.now) _ (omega arith) (stopped (symbols_of c.args.kept.now c.args.last.now))
 
 pub run_kept-requires-clause-fit : goal.run_kept-requires-clause-fit
@@ -21,12 +20,9 @@ run_kept-requires-clause-fit g c =
 pub returns-in-Ok-Some-run_kept-clause-ran : goal.returns-in-Ok-Some-run_kept-clause-ran
 returns-in-Ok-Some-run_kept-clause-ran g c =
     let s = c.run_inits.new.session in
-    let kept = c.args.kept.now in
-    let stopped = subst (λ o. IfSome o (λ stop. (rest : List SymbolCall)
-    → StopsAt stop (length kept) (run_of g.H.HostModule s (symbols_in kept ++ rest))))
-    c.in-Ok-Some-run_kept.field-0-is c.in-Ok-Some-run_kept.ensures.stopped in
-    of_first g.H.HostModule c.args.session.now s c.run_inits.ensures.same (StopsAt c.in-Ok-Some-run_kept.stop (length kept))
-    (symbols_of kept c.args.last.now) (stopped (symbol_of c.args.last.now ∷ []))
+    let stopped = rw c.in-Ok-Some-run_kept.field-0-is at c.in-Ok-Some-run_kept.ensures.stopped in
+    of_first g.H.HostModule c.args.session.now s c.run_inits.ensures.same (StopsAt c.in-Ok-Some-run_kept.stop (length c.args.kept.now))
+    (symbols_of c.args.kept.now c.args.last.now) (stopped (symbol_of c.args.last.now ∷ []))
 
 pub run_call-requires-clause-fits : goal.run_call-requires-clause-fits
 run_call-requires-clause-fits g c =

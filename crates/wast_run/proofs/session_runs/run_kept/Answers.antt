@@ -7,13 +7,11 @@ use Rattle.wast_run.proofs.session_runs.run_kept.Goals as goal
 
 pub run_call-requires-clause-fits : goal.run_call-requires-clause-fits
 run_call-requires-clause-fits g c =
-    let kept = c.args.kept.now in
-    let k = c.loop-call.call-index in
     let item = c.call-item.result in
     let p = program_of g.H.HostModule c.args.session.now in
     subst (λ p. fits p (symbol_of item.now) ≡ true) (sym c.loop-call.invariant.same.program)
     (subst (λ x. fits p (symbol_of x.now) ≡ true) (sym c.call-item.is)
-    (all_at seen (λ x. fits p x ≡ true) kept k item c.loop-call-test.true c.requires.fit))
+    (all_at seen (λ x. fits p x ≡ true) c.args.kept.now c.loop-call.call-index item c.loop-call-test.true c.requires.fit))
 
 pub loop-call-preserved : goal.loop-call-preserved
 loop-call-preserved g c =

@@ -147,18 +147,15 @@ returns-in-Err-clause-status g c = status_small (reason_of c.in-Err.stop) c.repo
 
 pub returns-in-Ok-clause-passed : goal.returns-in-Ok-clause-passed
 returns-in-Ok-clause-passed g c =
-    let files = g.F.Files in
-    let err = g.E.Sink in
-    status_passes (files.trace c.args.files.now) (files.trace c.work.new.files) (texts c.args.words.now)
+    status_passes (g.F.Files.trace c.args.files.now) (g.F.Files.trace c.work.new.files) (texts c.args.words.now)
     (g.O.Sink.told c.args.out.now) (g.O.Sink.told c.work.new.out) c.in-Ok.status
-    (Says (err.told c.args.err.now) (err.told c.args.err.now) (err.faults c.args.err.now) (err.faults c.args.err.now))
+    (Says (g.E.Sink.told c.args.err.now) (g.E.Sink.told c.args.err.now) (g.E.Sink.faults c.args.err.now) (g.E.Sink.faults c.args.err.now))
     c.in-Ok.ensures.passed
 
 pub returns-in-Err-clause-passed : goal.returns-in-Err-clause-passed
 returns-in-Err-clause-passed g c =
-    let files = g.F.Files in
     let err = g.E.Sink in
-    stop_passes (files.trace c.args.files.now) (files.trace c.work.new.files) (texts c.args.words.now)
+    stop_passes (g.F.Files.trace c.args.files.now) (g.F.Files.trace c.work.new.files) (texts c.args.words.now)
     (g.O.Sink.told c.args.out.now) (g.O.Sink.told c.work.new.out) c.report.result
     (Says (err.told c.args.err.now) (err.told c.report.new.err) (err.faults c.args.err.now) (err.faults c.report.new.err))
     (reason_of c.in-Err.stop) c.report.ensures.status c.report.ensures.says c.in-Err.ensures.tried

@@ -1,5 +1,4 @@
-use Rattle.wast_run.proofs.Common.{Err, refl, ◌∙◌, subst, Told, Passes, Tells, texts, reason_of, seen_commands, seen_line, seen_script}
-use Rattle.wast_run.proofs.Common.{GivesFirst, IsJob, Reports, StopsIn, HasReportedOver, StopsReport, HasReported}
+use Rattle.wast_run.proofs.Common.{Err, refl, ◌∙◌, Tells, texts, reason_of, seen_line, seen_script, GivesFirst, IsJob, Reports}
 use Rattle.wast_run.proofs.WorkLaws.{job_of_text, report_stops, reports, script_stops, words_stop}
 use Rattle.wast_run.proofs.Passing.{commands_end, first_gives, report_ends, script_ends, words_end}
 use Rattle.wast_run.proofs.work.work.Goals as goal
@@ -40,17 +39,7 @@ returns-clause-stop g c =
     (files.fault_name c.report_commands.new.files) (g.O.Sink.told c.args.out.now) (g.O.Sink.told c.report_commands.new.out)
     (g.O.Sink.faults c.args.out.now) (g.O.Sink.faults c.report_commands.new.out)
     (reason_of c.in-Err-report_commands.stop) c.in-Ok-script_in.ensures.later
-    (subst (λ (told : Told). StopsReport told line.steps commands (files.read_faults c.script_in.new.files)
-    (files.read_faults c.report_commands.new.files) (files.fault_name c.report_commands.new.files)
-    (g.O.Sink.told c.args.out.now) (g.O.Sink.told c.report_commands.new.out)
-    (g.O.Sink.faults c.args.out.now) (g.O.Sink.faults c.report_commands.new.out) (reason_of c.in-Err-report_commands.stop))
-    c.script_in.ensures.told
-    (subst (λ items. StopsReport (files.told c.script_in.new.files) line.steps (seen_commands items)
-    (files.read_faults c.script_in.new.files)
-    (files.read_faults c.report_commands.new.files) (files.fault_name c.report_commands.new.files)
-    (g.O.Sink.told c.args.out.now) (g.O.Sink.told c.report_commands.new.out)
-    (g.O.Sink.faults c.args.out.now) (g.O.Sink.faults c.report_commands.new.out) (reason_of c.in-Err-report_commands.stop))
-    c.as_slice.ensures.value c.in-Err-report_commands.ensures.stop))
+    (rw (c.as_slice.ensures.value, c.script_in.ensures.told) at c.in-Err-report_commands.ensures.stop)
 
 pub returns-in-Ok-report_commands-clause-reported : goal.returns-in-Ok-report_commands-clause-reported
 returns-in-Ok-report_commands-clause-reported g c = λ m tells.
@@ -68,9 +57,7 @@ returns-in-Ok-report_commands-clause-reported g c = λ m tells.
     reports words line c.in-Ok.ensures.line told Gives commands job gave m tells (g.O.Sink.told c.args.out.now)
     (g.O.Sink.told c.report_commands.new.out)
     c.in-Ok-report_commands.all_ok c.status_for.result
-    (subst (λ items. HasReported m line.steps (seen_commands items) (g.O.Sink.told c.args.out.now) (g.O.Sink.told c.report_commands.new.out)
-    c.in-Ok-report_commands.all_ok) c.as_slice.ensures.value
-    (c.in-Ok-report_commands.ensures.reported m (c.script_in.ensures.told ∙ tells)))
+    (rw c.as_slice.ensures.value at (c.in-Ok-report_commands.ensures.reported m (c.script_in.ensures.told ∙ tells)))
     c.status_for.ensures
 
 -- ---- what passed through the files
@@ -88,26 +75,18 @@ returns-in-Err-script_in-clause-tried g c =
 
 pub returns-clause-tried : goal.returns-clause-tried
 returns-clause-tried g c =
-    let files = g.F.Files in
     let out = g.O.Sink in
-    let line = seen_line c.in-Ok.line in
-    commands_end (texts c.args.words.now) line c.in-Ok.ensures.line
-    (files.trace c.args.files.now) (files.trace c.script_in.new.files) (files.trace c.report_commands.new.files)
-    (files.told c.args.files.now) (seen_script c.in-Ok-script_in.script) (out.told c.args.out.now) (out.told c.report_commands.new.out)
+    commands_end (texts c.args.words.now) (seen_line c.in-Ok.line) c.in-Ok.ensures.line
+    (g.F.Files.trace c.args.files.now) (g.F.Files.trace c.script_in.new.files) (g.F.Files.trace c.report_commands.new.files)
+    (g.F.Files.told c.args.files.now) (seen_script c.in-Ok-script_in.script) (out.told c.args.out.now) (out.told c.report_commands.new.out)
     (Err (reason_of c.in-Err-report_commands.stop)) c.in-Ok-script_in.ensures.passed
-    (subst (λ items. Passes (files.trace c.script_in.new.files) (files.trace c.report_commands.new.files)
-    (StopsIn line.steps (seen_commands items) (out.told c.args.out.now) (out.told c.report_commands.new.out)
-    (reason_of c.in-Err-report_commands.stop))) c.as_slice.ensures.value c.in-Err-report_commands.ensures.tried)
+    (rw c.as_slice.ensures.value at c.in-Err-report_commands.ensures.tried)
 
 pub returns-in-Ok-report_commands-clause-passed : goal.returns-in-Ok-report_commands-clause-passed
 returns-in-Ok-report_commands-clause-passed g c =
-    let files = g.F.Files in
     let out = g.O.Sink in
-    let line = seen_line c.in-Ok.line in
-    report_ends (texts c.args.words.now) line c.in-Ok.ensures.line
-    (files.trace c.args.files.now) (files.trace c.script_in.new.files) (files.trace c.report_commands.new.files)
-    (files.told c.args.files.now) (seen_script c.in-Ok-script_in.script) (out.told c.args.out.now) (out.told c.report_commands.new.out)
+    report_ends (texts c.args.words.now) (seen_line c.in-Ok.line) c.in-Ok.ensures.line
+    (g.F.Files.trace c.args.files.now) (g.F.Files.trace c.script_in.new.files) (g.F.Files.trace c.report_commands.new.files)
+    (g.F.Files.told c.args.files.now) (seen_script c.in-Ok-script_in.script) (out.told c.args.out.now) (out.told c.report_commands.new.out)
     c.in-Ok-report_commands.all_ok c.status_for.result c.status_for.ensures c.in-Ok-script_in.ensures.passed
-    (subst (λ items. Passes (files.trace c.script_in.new.files) (files.trace c.report_commands.new.files)
-    (HasReportedOver line.steps (seen_commands items) (out.told c.args.out.now) (out.told c.report_commands.new.out)
-    c.in-Ok-report_commands.all_ok)) c.as_slice.ensures.value c.in-Ok-report_commands.ensures.passed)
+    (rw c.as_slice.ensures.value at c.in-Ok-report_commands.ensures.passed)

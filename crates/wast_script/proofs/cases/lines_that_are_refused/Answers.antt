@@ -1,59 +1,45 @@
-use Rattle.std.proofs.Common.{refl, codes, [], ◌∷◌, ◌≡◌, None}
+use Rattle.std.proofs.Common.{refl}
 use Rattle.clap.proofs.OnLiterals.{clap_on_literals}
 use Rattle.program_words.specs.Command.{rows_read}
 use Rattle.wast_script.specs.CommandLine.{line_of}
 use Rattle.wast_script.proofs.cases.lines_that_are_refused.Goals as goal
 
-no_word_is : line_of [] ≡ None
+pub returns-clause-no_word : goal.returns-clause-no_word
 unfolding line_of rows_read clap_on_literals
-no_word_is = refl
+returns-clause-no_word c = refl
 
-no_steps_is : line_of (codes "s" ∷ []) ≡ None
+pub returns-clause-no_steps : goal.returns-clause-no_steps
 unfolding line_of rows_read clap_on_literals
-no_steps_is = refl
+returns-clause-no_steps c = refl
 
-no_script_is : line_of (codes "--steps" ∷ codes "1" ∷ []) ≡ None
+pub returns-clause-no_script : goal.returns-clause-no_script
 unfolding line_of rows_read clap_on_literals
-no_script_is = refl
+returns-clause-no_script c = refl
 
-steps_twice_is : line_of (codes "--steps=1" ∷ codes "--steps=1" ∷ codes "s" ∷ []) ≡ None
+pub returns-clause-steps_twice : goal.returns-clause-steps_twice
 unfolding line_of rows_read clap_on_literals
-steps_twice_is = refl
+returns-clause-steps_twice c = refl
 
-two_scripts_is : line_of (codes "--steps=1" ∷ codes "s" ∷ codes "t" ∷ []) ≡ None
+pub returns-clause-two_scripts : goal.returns-clause-two_scripts
 unfolding line_of rows_read clap_on_literals
-two_scripts_is = refl
+returns-clause-two_scripts c = refl
 
-no_value_is : line_of (codes "s" ∷ codes "--steps" ∷ []) ≡ None
+pub returns-clause-no_value : goal.returns-clause-no_value
 unfolding line_of rows_read clap_on_literals
-no_value_is = refl
+returns-clause-no_value c = refl
 
-unknown_is : line_of (codes "--steps=1" ∷ codes "-v" ∷ codes "s" ∷ []) ≡ None
+pub returns-clause-unknown : goal.returns-clause-unknown
 unfolding line_of rows_read clap_on_literals
-unknown_is = refl
+returns-clause-unknown c = refl
 
-help_is : line_of (codes "--help" ∷ []) ≡ None
+pub returns-clause-help : goal.returns-clause-help
 unfolding line_of rows_read clap_on_literals
-help_is = refl
+returns-clause-help c = refl
 
-no_number_is : line_of (codes "--steps=x" ∷ codes "s" ∷ []) ≡ None
+pub returns-clause-no_number : goal.returns-clause-no_number
 unfolding line_of rows_read clap_on_literals
-no_number_is = refl
+returns-clause-no_number c = refl
 
-too_large_is : line_of (codes "--steps=18446744073709551616" ∷ codes "s" ∷ []) ≡ None
+pub returns-clause-too_large : goal.returns-clause-too_large
 unfolding line_of rows_read clap_on_literals
-too_large_is = refl
-
-pub returns : goal.returns
-returns c = record {
-  no_word = no_word_is;
-  no_steps = no_steps_is;
-  no_script = no_script_is;
-  steps_twice = steps_twice_is;
-  two_scripts = two_scripts_is;
-  no_value = no_value_is;
-  unknown = unknown_is;
-  help = help_is;
-  no_number = no_number_is;
-  too_large = too_large_is;
-}
+returns-clause-too_large c = refl

@@ -4,13 +4,11 @@ use Rattle.wast_script.proofs.value.values_of.Goals as goal
 
 pub returns-in_default : goal.returns-in_default
 returns-in_default c =
-    let items = c.args.items.now in
-    nothing_here view value_of items c.loop-item.item-index c.item-item.result c.loop-item-test.true c.item-item.is
-    c.loop-item.values (all_given value_of (map view items)) c.loop-item.invariant (sym c.value.ensures ∙ c.in_default.is)
+    nothing_here view value_of c.args.items.now c.loop-item.item-index c.item-item.result c.loop-item-test.true c.item-item.is
+    c.loop-item.values (all_given value_of (map view c.args.items.now)) c.loop-item.invariant (sym c.value.ensures ∙ c.in_default.is)
 
 pub loop-item-preserved : goal.loop-item-preserved
 loop-item-preserved c =
-    let items = c.args.items.now in
-    next_here view value_of items c.loop-item.item-index c.item-item.result c.loop-item-test.true c.item-item.is
-    c.loop-item.values c.push.new.self c.in-Some.value (all_given value_of (map view items)) c.loop-item.invariant
+    next_here view value_of c.args.items.now c.loop-item.item-index c.item-item.result c.loop-item-test.true c.item-item.is
+    c.loop-item.values c.push.new.self c.in-Some.value (all_given value_of (map view c.args.items.now)) c.loop-item.invariant
     (sym c.value.ensures ∙ c.in-Some.is) c.in_ok-push.ensures.ok

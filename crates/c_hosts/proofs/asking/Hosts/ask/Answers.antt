@@ -1,4 +1,4 @@
-use Rattle.c_hosts.proofs.Common.{◌≡◌, [], ◌∷◌, ◌++◌, sym, refl, ap, ◌∙◌, subst, types_of, asked}
+use Rattle.c_hosts.proofs.Common.{◌≡◌, [], ◌∷◌, ◌++◌, sym, refl, ap, ◌∙◌, types_of, asked}
 use Rattle.w2c_base.proofs.Types.{equal_types-eq}
 use Rattle.c_meaning.specs.declared.reply.HostReply.TheVariants as reply
 use Rattle.c_hosts.specs.Hosts.{IsReply, TakesArgs}
@@ -30,8 +30,7 @@ returns-clause-asked g c =
         new = c.call-reply.new.self;
         old_is = there.0;
         new_is = refl;
-        may = subst (λ vs. g.H.HostModule.may c.index_mut.result.now (g.H.HostModule.state c.index_mut.result.now) c.args.call.function vs
-            c.call-reply.result (g.H.HostModule.state c.call-reply.new.self)) args c.call-reply.ensures.answers;
+        may = rw args at c.call-reply.ensures.answers;
         keeps = record { name = c.call-reply.ensures.name; functions = c.call-reply.ensures.functions; may = c.call-reply.ensures.may };
       },
       c.put_reply.ensures c.args.self.now.journal (asked c.args.call reply.Trap) c.in_ok-open.ensures.ok,

@@ -7,14 +7,13 @@ use Rattle.c_link.proofs.offers.Offers.of_hosts.Goals as goal
 
 pub loop-k-preserved : goal.loop-k-preserved
 loop-k-preserved c =
-    let hosts = c.args.hosts.now in
     let host = c.index-hosts-k.result in
     let k = c.loop-k.k in
-    let entries = host_offers (c_symbols hosts) in
+    let entries = host_offers (c_symbols c.args.hosts.now) in
     let at : slice_get entries k ≡ Some (host_offer (k, c_symbol host)) =
-    slice_get-map host_offer (numbered (c_symbols hosts)) k
-    ∙ ap (option_map host_offer) (numbered_at (c_symbols hosts) k (c_symbol host)
-    (mapped_at c_symbol hosts k host c.loop-k-test.true c.index-hosts-k.is)) in
+    slice_get-map host_offer (numbered (c_symbols c.args.hosts.now)) k
+    ∙ ap (option_map host_offer) (numbered_at (c_symbols c.args.hosts.now) k (c_symbol host)
+    (mapped_at c_symbol c.args.hosts.now k host c.loop-k-test.true c.index-hosts-k.is)) in
     holds_as c.enter.new.self _ _ (take_next entries k (host_offer (k, c_symbol host)) at)
     (holds_more c.loop-k.table c.enter.new.self (take k entries) (host_offer (k, c_symbol host) ∷ []) c.loop-k.invariant
     (adds_said c.loop-k.table c.enter.new.self _ _ (owner.Host k) _ _ c.as_slice.ensures c.in_ok-c_func_type.ensures

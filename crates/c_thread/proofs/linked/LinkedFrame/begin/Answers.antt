@@ -8,9 +8,8 @@ returns-then-not-fit_params c names p m below are =
     let own = items_so names p c.args.units.now c.args.unit c.in-Some.own.now are c.in-Some.ensures in
     let params = ap (λ ps. are_of_types (param_types ps) (map (value_of names) c.args.values.items)) c.as_slice.ensures in
     let values = ap (λ vs. are_of_types (param_types c.as_slice.result.now) (map (value_of names) vs)) c.as_slice-2.ensures.value in
-    let differ = sym params ∙ sym values ∙ c.fit_params.ensures names ∙ c.if-not-fit_params.true in
     begins_otherwise names p (unit_of c.in-Some.own.now.items.value) c.args.unit c.args.item own c.args.values.items m below _
-    (sym c.in-Some-definition.ensures) differ
+    (sym c.in-Some-definition.ensures) (sym params ∙ sym values ∙ c.fit_params.ensures names ∙ c.if-not-fit_params.true)
 
 pub returns-in-Some-2 : goal.returns-in-Some-2
 returns-in-Some-2 c names p m below are =

@@ -1,19 +1,19 @@
-use Rattle.c_unit.proofs.Common.{◌≡◌, IfOk, option_map, refl, subst, item_of, module_of}
-use Rattle.c_unit.proofs.Standing.{read, missing, counted_anew, global_pointer_there, global_pointer_past}
+use Rattle.c_unit.proofs.Common.{◌≡◌, IfOk, option_map, subst, item_of, module_of, from_data}
+use Rattle.c_unit.proofs.Standing.{stands_at, stands_past, global_pointers_listed}
 use Rattle.c_unit.proofs.unit_items.UnitItems.at_global_pointers.Goals as goal
 
 pub returns-in_ok-global_pointer-in-Some : goal.returns-in_ok-global_pointer-in-Some
 returns-in_ok-global_pointer-in-Some c =
-    let items = c.as_slice-pointers.result.now in
-    global_pointer_there (module_of c.args.self.now.source) c.args.self.now.listed.pointers.items c.args.n _ _ c.args.self.now.pointers_are
-    (read items _ c.args.n _ c.as_slice-pointers.ensures.value c.in-Some.ensures.lookup.3.0 c.in-Some.ensures.lookup.1)
-    c.in_ok-global_pointer-in-Some.ensures
+    stands_at (global_pointers_listed (module_of c.args.self.now.source) c.args.self.now.listed.pointers.items
+    c.args.self.now.pointers_are)
+    (from_data (module_of c.args.self.now.source)) c.as_slice-pointers.result.now c.args.n _ _ c.as_slice-pointers.ensures.value
+    c.in-Some.ensures.lookup.3.0 c.in-Some.ensures.lookup.1 c.in_ok-global_pointer-in-Some.ensures
 
 pub returns-in-None : goal.returns-in-None
 returns-in-None c =
-    let items = c.as_slice-pointers.result.now in
-    subst (λ there. IfOk c.at_data.result (λ item. option_map item_of item ≡ there))
-    (counted_anew items _ _ c.args.n _ c.saturating_sub.result _ c.as_slice-pointers.ensures.value refl c.saturating_sub.ensures
-    (global_pointer_past (module_of c.args.self.now.source) c.args.self.now.listed.pointers.items c.args.n c.args.self.now.pointers_are
-    (missing items _ c.args.n c.as_slice-pointers.ensures.value c.in-None.ensures.lookup.3)))
+    subst (λ found. IfOk c.at_data.result (λ item. option_map item_of item ≡ found))
+    (stands_past (global_pointers_listed (module_of c.args.self.now.source) c.args.self.now.listed.pointers.items
+    c.args.self.now.pointers_are)
+    (from_data (module_of c.args.self.now.source)) c.as_slice-pointers.result.now c.args.n c.saturating_sub.result
+    c.as_slice-pointers.ensures.value c.saturating_sub.ensures c.in-None.ensures.lookup.3)
     c.at_data.ensures

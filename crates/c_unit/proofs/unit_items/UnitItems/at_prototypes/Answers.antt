@@ -1,12 +1,13 @@
 use Rattle.c_unit.proofs.Common.{◌≡◌, ◌-◌, ◌<◌, ◌≤◌, length, IfOk, slice_get, option_map, ap, ◌∙◌, subst, arith, item_of, module_of}
-use Rattle.c_unit.proofs.Common.{from_helpers}
-use Rattle.c_unit.proofs.Standing.{prototype_there, prototype_past}
+use Rattle.c_unit.proofs.Common.{from_helpers, Some, prototype}
+use Rattle.c_unit.proofs.Standing.{func_there, func_past}
 use Rattle.c_unit.proofs.unit_items.UnitItems.at_prototypes.Goals as goal
 
 pub returns-in_ok-prototype : goal.returns-in_ok-prototype
 returns-in_ok-prototype c =
     let less : c.args.n < length c.args.self.now.source.tree.now.funcs = omega (arith, c.len-count.ensures, c.if-n-count.true) in
-    prototype_there (module_of c.args.self.now.source) c.args.n _ less c.in_ok-prototype.ensures
+    ap Some c.in_ok-prototype.ensures
+    ∙ func_there (module_of c.args.self.now.source) prototype (from_helpers (module_of c.args.self.now.source)) c.args.n less
 
 pub returns-else-n-count : goal.returns-else-n-count
 returns-else-n-count c =
@@ -14,5 +15,5 @@ returns-else-n-count c =
     subst (λ there. IfOk c.at_helpers.result (λ item. option_map item_of item ≡ there))
     (ap (λ k. slice_get (from_helpers (module_of c.args.self.now.source)) k)
     (c.saturating_sub.ensures ∙ ap (λ k. c.args.n - k) c.len-count.ensures)
-    ∙ prototype_past (module_of c.args.self.now.source) c.args.n past)
+    ∙ func_past (module_of c.args.self.now.source) prototype (from_helpers (module_of c.args.self.now.source)) c.args.n past)
     c.at_helpers.ensures

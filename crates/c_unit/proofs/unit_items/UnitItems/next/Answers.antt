@@ -1,5 +1,5 @@
 use Rattle.c_unit.proofs.Common.{◌+◌, option_map, sym, refl, ap, ◌∙◌, arith, item_of, items, module_of}
-use Rattle.c_unit.proofs.Countable.{next_number}
+use Rattle.c_unit.proofs.ItemCounts.{next_number}
 use Rattle.c_unit.proofs.Standing.{gives_next}
 use Rattle.c_unit.proofs.Wholes.{gives_none}
 use Rattle.c_unit.proofs.unit_items.UnitItems.next.Goals as goal

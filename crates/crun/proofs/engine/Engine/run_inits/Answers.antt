@@ -57,10 +57,9 @@ returns-in-Err-clause-asked g c rest =
 
 pub returns-in-Err-clause-most : goal.returns-in-Err-clause-most
 returns-in-Err-clause-most g c =
-    let within = c.loop-k-test.true in
     subst (λ n. c.loop-k.k + 1 ≤ n)
     (inits_count (program_in g.H.HostModule c.args.self.now) (naming_in c.args.self.now) c.args.inits.now c.requires.inits)
-    (omega (arith, within))
+    (omega (arith, c.loop-k-test.true))
 
 pub returns-in-Err-clause-same : goal.returns-in-Err-clause-same
 returns-in-Err-clause-same g c = same_on g.H.HostModule c.args.self.now c.loop-k.invariant.ran.same c.in-Err.ensures.same
@@ -116,10 +115,7 @@ loop-k-preserved g c =
     let n : ℕ = c.loop-k.self.left - c.run_function.new.self.left in
     let ended : FunctionCame g.H.HostModule c.loop-k.self (slice_index_or c.args.inits.now c.loop-k.k (0, 0)).0
     (slice_index_or c.args.inits.now c.loop-k.k (0, 0)).1 [] came.0
-    (outcome.Ended c.in-Ended.field-0) n c.run_function.new.self =
-    subst (λ o. FunctionCame g.H.HostModule c.loop-k.self (slice_index_or c.args.inits.now c.loop-k.k (0, 0)).0
-    (slice_index_or c.args.inits.now c.loop-k.k (0, 0)).1 [] came.0 o n
-    c.run_function.new.self) c.in-Ended.is came.2 in
+    (outcome.Ended c.in-Ended.field-0) n c.run_function.new.self = rw c.in-Ended.is at came.2 in
     let none = gives_none g.H.HostModule c.args.self.now c.loop-k.self c.run_function.new.self c.loop-k.k c.loop-k.invariant.ran
     (slice_index_or c.args.inits.now c.loop-k.k (0, 0)).0 (slice_index_or c.args.inits.now c.loop-k.k (0, 0)).1
     (init_at (program_in g.H.HostModule c.args.self.now) (naming_in c.args.self.now) c.args.inits.now c.requires.inits c.loop-k.k
@@ -135,9 +131,7 @@ loop-k-preserved g c =
           (slice_index_or c.args.inits.now c.loop-k.k (0, 0)).0 (slice_index_or c.args.inits.now c.loop-k.k (0, 0)).1
           (init_at (program_in g.H.HostModule c.args.self.now) (naming_in c.args.self.now) c.args.inits.now c.requires.inits c.loop-k.k
           c.loop-k-test.true)
-          came.0 came.1 c.in-Ok.ensures.fewer (outcome.Ended None) n
-          (subst (λ v. FunctionCame g.H.HostModule c.loop-k.self (slice_index_or c.args.inits.now c.loop-k.k (0, 0)).0
-          (slice_index_or c.args.inits.now c.loop-k.k (0, 0)).1 [] came.0 (outcome.Ended v) n c.run_function.new.self) none ended))
+          came.0 came.1 c.in-Ok.ensures.fewer (outcome.Ended None) n (rw none at ended))
           (subst (λ o. IfEnded o (IsReady g.H.HostModule c.run_function.new.self)) c.in-Ended.is c.in-Ok.ensures.ready)
           c.in-Ok.ensures.same;
       counted = refl;
@@ -159,18 +153,14 @@ returns-clause-ran g c rest none =
 
 pub returns-clause-most : goal.returns-clause-most
 returns-clause-most g c =
-    let within = c.loop-k.auto.k-end in
-    let counted = c.loop-k.invariant.counted in
     subst (λ n. c.loop-k.inits_run ≤ n)
     (inits_count (program_in g.H.HostModule c.args.self.now) (naming_in c.args.self.now) c.args.inits.now c.requires.inits)
-    (omega (arith, within, counted))
+    (omega (arith, c.loop-k.auto.k-end, c.loop-k.invariant.counted))
 
 pub returns-clause-begun : goal.returns-clause-begun
 returns-clause-begun g c =
-    let within = c.loop-k.auto.k-end in
-    let behind = c.loop-k-test.false in
     let counted = c.loop-k.invariant.counted in
-    let all : c.loop-k.inits_run ≡ length c.args.inits.now = omega (arith, within, behind, counted) in
+    let all : c.loop-k.inits_run ≡ length c.args.inits.now = omega (arith, c.loop-k.auto.k-end, c.loop-k-test.false, counted) in
     all ∙ inits_count (program_in g.H.HostModule c.args.self.now) (naming_in c.args.self.now) c.args.inits.now c.requires.inits
 
 pub returns-clause-ended : goal.returns-clause-ended

@@ -14,8 +14,7 @@ returns-clause-ready g c =
     } in
     let counted : HaveCounts (hosts_of g.H.HostModule c.args.hosts.items) c.as_slice-2.result.now =
     subst (HaveCounts (hosts_of g.H.HostModule c.args.hosts.items)) (sym c.as_slice-2.ensures.value)
-    (subst (λ hs. HaveCounts (hosts_of g.H.HostModule hs) c.in_ok-counts.counts.items) c.as_slice.ensures.value
-    c.in_ok-counts.ensures) in
+    (rw c.as_slice.ensures.value at c.in_ok-counts.ensures) in
     let program = is_program g.H.HostModule e c.requires in
     let typed = is_typed g.H.HostModule e c.requires c.unit_count.ensures.checked c.unit_count.ensures.links in
     record {

@@ -10,10 +10,9 @@ put-requires g c = c.loop-i.invariant.0
 
 pub loop-i-preserved : goal.loop-i-preserved
 loop-i-preserved g c =
-    let m = g.H.HostModule in
     let h = c.args.host.now in
     let f = c.function.result.now in
-    let there = symbol_there (m.name_of h) (m.functions_of h) c.loop-i.i f c.in-Ok.symbol c.function.ensures
+    let there = symbol_there (g.H.HostModule.name_of h) (g.H.HostModule.functions_of h) c.loop-i.i f c.in-Ok.symbol c.function.ensures
     (c.in-Ok.ensures ∙ ap (λ n. symbol_in n (function_of f)) c.name.ensures) in (
       c.in-Ok-true.ensures.known,
       more_taken _ _ _ _ c.loop-i.i c.in-Ok.symbol there (c.in-Ok-true.ensures.put c.in-Ok-true.field-0-test) c.loop-i.invariant.1,

@@ -8,11 +8,9 @@ use Rattle.crun.proofs.session.Session.call.Goals as goal
 
 pub invariant_of-self : goal.invariant_of-self
 invariant_of-self g c =
-    let less = c.in-Err.ensures.fewer in
-    let fewer = c.self.invariant.fewer in
     keeps_over g.H.HostModule c.run_symbol.new.self c.self.inside.steps c.self.inside.inits_run
     (still_started g.H.HostModule c.self.inside.engine c.run_symbol.new.self c.in-Err.ensures.same c.self.invariant.started)
-    (omega (arith, less, fewer)) kept.Memory
+    (omega (arith, c.in-Err.ensures.fewer, c.self.invariant.fewer)) kept.Memory
 
 pub returns-in-Err : goal.returns-in-Err
 returns-in-Err g c =
@@ -47,11 +45,9 @@ returns-in-Err g c =
 
 pub invariant_of-self-2 : goal.invariant_of-self-2
 invariant_of-self-2 g c =
-    let less = c.in-Ok.ensures.fewer in
-    let fewer = c.self.invariant.fewer in
     keeps_behind g.H.HostModule c.run_symbol.new.self c.self.inside.steps c.self.inside.inits_run
     (still_started g.H.HostModule c.self.inside.engine c.run_symbol.new.self c.in-Ok.ensures.same c.self.invariant.started)
-    (omega (arith, less, fewer)) c.in-Ok.outcome
+    (omega (arith, c.in-Ok.ensures.fewer, c.self.invariant.fewer)) c.in-Ok.outcome
     c.standing_behind-self-inside.result c.standing_behind-self-inside.ensures c.in-Ok.ensures.ready
 
 pub returns : goal.returns

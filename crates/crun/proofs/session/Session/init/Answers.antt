@@ -18,8 +18,7 @@ returns-in-Err-clause-asked g c rest =
 pub returns-in-Err-clause-most : goal.returns-in-Err-clause-most
 returns-in-Err-clause-most g c =
     let start = c.self.invariant.fresh (is_fresh c.self.inside.standing (ap (λ s. phase_of s.standing) c.self.view_is ∙ c.requires)) in
-    let none = start.none_begun in
-    omega (arith, none)
+    omega (arith, start.none_begun)
 
 pub run_inits-requires-clause-first : goal.run_inits-requires-clause-first
 run_inits-requires-clause-first g c =
@@ -37,11 +36,9 @@ run_inits-requires-clause-inits g c =
 
 pub invariant_of-self-in-Err-run_inits : goal.invariant_of-self-in-Err-run_inits
 invariant_of-self-in-Err-run_inits g c =
-    let less = c.in-Err-run_inits.ensures.fewer in
-    let fewer = c.self.invariant.fewer in
     keeps_over g.H.HostModule c.run_inits.new.self c.self.inside.steps c.run_inits.new.inits_run
     (still_started g.H.HostModule c.self.inside.engine c.run_inits.new.self c.in-Err-run_inits.ensures.same c.self.invariant.started)
-    (omega (arith, less, fewer)) kept.Memory
+    (omega (arith, c.in-Err-run_inits.ensures.fewer, c.self.invariant.fewer)) kept.Memory
 
 pub returns-in-Err-run_inits-clause-most : goal.returns-in-Err-run_inits-clause-most
 returns-in-Err-run_inits-clause-most g c =
@@ -52,18 +49,13 @@ returns-in-Err-run_inits-clause-asked g c rest =
     let start = c.self.invariant.fresh (is_fresh c.self.inside.standing (ap (λ s. phase_of s.standing) c.self.view_is ∙ c.requires)) in
     subst (λ s. (more : List Ask)
     × (asks_in (c_run (program_of g.H.HostModule s) rest s.steps (replies_in c.run_inits.new.self.hosts.journal)).events
-    ≡ map ask_of c.run_inits.new.self.hosts.journal ++ more)) c.self.view_is
-    (subst (λ n. (more : List Ask)
-    × (asks_in (c_run (program_in g.H.HostModule c.self.inside.engine) rest n (replies_in c.run_inits.new.self.hosts.journal)).events
-    ≡ map ask_of c.run_inits.new.self.hosts.journal ++ more)) start.left (c.in-Err-run_inits.ensures.asked rest))
+    ≡ map ask_of c.run_inits.new.self.hosts.journal ++ more)) c.self.view_is (rw start.left at (c.in-Err-run_inits.ensures.asked rest))
 
 pub invariant_of-self-2 : goal.invariant_of-self-2
 invariant_of-self-2 g c =
-    let less = c.in-Ok-run_inits.ensures.fewer in
-    let fewer = c.self.invariant.fewer in
     keeps_behind g.H.HostModule c.run_inits.new.self c.self.inside.steps c.run_inits.new.inits_run
     (still_started g.H.HostModule c.self.inside.engine c.run_inits.new.self c.in-Ok-run_inits.ensures.same c.self.invariant.started)
-    (omega (arith, less, fewer)) c.in-Ok-run_inits.outcome
+    (omega (arith, c.in-Ok-run_inits.ensures.fewer, c.self.invariant.fewer)) c.in-Ok-run_inits.outcome
     c.standing_behind-self-inside.result c.standing_behind-self-inside.ensures c.in-Ok-run_inits.ensures.ready
 
 pub returns-clause-stands : goal.returns-clause-stands
@@ -82,9 +74,5 @@ returns-clause-stands g c ready =
           (c.self.inside.steps - c.run_inits.new.self.left) (entries_of p [])
           (Init (c.run_inits.new.inits_run - 1)) (events_in c.run_inits.new.self.hosts.journal))
           (sym (same_program g.H.HostModule c.self.inside.engine c.run_inits.new.self c.in-Ok-run_inits.ensures.same))
-          (subst (λ n. BehindAt (program_in g.H.HostModule c.self.inside.engine) c.run_inits.new.self.depth
-          (units_at c.run_inits.new.self) c.run_inits.new.self.hosts.journal (n - c.run_inits.new.self.left)
-          (entries_of (program_in g.H.HostModule c.self.inside.engine) []) (Init (c.run_inits.new.inits_run - 1))
-          (events_in c.run_inits.new.self.hosts.journal))
-          start.left ended.1);
+          (rw start.left at ended.1);
     }

@@ -1,5 +1,5 @@
-use Rattle.crun_job.proofs.Common.{map, length, sym, refl, ap, ◌∙◌, subst, unit_of, c_symbols, call_lines_of, seen_run, AreCalls}
-use Rattle.crun_job.proofs.Common.{IsFirstRefusedLine, AreLinked, IsWithin, RefusesUnits, calls_seen, reason_of, StopsUnit}
+use Rattle.crun_job.proofs.Common.{map, length, sym, refl, ap, ◌∙◌, subst, unit_of, c_symbols, seen_run, AreLinked, IsWithin, RefusesUnits}
+use Rattle.crun_job.proofs.Common.{reason_of, StopsUnit}
 use Rattle.w2c_files.specs.Words.{names_of}
 use Rattle.crun_job.proofs.Tasks.{unit_stops}
 use Rattle.crun_job.proofs.task.Task.of_inputs.Goals as goal
@@ -22,16 +22,14 @@ returns-in-Err-Line-clause-stop c =
     let units = map unit_of c.in-Ok.linked.0 in (
       units,
       subst (λ ts. AreLinked ts (c_symbols c.args.hosts.now) units) c.as_slice.ensures.value c.in-Ok.ensures.units,
-      subst (λ t. IsFirstRefusedLine units (call_lines_of t) c.in-Err-Line.number) c.as_slice-2.ensures
-          (rw c.in-Err-Line.field-0-is at c.in-Err-Line.ensures.first),
+      rw (c.in-Err-Line.field-0-is, c.as_slice-2.ensures) at c.in-Err-Line.ensures.first,
     )
 
 pub returns-clause-task : goal.returns-clause-task
 returns-clause-task c =
     let units = map unit_of c.in-Ok.linked.0 in (
       subst (λ ts. AreLinked ts (c_symbols c.args.hosts.now) units) c.as_slice.ensures.value c.in-Ok.ensures.units,
-      subst (λ t. AreCalls units (call_lines_of t) (calls_seen c.in-Ok-read_calls.calls.items)) c.as_slice-2.ensures
-          c.in-Ok-read_calls.ensures.calls,
+      rw c.as_slice-2.ensures at c.in-Ok-read_calls.ensures.calls,
       refl,
       refl,
     )

@@ -1,6 +1,0 @@
-use Rattle.std.proofs.Common.{drop}
-use Rattle.c_body.proofs.CalledHelpers.{EntersBodies}
-use Rattle.c_body.proofs.needs.called.Given as goal
-
-abbrev pub invariant-loop-body : goal.invariant-loop-body
-invariant-loop-body l = EntersBodies l.table (drop l.body-index l.m.bodies) l.m.bodies

@@ -1,5 +1,0 @@
-use Rattle.c_body.proofs.CalledHelpers.{known_helpers}
-use Rattle.c_body.proofs.needs.helpers.Goals as goal
-
-pub returns : goal.returns
-returns c = known_helpers c.in_ok-table.table c.args.m.now c.in_ok-list.list.items c.in_ok-table.ensures c.in_ok-list.ensures

@@ -1,0 +1,17 @@
+-- What crates above cite.
+pub mod Small
+pub mod Numberings
+pub mod Countable
+pub mod Fits
+pub mod LookUps
+pub mod InitLabelsDiffer
+pub mod NoFaults
+-- What the crate's own proofs cite.
+mod Common
+mod Counts
+mod Takes
+mod ByteLoops
+mod Constants
+mod Somes
+mod FuncNames
+mod InitParts

@@ -1,0 +1,16 @@
+use Rattle.std.proofs.Common.{sym}
+use Rattle.c_init.proofs.Countable.{few_entries}
+use Rattle.c_init.proofs.source.Source.new.Goals as goal
+
+pub invariant_of-result-clause-few_entries : goal.invariant_of-result-clause-few_entries
+invariant_of-result-clause-few_entries c =
+    few_entries c.module-tree.result.now c.module-tree.ensures.valid c.module-tree.ensures.within
+
+pub invariant_of-result-clause-spaces_are : goal.invariant_of-result-clause-spaces_are
+invariant_of-result-clause-spaces_are c = c.in_ok-spaces.ensures
+
+pub invariant_of-result-clause-func_symbols_are : goal.invariant_of-result-clause-func_symbols_are
+invariant_of-result-clause-func_symbols_are c = c.in_ok-func_symbols.ensures
+
+pub invariant_of-result-clause-checked_is : goal.invariant_of-result-clause-checked_is
+invariant_of-result-clause-checked_is c = sym c.module-tree.ensures.same

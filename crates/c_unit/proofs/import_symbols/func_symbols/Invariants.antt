@@ -1,6 +1,0 @@
-use Rattle.c_unit.proofs.Common.{◌≡◌, ◌++◌, map, drop, filter, is_func_import, func_imports, import_symbol}
-use Rattle.c_unit.proofs.import_symbols.func_symbols.Given as goal
-
-abbrev pub invariant-loop-import : goal.invariant-loop-import
-invariant-loop-import l = l.names.items ++ map import_symbol
-    (filter is_func_import (drop l.import-index l.m.imports)) ≡ map import_symbol (func_imports l.m)

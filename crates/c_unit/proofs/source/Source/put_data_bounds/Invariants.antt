@@ -1,7 +1,0 @@
-use Rattle.c_unit.proofs.Common.{◌≡◌, ◌++◌, map, drop, flat_map, stmt_of, test_data}
-use Rattle.c_unit.proofs.source.Source.put_data_bounds.Given as goal
-
-abbrev pub invariant-loop-segment : goal.invariant-loop-segment
-invariant-loop-segment l = map stmt_of l.stmts ++ flat_map (test_data l.self.tree.now)
-    (drop l.segment-index l.self.tree.now.segments) ≡ map stmt_of l.fn.stmts ++ flat_map (test_data l.self.tree.now)
-    l.self.tree.now.segments

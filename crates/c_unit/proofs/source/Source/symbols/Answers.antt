@@ -1,5 +1,0 @@
-use Rattle.std.proofs.Common.{◌∙◌}
-use Rattle.c_unit.proofs.source.Source.symbols.Goals as goal
-
-pub returns : goal.returns
-returns c = c.symbols.ensures ∙ c.args.self.now.spaces_are

@@ -1,0 +1,21 @@
+-- What crates above cite.
+pub mod Held
+-- What the crate's own proofs cite.
+mod Common
+mod InitStatements
+mod InitRuns
+mod InitObjects
+mod InitConstants
+mod InitTests
+mod OwnObjects
+mod LimitTests
+mod TakeTasks
+mod AllTaken
+mod MakeTasks
+mod Surroundings
+mod SegmentTests
+mod ElementWrites
+mod DataWrites
+mod StartTasks
+mod InitLabels
+mod Tasks

@@ -1,0 +1,3 @@
+-- promised: cited by the laws
+pub mod Sets
+pub mod Instantiation

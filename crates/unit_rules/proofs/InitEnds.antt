@@ -1,0 +1,43 @@
+-- The init function ends by a return or by a trap.
+use Rattle.unit_rules.proofs.Common.{◌≡◌, Bool, true, false, not, List, [], ◌∷◌, ◌++◌, map, filter, flat_map, refl, numbered}
+use Rattle.unit_rules.proofs.Common.{is_func_import, NamedModule, ends_well, bounds_label, init_stmts, limits_label, make_global}
+use Rattle.unit_rules.proofs.Common.{make_memory, make_table, start_stmts, takes_from, test_data, test_elements, tests_bounds, tests_limits}
+use Rattle.unit_rules.proofs.Common.{trap_if, write_data, write_elements}
+use Rattle.w2c_base.specs.declared.trap.TrapKind.TheVariants as trap
+use Rattle.c_tree.specs.Tree as tree
+use Rattle.c_tree.specs.Makers as makers
+
+-- some statements that end well
+abbrev Ends : List tree.Stmt → Type 0
+Ends [] = ⊥
+Ends (x ∷ stmts) = ends_well (x ∷ stmts) ≡ true
+
+behind : (before stmts : List tree.Stmt) → Ends stmts → Ends (before ++ stmts)
+behind [] stmts e = e
+behind (x ∷ []) [] e = absurd e
+behind (x ∷ []) (y ∷ stmts) e = e
+behind (x ∷ z ∷ before) stmts e = behind (z ∷ before) stmts e
+
+whole : (stmts : List tree.Stmt) → Ends stmts → ends_well stmts ≡ true
+whole [] e = absurd e
+whole (x ∷ stmts) e = e
+
+traps_end : (b c : Bool) → Ends (tree.ReturnNone ∷ [] ++
+    (trap_if b limits_label (makers.trap trap.ImportLimits) ++ trap_if c bounds_label (makers.trap trap.SegmentOut)))
+traps_end true true = refl
+traps_end true false = refl
+traps_end false true = refl
+traps_end false false = refl
+
+pub init_ends : (m : NamedModule) → ends_well (init_stmts m) ≡ true
+init_ends m = whole (init_stmts m)
+    (behind (tree.Null ∷ []) _
+    (behind (takes_from m 0 (filter (λ i. not (is_func_import i)) m.tree.imports)) _
+    (behind (map (λ t. make_table t.limits) m.tree.tables) _
+    (behind (map (λ t. make_memory t.limits) m.tree.memories) _
+    (behind (map (make_global m.tree) (numbered m.tree.globals)) _
+    (behind (flat_map (test_elements m.tree) m.tree.elements) _
+    (behind (flat_map (test_data m.tree) m.tree.segments) _
+    (behind (flat_map (write_elements m.tree) m.tree.elements) _
+    (behind (flat_map (write_data m.tree) (numbered m.tree.segments)) _
+    (behind (start_stmts m m.tree.start) _ (traps_end (tests_limits m.tree) (tests_bounds m.tree))))))))))))
