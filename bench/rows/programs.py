@@ -208,6 +208,24 @@ PAST = module(memories=[limits(1)], data=[segment(0, b"A"), segment(65536, b"\0"
 Row("segment past the end", "linked").module("s.wasm", PAST).translates("s").calls("s.c", 1, [""], "init 1 trap 10 segment out of bounds")
 Row("segment past the end, its state", "linked", "state").module("s.wasm", PAST).translates("s").text("none", "").crun(
     "none --state s.c", 1, "init 1 trap 10 segment out of bounds", "state 0 m0 pages 1")
+# With more than a hundred of a kind the init function calls parts of a hundred each.
+def many(globals_, bytes_, elements, *more):
+    """So many globals, data segments of a byte, and elements, each with its number, and data segments behind them."""
+    return module(types=[func_type("", "i"), func_type("i", "i")], funcs=[0, 1, 1] + [0] * elements, tables=[limits(elements)],
+                  memories=[limits(1)], globals_=[global_type("i", 0) + i32(k) + b"\x0B" for k in range(globals_)],
+                  exports=[exported("last", 0, 0), exported("byte", 0, 1), exported("call", 0, 2)],
+                  elements=[element(0, range(3, 3 + elements // 2)), element(elements // 2, range(3 + elements // 2, 3 + elements))],
+                  bodies=[body(b"\x23" + unsigned(globals_ - 1)), body(local(0), b"\x2D\0\0"), body(local(0), b"\x11\0\0")]
+                  + [body(i32(k)) for k in range(elements)],
+                  data=[segment(k, bytes([k % 256])) for k in range(bytes_)] + list(more))
+for count in (100, 101, 250):
+    row = Row(f"{count} globals, segments and elements", "linked").module("p.wasm", many(count, count, count)).translates("p")
+    row.calls("p.c", 0, ["p last", f"p byte {count - 1}", f"p byte {count}", f"p call {count - 1}", "p call 0"],
+              f"call 1 = i32:{count - 1}", f"call 2 = i32:{count - 1}", "call 3 = i32:0", f"call 4 = i32:{count - 1}", "call 5 = i32:0")
+for count in (99, 100, 200):
+    row = Row(f"segment past the end behind {count} others, its state", "linked", "state")
+    row.module("s.wasm", many(1, count, 4, segment(65536, b"\0"))).translates("s").text("none", "").crun(
+        "none --state s.c", 1, "init 1 trap 10 segment out of bounds", "state 0 g0 u32:0", "state 0 m0 pages 1", "state 0 t0 length 4")
 GROWTH = module(types=[func_type("i", "i")], funcs=[0], memories=[limits(1, 2)], exports=[exported("grow", 0, 0)],
                 bodies=[body(local(0), b"\x40\x00")])
 Row("growth", "linked").module("g.wasm", GROWTH).translates("g").calls(
