@@ -208,7 +208,7 @@ PAST = module(memories=[limits(1)], data=[segment(0, b"A"), segment(65536, b"\0"
 Row("segment past the end", "linked").module("s.wasm", PAST).translates("s").calls("s.c", 1, [""], "init 1 trap 10 segment out of bounds")
 Row("segment past the end, its state", "linked", "state").module("s.wasm", PAST).translates("s").text("none", "").crun(
     "none --state s.c", 1, "init 1 trap 10 segment out of bounds", "state 0 m0 pages 1")
-# With more than a hundred of a kind the init function calls parts of a hundred each.
+# Many entries of each kind, and bounds of all before any write.
 def many(globals_, bytes_, elements, *more):
     """So many globals, data segments of a byte, and elements, each with its number, and data segments behind them."""
     return module(types=[func_type("", "i"), func_type("i", "i")], funcs=[0, 1, 1] + [0] * elements, tables=[limits(elements)],
