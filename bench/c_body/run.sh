@@ -6,7 +6,7 @@ set -e
 here=$(cd "$(dirname "$0")" && pwd)
 work=$(mktemp -d)
 trap 'rm -rf "$work"' EXIT
-sh "$here/../copy_crates.sh" "$work" w2c_base leb_bytes w2c_mangle name_table wasm_tree wasm_typing wasm_spelling wasm_binary wasm_valid c_tree \
+sh "$here/../copy_crates.sh" "$work" w2c_base leb_bytes w2c_mangle name_table wasm_tree wasm_typing wasm_spelling wasm_binary body_check wasm_valid c_tree \
     c_helpers c_symbols body_emitter c_body
 mkdir -p "$work/crates/c_body_bench/src"
 cp "$here/main.rt.txt" "$work/crates/c_body_bench/src/main.rt"

@@ -6,7 +6,7 @@ set -e
 here=$(cd "$(dirname "$0")" && pwd)
 work=$(mktemp -d)
 trap 'rm -rf "$work"' EXIT
-sh "$here/../copy_crates.sh" "$work" w2c_base leb_bytes wasm_tree wasm_typing wasm_spelling wasm_writing wasm_valid w2c_gen
+sh "$here/../copy_crates.sh" "$work" w2c_base leb_bytes wasm_tree wasm_typing wasm_spelling wasm_writing body_check wasm_valid w2c_gen
 mkdir -p "$work/crates/w2c_gen_bench/src"
 cp "$here/main.rt.txt" "$work/crates/w2c_gen_bench/src/main.rt"
 echo 'w2c_gen_bench: w2c_base w2c_gen' >>"$work/crates.txt"

@@ -20,7 +20,7 @@ use w2c_base::{Memory, ValType};
 use wasm_tree::ElsePart;
 
 impl Emitter {
-    // What is kept of the place before a block.
+    /// What is kept of the place before a block: its first label, the floor of the operands, and the next statement's place.
     pub fn opening(&self) -> Opening
         requires { self.now.labels + 1 < 2 ^ 64 }
         ensures { IsOpening result self.now }
@@ -51,6 +51,7 @@ impl Emitter {
         Ok(())
     }
 
+    /// A block begins (WebAssembly 1.0, 4.4.5), whose end a label of its own names. A want of memory is the only error.
     #[tactic(auto, using(crate::proofs::Insides::inside_same))]
     pub fn open_block(&mut self, value: Option<ValType>) -> Result<(), Memory>
         requires { self.old.labels + 1 < 2 ^ 64 }
@@ -61,6 +62,7 @@ impl Emitter {
         self.open(own, value)
     }
 
+    /// A loop begins, at a label of its own, to which its branches go back. A want of memory is the only error.
     #[tactic(auto, using(crate::proofs::Insides::inside_same))]
     pub fn open_loop(&mut self) -> Result<(), Memory>
         requires { self.old.labels + 1 < 2 ^ 64 }
@@ -72,7 +74,8 @@ impl Emitter {
         self.open(own, None)
     }
 
-    // The first branch of an `if`, behind its operand.
+    /// The first branch of an `if` begins behind its operand (WebAssembly 1.0, 4.4.5): a jump to the other branch, or to the end
+    /// where there is none, and two labels more. A want of memory is the only error, here and below.
     #[tactic(auto, using(crate::proofs::Insides::inside_same))]
     pub fn open_first(
         &mut self,
@@ -107,7 +110,7 @@ impl Emitter {
         if falls { self.put_goto(to) } else { Ok(()) }
     }
 
-    // The second branch of an `if`. It says whether the first one comes to its end.
+    /// The second branch of an `if` begins, behind the jump over it. It says whether the first one comes to its end.
     #[tactic(auto, using(crate::proofs::Insides::inside_then_same))]
     pub fn open_second(&mut self, at: Opening) -> Result<bool, Memory>
         ensures falls { IfOk result (λ falls. falls ≡ not self.old.is_dead) }
@@ -138,6 +141,7 @@ impl Emitter {
         named
     }
 
+    /// A block ends that `open_block` began: its label, where a branch names it, and its value. `at` is what `opening` gave.
     pub fn end_block(&mut self, at: Opening, value: Option<ValType>) -> Result<(), Memory>
         requires { at.floor ≤ self.old.operands.floor }
         ensures made { (outer : Place) → IsOpening at outer → Inside outer.operands self.old.operands
@@ -160,6 +164,7 @@ impl Emitter {
         }
     }
 
+    /// A loop ends: its label goes where no branch names it, and its value comes.
     pub fn end_loop(&mut self, at: Opening, value: Option<ValType>) -> Result<(), Memory>
         requires { at.floor ≤ self.old.operands.floor }
         ensures made { (outer : Place) → IsOpening at outer → Inside outer.operands self.old.operands
@@ -171,6 +176,7 @@ impl Emitter {
         self.give(value)
     }
 
+    /// An `if` without a second branch ends: the label of its end, and its value.
     pub fn end_first(&mut self, at: Opening, value: Option<ValType>) -> Result<(), Memory>
         requires { at.floor ≤ self.old.operands.floor }
         ensures made { (outer : Place) → IsOpening at outer → Inside outer.operands self.old.operands
@@ -182,6 +188,7 @@ impl Emitter {
         self.give(value)
     }
 
+    /// The second branch of an `if` ends: the label behind both, where one of them comes there or a branch names it, and the value.
     pub fn end_second(
         &mut self,
         at: Opening,

@@ -1,15 +1,11 @@
 -- What proofs of this crate cite of std, of the crates below and of specs/, passed on from one place. Declares nothing.
 pub use Rattle.std.proofs.Common.{◌≡◌, ℕ, ◌+◌, ◌*◌, ◌<◌, ◌≤◌, Bool, true, false, not, ◌&&◌, ◌||◌, List, [], ◌∷◌, ◌++◌, map, length, get_or}
-pub use Rattle.std.proofs.Common.{drop, ℤ, pos, negsuc, is_some, if◌then◌else◌, OnOk, Some, None, filter, Option, bytes_eq, sym, refl, ap}
-pub use Rattle.std.proofs.Common.{◌∙◌, subst, append_assoc, arith, w32, w64}
+pub use Rattle.std.proofs.Common.{drop, ℤ, pos, negsuc, if◌then◌else◌, Some, None, filter, Option, bytes_eq, sym, refl, ap}
+pub use Rattle.std.proofs.Common.{◌∙◌, subst, append_assoc, arith, w32, w64, set, replicate, slice_get, inl, inr, rules}
 pub use Rattle.std.proofs.Math.Bool.{or-false, or_assoc}
-pub use Rattle.std.proofs.lemmas.List.{drop_all, drop_more}
-pub use Rattle.std.proofs.lemmas.Result.{on_ok_weaker}
+pub use Rattle.std.proofs.lemmas.List.{drop_all, drop_more, get_or-set_other, get_or-set_same}
 pub use Rattle.std.specs.List.{list_any}
-pub use Rattle.std.specs.Option.{option_or}
 pub use Rattle.w2c_base.proofs.Grown.{read_again}
-pub use Rattle.w2c_base.proofs.Tests.{bytes_eq-sym}
-pub use Rattle.w2c_base.specs.Lookup.{named}
 pub use Rattle.w2c_base.specs.Values.{pattern_of}
 pub use Rattle.wasm_tree.proofs.CodeSizes.{instr_smaller}
 pub use Rattle.wasm_tree.specs.Accesses.{load_access, store_access}
@@ -21,11 +17,10 @@ pub use Rattle.wasm_tree.specs.declared.entries.BodyEntry.{BodyEntry}
 pub use Rattle.wasm_tree.specs.declared.operators.LoadOp.{LoadOp}
 pub use Rattle.wasm_tree.specs.declared.operators.StoreOp.{StoreOp}
 pub use Rattle.wasm_tree.specs.declared.tree.Module.{Module}
-pub use Rattle.c_tree.specs.Scope.{Name}
 pub use Rattle.c_tree.specs.declared.tree.CType.{CType}
-pub use Rattle.c_helpers.specs.Called.{HasMore, KnowsCalls, is_known}
+pub use Rattle.c_helpers.specs.Called.{HasMore, KnowsCalls, marked}
 pub use Rattle.c_helpers.specs.Helpers.{local, param, helper_of}
-pub use Rattle.c_helpers.specs.Needed.{calls, calls_helper, helpers_of, named_by}
+pub use Rattle.c_helpers.specs.Needed.{calls_helper, helpers_of, named_by}
 pub use Rattle.c_helpers.specs.Pieces.{all_placed, staged, made_by}
 pub use Rattle.c_helpers.specs.Steps.{element_for, operator_step, step_helper, step_of}
 pub use Rattle.c_helpers.specs.Translated.{any_in, any_inside, ends}

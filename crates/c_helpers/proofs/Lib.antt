@@ -5,5 +5,6 @@ mod Common
 mod Accesses
 mod Whole
 mod CalledHelpers
+mod HelperNumbers
 mod Patterns
 mod StepOfKind

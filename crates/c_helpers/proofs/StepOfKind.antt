@@ -1,7 +1,7 @@
 -- The step of an instruction that has an operator, or of none.
 use Rattle.c_helpers.proofs.Common.{◌≡◌, ℤ, refl, kind_tree, operator_step, step_of}
-use Rattle.wasm_tree.specs.declared.code.Kind.{Kind as RustKind}
-use Rattle.wasm_tree.specs.declared.code.Kind.TheVariants as kind
+use Rattle.wasm_tree.specs.declared.operators.Kind.{Kind as RustKind}
+use Rattle.wasm_tree.specs.declared.operators.Kind.TheVariants as kind
 use Rattle.wasm_tree.specs.Parts.{parts_of}
 
 -- the step of an instruction that has an operator, or of none

@@ -1,21 +1,20 @@
--- Tables of the names of the helpers that bodies call.
-use Rattle.std.specs.Prelude.{◌≡◌, ◌||◌, Bool, List, is_some}
+-- Marks of the helpers that bodies call.
+use Rattle.std.specs.Prelude.{◌≡◌, ◌||◌, Bool, false, List, get_or}
 use Rattle.std.specs.List.{list_any}
-use Rattle.w2c_base.specs.Lookup.{named}
 use Rattle.wasm_tree.specs.declared.tree.Module.{Module}
-use Rattle.c_tree.specs.Scope.{Name}
 use Rattle.c_helpers.specs.declared.operation.Helper.{Helper}
-use Rattle.c_helpers.specs.Helpers.{helper_of}
+use Rattle.c_helpers.specs.Numbers.{number_of}
 use Rattle.c_helpers.specs.Translated.{any_in}
-use Rattle.c_helpers.specs.Needed.{calls}
+use Rattle.c_helpers.specs.Needed.{calls_helper}
 
--- the names of a table and those that pass a test
-abbrev pub HasMore : {A : Type 0} → List (Name × A) → List (Name × A) → (Name → Bool) → Type 0
-HasMore after before more = (name : Name) → is_some (named name after) ≡ (is_some (named name before) || more name)
+-- a helper is marked at its place in the list of all
+abbrev pub marked : List Bool → Helper → Bool
+marked marks which = get_or marks (number_of which) false
 
-abbrev pub is_known : {A : Type 0} → List (Name × A) → Helper → Bool
-is_known table which = is_some (named (helper_of which).name table)
+-- the helpers that were marked and those that pass a test
+abbrev pub HasMore : List Bool → List Bool → (Helper → Bool) → Type 0
+HasMore after before more = (which : Helper) → marked after which ≡ (marked before which || more which)
 
--- the helpers of these names are called
-abbrev pub KnowsCalls : {A : Type 0} → List (Name × A) → Module → Type 0
-KnowsCalls table m = (name : Name) → is_some (named name table) ≡ list_any (λ b. any_in (calls name) b.code) m.bodies
+-- the helpers that are marked are called
+abbrev pub KnowsCalls : List Bool → Module → Type 0
+KnowsCalls marks m = (which : Helper) → marked marks which ≡ list_any (λ b. any_in (calls_helper which) b.code) m.bodies

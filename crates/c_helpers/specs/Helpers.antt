@@ -13,10 +13,10 @@ use Rattle.c_tree.specs.Makers.{zero_number}
 use Rattle.c_tree.specs.TypesInC.{c_type_of}
 use Rattle.c_helpers.specs.declared.operation.Helper.{Helper}
 use Rattle.c_helpers.specs.declared.operation.Helper.TheVariants as helper
-use Rattle.c_helpers.specs.declared.rows.Form.{Form}
-use Rattle.c_helpers.specs.declared.rows.Form.TheVariants.{DivS, DivU, RemS, RemU, ShrS, Rotl, Rotr, Clz, Ctz, Popcnt, LtS, GtS, LeS, GeS}
-use Rattle.c_helpers.specs.declared.rows.Form.TheVariants.{ExtendS, Extend8S, Extend16S, Extend32S}
-use Rattle.c_helpers.specs.declared.rows.Row.{Row}
+use Rattle.c_helpers.specs.declared.operation.Form.{Form}
+use Rattle.c_helpers.specs.declared.operation.Form.TheVariants.{DivS, DivU, RemS, RemU, ShrS, Rotl, Rotr, Clz, Ctz, Popcnt, LtS, GtS, LeS}
+use Rattle.c_helpers.specs.declared.operation.Form.TheVariants.{GeS, ExtendS, Extend8S, Extend16S, Extend32S}
+use Rattle.c_helpers.specs.declared.operation.Row.{Row}
 use Rattle.c_helpers.specs.declared.piece.Piece.{Piece}
 use Rattle.c_helpers.specs.declared.number_tables.TheConstants.{LT_S, GT_S, LE_S, GE_S, DIV_U, REM_U, DIV_S, REM_S, SHR_S, ROTL, ROTR}
 use Rattle.c_helpers.specs.declared.number_tables.TheConstants.{CLZ_STAGE, CTZ_STAGE, COUNT_END, POPCNT_STAGE, POPCNT_END, EXTEND_S}

@@ -9,4 +9,5 @@ pub mod Needed
 -- statements by hand, for closed cases alone
 pub mod Samples
 -- of the code and the proofs alone
+pub mod Numbers
 pub mod Called

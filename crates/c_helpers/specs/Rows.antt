@@ -15,10 +15,10 @@ use Rattle.wasm_tree.specs.declared.operators.StoreOp.{StoreOp}
 use Rattle.wasm_tree.specs.declared.operators.StoreOp.TheVariants as store
 use Rattle.c_helpers.specs.declared.operation.NumOp.{NumOp}
 use Rattle.c_helpers.specs.declared.operation.NumOp.TheVariants as num
-use Rattle.c_helpers.specs.declared.rows.Form.{Form}
-use Rattle.c_helpers.specs.declared.rows.Form.TheVariants.{DivS, DivU, RemS, RemU, ShrS, Rotl, Rotr, Clz, Ctz, Popcnt, LtS, GtS, LeS, GeS}
-use Rattle.c_helpers.specs.declared.rows.Form.TheVariants.{ExtendS, Extend8S, Extend16S, Extend32S}
-use Rattle.c_helpers.specs.declared.rows.Row.{Row}
+use Rattle.c_helpers.specs.declared.operation.Form.{Form}
+use Rattle.c_helpers.specs.declared.operation.Form.TheVariants.{DivS, DivU, RemS, RemU, ShrS, Rotl, Rotr, Clz, Ctz, Popcnt, LtS, GtS, LeS}
+use Rattle.c_helpers.specs.declared.operation.Form.TheVariants.{GeS, ExtendS, Extend8S, Extend16S, Extend32S}
+use Rattle.c_helpers.specs.declared.operation.Row.{Row}
 
 abbrev row : ValType → Form → Row
 row t form = record { ty = t; form = form }

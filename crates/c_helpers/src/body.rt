@@ -1,14 +1,9 @@
-// The parts of a helper by its form: operands, local variables, sizes of stages, and tables.
+// What the body of a helper of numbers is made for, by its form: operands, local variables, and sizes of stages.
 ghost use Rattle.std.specs.Prelude.{◌≡◌};
 ghost use Rattle.c_tree.specs.TypesInC.{c_type_of};
 ghost use Rattle.c_helpers.specs.Helpers as of;
 
-use crate::number_tables::{
-    CLZ_STAGE, COUNT_END, CTZ_STAGE, DIV_S, DIV_U, EXTEND_LOW_S, EXTEND_S, GE_S, GT_S, LE_S, LT_S,
-    POPCNT_END, POPCNT_STAGE, REM_S, REM_U, ROTL, ROTR, SHR_S,
-};
-use crate::piece::Piece;
-use crate::rows::{Form, Row};
+use crate::operation::{Form, Row};
 use c_tree::{CType, c_type};
 use w2c_base::ValType;
 
@@ -76,41 +71,6 @@ pub fn sizes(row: Row) -> &'static [u32]
         (Form::Clz | Form::Ctz, ValType::I64) => &[32, 16, 8, 4, 2, 1],
         (Form::Popcnt, _) => &[1, 2, 4],
         _ => &[],
-    }
-}
-
-/// The pieces of each stage.
-pub fn stage(form: Form) -> &'static [Piece]
-    ensures { result.now ≡ of.stage_of form }
-{
-    match form {
-        Form::Clz => &CLZ_STAGE,
-        Form::Ctz => &CTZ_STAGE,
-        Form::Popcnt => &POPCNT_STAGE,
-        _ => &[],
-    }
-}
-
-/// The pieces behind the stages.
-pub fn end(form: Form) -> &'static [Piece]
-    ensures { result.now ≡ of.end_of form }
-{
-    match form {
-        Form::DivS => &DIV_S,
-        Form::DivU => &DIV_U,
-        Form::RemS => &REM_S,
-        Form::RemU => &REM_U,
-        Form::ShrS => &SHR_S,
-        Form::Rotl => &ROTL,
-        Form::Rotr => &ROTR,
-        Form::Clz | Form::Ctz => &COUNT_END,
-        Form::Popcnt => &POPCNT_END,
-        Form::LtS => &LT_S,
-        Form::GtS => &GT_S,
-        Form::LeS => &LE_S,
-        Form::GeS => &GE_S,
-        Form::ExtendS => &EXTEND_S,
-        Form::Extend8S | Form::Extend16S | Form::Extend32S => &EXTEND_LOW_S,
     }
 }
 

@@ -8,13 +8,13 @@ mod body;
 mod builder;
 mod cases;
 mod make;
+mod marks;
 mod needs;
 mod number_tables;
 mod object_tables;
 mod operation;
 mod parts;
 mod piece;
-mod rows;
 mod steps;
 
 pub use cases::tree_cases;

@@ -6,13 +6,13 @@ ghost use Rattle.c_helpers.specs.Helpers.{access_stmts, helper_of};
 ghost use Rattle.c_helpers.specs.Bodies.{locals_of, stmts_of};
 ghost use Rattle.c_helpers.specs.Helpers as of;
 
-use crate::body::{Variable, end, end_size, number_locals, operands, result_type, sizes, stage};
+use crate::body::{Variable, end_size, number_locals, operands, result_type, sizes};
 use crate::builder::Builder;
+use crate::number_tables::{end, stage};
 use crate::object_tables::{ACCESS, COPY, ELEMENT, FILL, LOAD, LOAD_S, SIZE, STORE};
-use crate::operation::Helper;
+use crate::operation::{Helper, form_name, load_name, number_row, prefix, store_name};
 use crate::parts::letter;
 use crate::piece::{Piece, Setting};
-use crate::rows::{form_name, load_name, number_row, prefix, store_name};
 use c_tree::{Body, CType, Func, Locals, Name, Params, Stmts, c_type, name_of, zero_number};
 use std::alloc::Global;
 use w2c_base::{Memory, ValType};
@@ -36,8 +36,7 @@ pub fn helper_name(alloc: Global, which: Helper) -> Result<Name, Memory>
     match which {
         Helper::Num(op) => {
             let row = number_row(op);
-            let mut name = name_of(alloc, prefix(row.ty))?;
-            name.extend(form_name(row.form))?;
+            let name = Name::joined(alloc, prefix(row.ty), form_name(row.form))?;
             Ok(name)
         }
         Helper::Load(op) => name_of(alloc, load_name(op)),

@@ -1,17 +1,17 @@
 // The helpers that the bodies of a module call.
 ghost use Rattle.std.specs.Prelude.{◌≡◌, ◌++◌, ◌||◌, ◌∷◌, [], filter, IfOk, OnOk};
 ghost use Rattle.wasm_tree.specs.Views.{kind_tree, otherwise_tree};
-ghost use Rattle.c_helpers.specs.Called.{HasMore, KnowsCalls, is_known};
+ghost use Rattle.c_helpers.specs.Called.{HasMore, KnowsCalls, marked};
+ghost use Rattle.c_helpers.specs.Helpers.{helper_of};
 ghost use Rattle.c_helpers.specs.Translated as translated;
-ghost use Rattle.c_helpers.specs.Needed.{calls, helpers_of, named_by};
+ghost use Rattle.c_helpers.specs.Needed.{calls_helper, helpers_of, named_by};
 ghost use Rattle.c_helpers.specs.Ways as ways;
 ghost use Rattle.c_helpers.specs.Translated.{ends as ends_it};
 ghost use Rattle.c_helpers.specs.Steps as steps;
 
-use crate::make::helper_name;
+use crate::marks::Marks;
 use crate::operation::{HELPERS, Helper, NumOp};
 use crate::steps::{Step, Way, step_of};
-use name_table::{NameTable, Salted};
 use std::alloc::Global;
 use w2c_base::Memory;
 use wasm_tree::{Code, ElsePart, Kind, Module};
@@ -75,88 +75,74 @@ fn ends(kind: &Kind) -> bool
     }
 }
 
-#[tactic(auto, using(crate::proofs::CalledHelpers::nothing_more, crate::proofs::CalledHelpers::one_more))]
-fn enter(alloc: Global, table: &mut NameTable<()>, which: Option<Helper>) -> Result<(), Memory>
-    ensures { OnOk result (HasMore table.new table.old (λ name. named_by name which)) }
+#[tactic(auto, using(crate::proofs::CalledHelpers::nothing_more))]
+fn enter(marks: &mut Marks, which: Option<Helper>)
+    ensures { HasMore marks.new marks.old (λ q. named_by (helper_of q).name which) }
 {
     match which {
-        None => Ok(()),
-        Some(which) => {
-            let name = helper_name(alloc, which)?;
-            table.enter(alloc, name.as_slice(), ())
-        }
+        None => {}
+        Some(which) => marks.mark(which),
     }
 }
 
 // The helpers of code that is translated.
 #[cycle(needs)]
-fn enter_code(alloc: Global, table: &mut NameTable<()>, code: &Code) -> Result<(), Memory>
-    ensures { OnOk result (HasMore table.new table.old (λ name. translated.any_in (calls name) code.now)) }
+fn enter_code(marks: &mut Marks, code: &Code)
+    ensures { HasMore marks.new marks.old (λ q. translated.any_in (calls_helper q) code.now) }
 {
     for instr in code.as_slice() {
-        enter(alloc, table, helper_for(&instr.kind))?;
-        enter_inside(alloc, table, &instr.kind)?;
+        enter(marks, helper_for(&instr.kind));
+        enter_inside(marks, &instr.kind);
         if ends(&instr.kind) {
-            return Ok(());
+            return;
         }
     }
-    Ok(())
 }
 
 #[cycle(needs)]
-fn enter_inside(alloc: Global, table: &mut NameTable<()>, kind: &Kind) -> Result<(), Memory>
-    ensures { OnOk result (HasMore table.new table.old (λ name. translated.any_inside (calls name) (kind_tree kind.now))) }
+fn enter_inside(marks: &mut Marks, kind: &Kind)
+    ensures { HasMore marks.new marks.old (λ q. translated.any_inside (calls_helper q) (kind_tree kind.now)) }
 {
     match kind {
-        Kind::Block { code, .. } => enter_code(alloc, table, code),
-        Kind::Loop { code, .. } => enter_code(alloc, table, code),
+        Kind::Block { code, .. } => enter_code(marks, code),
+        Kind::Loop { code, .. } => enter_code(marks, code),
         Kind::If {
             code,
             otherwise,
             ..
-        } => enter_branches(alloc, table, code, otherwise),
-        _ => Ok(()),
+        } => enter_branches(marks, code, otherwise),
+        _ => {}
     }
 }
 
 #[cycle(needs)]
-fn enter_branches(
-    alloc: Global,
-    table: &mut NameTable<()>,
-    code: &Code,
-    otherwise: &Option<ElsePart>,
-) -> Result<(), Memory>
-    ensures { OnOk result (HasMore table.new table.old
-        (λ name. translated.any_in (calls name) code.now || translated.any_in_else (calls name) (otherwise_tree otherwise.now))) }
+fn enter_branches(marks: &mut Marks, code: &Code, otherwise: &Option<ElsePart>)
+    ensures { HasMore marks.new marks.old
+        (λ q. translated.any_in (calls_helper q) code.now || translated.any_in_else (calls_helper q) (otherwise_tree otherwise.now)) }
 {
-    enter_code(alloc, table, code)?;
-    enter_else(alloc, table, otherwise)
+    enter_code(marks, code);
+    enter_else(marks, otherwise)
 }
 
 #[cycle(needs)]
-fn enter_else(
-    alloc: Global,
-    table: &mut NameTable<()>,
-    otherwise: &Option<ElsePart>,
-) -> Result<(), Memory>
-    ensures { OnOk result (HasMore table.new table.old (λ name. translated.any_in_else (calls name) (otherwise_tree otherwise.now))) }
+fn enter_else(marks: &mut Marks, otherwise: &Option<ElsePart>)
+    ensures { HasMore marks.new marks.old (λ q. translated.any_in_else (calls_helper q) (otherwise_tree otherwise.now)) }
 {
     match otherwise {
-        None => Ok(()),
-        Some(other) => enter_code(alloc, table, &other.code),
+        None => {}
+        Some(other) => enter_code(marks, &other.code),
     }
 }
 
-// The names of the helpers that the bodies call.
-fn called(alloc: Global, m: &Module) -> Result<NameTable<()>, Memory>
-    ensures { IfOk result (λ table. KnowsCalls table m.now) }
+// The helpers that the bodies call.
+fn called(m: &Module) -> Marks
+    ensures { KnowsCalls result m.now }
 {
-    // Names of the translator's own.
-    let mut table = NameTable::new(alloc, Salted::new());
+    let mut marks = Marks::none();
     for body in m.bodies.as_slice() {
-        enter_code(alloc, &mut table, &body.code)?;
+        enter_code(&mut marks, &body.code);
     }
-    Ok(table)
+    marks
 }
 
 fn put_if(list: &mut Vec<Helper>, called: bool, which: Helper) -> Result<(), Memory>
@@ -168,14 +154,13 @@ fn put_if(list: &mut Vec<Helper>, called: bool, which: Helper) -> Result<(), Mem
     Ok(())
 }
 
-// Of some helpers those whose names a table has.
-fn known(alloc: Global, table: &NameTable<()>, all: &[Helper]) -> Result<Vec<Helper>, Memory>
-    ensures { IfOk result (λ list. list.items ≡ filter (is_known table.now) all.now) }
+// Of some helpers those that are marked.
+fn known(alloc: Global, marks: &Marks, all: &[Helper]) -> Result<Vec<Helper>, Memory>
+    ensures { IfOk result (λ list. list.items ≡ filter (marked marks.now) all.now) }
 {
     let mut list: Vec<Helper> = Vec::new(alloc);
     for which in all {
-        let name = helper_name(alloc, *which)?;
-        put_if(&mut list, table.has(name.as_slice()), *which)?;
+        put_if(&mut list, marks.has(*which), *which)?;
     }
     Ok(list)
 }
@@ -185,7 +170,7 @@ fn known(alloc: Global, table: &NameTable<()>, all: &[Helper]) -> Result<Vec<Hel
 pub fn helpers(alloc: Global, m: &Module) -> Result<Vec<Helper>, Memory>
     ensures { IfOk result (λ list. list.items ≡ helpers_of m.now) }
 {
-    let table = called(alloc, m)?;
-    let list = known(alloc, &table, &HELPERS)?;
+    let marks = called(m);
+    let list = known(alloc, &marks, &HELPERS)?;
     Ok(list)
 }

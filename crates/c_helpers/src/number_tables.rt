@@ -1,5 +1,9 @@
-// The bodies of the helpers of numbers as tables of pieces, each with the C text that it makes at 32 bits. A
-// `return` that no run reaches stands behind a last trap, so that C sees each path end.
+// The bodies of the helpers of numbers as tables of pieces, each with the C text that it makes at 32 bits, and which forms have
+// which. A `return` that no run reaches stands behind a last trap, so that C sees each path end.
+ghost use Rattle.std.specs.Prelude.{◌≡◌};
+ghost use Rattle.c_helpers.specs.Helpers as of;
+
+use crate::operation::Form;
 use crate::piece::{Cast, Number, Piece};
 use c_tree::COp;
 use w2c_base::TrapKind;
@@ -343,3 +347,38 @@ pub const EXTEND_LOW_S: [Piece; 8] = [
     Piece::Op(COp::Sub),
     Piece::Return,
 ];
+
+/// The pieces of each stage.
+pub fn stage(form: Form) -> &'static [Piece]
+    ensures { result.now ≡ of.stage_of form }
+{
+    match form {
+        Form::Clz => &CLZ_STAGE,
+        Form::Ctz => &CTZ_STAGE,
+        Form::Popcnt => &POPCNT_STAGE,
+        _ => &[],
+    }
+}
+
+/// The pieces behind the stages.
+pub fn end(form: Form) -> &'static [Piece]
+    ensures { result.now ≡ of.end_of form }
+{
+    match form {
+        Form::DivS => &DIV_S,
+        Form::DivU => &DIV_U,
+        Form::RemS => &REM_S,
+        Form::RemU => &REM_U,
+        Form::ShrS => &SHR_S,
+        Form::Rotl => &ROTL,
+        Form::Rotr => &ROTR,
+        Form::Clz | Form::Ctz => &COUNT_END,
+        Form::Popcnt => &POPCNT_END,
+        Form::LtS => &LT_S,
+        Form::GtS => &GT_S,
+        Form::LeS => &LE_S,
+        Form::GeS => &GE_S,
+        Form::ExtendS => &EXTEND_S,
+        Form::Extend8S | Form::Extend16S | Form::Extend32S => &EXTEND_LOW_S,
+    }
+}

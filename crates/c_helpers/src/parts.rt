@@ -5,7 +5,7 @@ ghost use Rattle.c_tree.specs.View.{expr_of};
 ghost use Rattle.c_helpers.specs.Pieces as made;
 
 use crate::piece::{Cast, Number, Setting};
-use c_tree::{Expr, Name, Primitive, Width, to_32, to_64};
+use c_tree::{Expr, Name, Primitive, Width, name_of, to_32, to_64};
 use std::alloc::Global;
 use w2c_base::{Memory, ValType};
 
@@ -13,9 +13,7 @@ use w2c_base::{Memory, ValType};
 pub fn letter(alloc: Global, c: u8) -> Result<Name, Memory>
     ensures { IfOk result (λ name. name ≡ made.letter c) }
 {
-    let mut name = Name::new(alloc);
-    name.push(c)?;
-    Ok(name)
+    name_of(alloc, &[c])
 }
 
 fn bits_of(ty: ValType) -> u32

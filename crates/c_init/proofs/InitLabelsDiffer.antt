@@ -1,4 +1,4 @@
--- The labels of the init function differ: those of its traps, and one for each segment.
+-- The labels of the init function differ: those of its traps, and one for each segment; and so do those of its parts.
 use Rattle.c_tree.proofs.NumberedLabels.{skip, Between, labels-append, Within, behind_one, downward, none, one, upward, wider}
 use Rattle.w2c_base.specs.declared.trap.TrapKind.TheVariants as trap
 use Rattle.c_tree.specs.Tree as tree
@@ -14,17 +14,19 @@ use Rattle.c_init.proofs.Common.{test_data, test_elements, test_min, write_data,
 use Rattle.c_tree.specs.Rules.{labels_of}
 use Rattle.c_tree.specs.DefinedNames.{memory_name, table_name}
 use Rattle.c_symbols.specs.Objects.{callee}
-use Rattle.c_init.specs.Init.{bounds_label, call_start, init_stmts, loop_label, start_stmts, test_limits, test_max, tests_bounds}
-use Rattle.c_init.specs.Init.{tests_limits, trap_if}
+use Rattle.c_init.specs.Init.{Part, bounds_label, bytes_part, call_part, call_start, calling_stmts, init_stmts, loop_label, part_end}
+use Rattle.c_init.specs.Init.{part_stmts, parts_of, start_stmts, stmts_with, test_limits, test_max, tests_bounds, tests_limits, trap_if}
+use Rattle.c_init.specs.Init.{whole_stmts}
+use Rattle.c_init.specs.Portions.{numbered_from}
 
 joined_none : (xs ys : List tree.Stmt) → labels_of xs ≡ [] → labels_of ys ≡ [] → labels_of (xs ++ ys) ≡ []
 joined_none xs ys e f = labels-append xs ys ∙ (ap (λ o. o ++ labels_of ys) e ∙ f)
 
-none_flat : {A : Type 0} (f : A → List tree.Stmt) (xs : List A) → ((x : A) → labels_of (f x) ≡ []) → labels_of (flat_map f xs) ≡ []
+pub none_flat : {A : Type 0} (f : A → List tree.Stmt) (xs : List A) → ((x : A) → labels_of (f x) ≡ []) → labels_of (flat_map f xs) ≡ []
 none_flat f [] h = refl
 none_flat f (x ∷ xs) h = joined_none (f x) (flat_map f xs) (h x) (none_flat f xs h)
 
-none_map : {A : Type 0} (f : A → tree.Stmt) (xs : List A) → ((x : A) → labels_of (f x ∷ []) ≡ []) → labels_of (map f xs) ≡ []
+pub none_map : {A : Type 0} (f : A → tree.Stmt) (xs : List A) → ((x : A) → labels_of (f x ∷ []) ≡ []) → labels_of (map f xs) ≡ []
 none_map f [] h = refl
 none_map f (x ∷ xs) h = joined_none (f x ∷ []) (map f xs) (h x) (none_map f xs h)
 
@@ -88,7 +90,7 @@ data_within m d = by d.1.bytes refl
         (upward (d.0 + 2) (d.0 + 3) (d.0 + 3) (tree.Label (label_name (loop_label d.0)) ∷ []) _ (omega arith) (omega arith)
         (one (d.0 + 2) (d.0 + 3) (d.0 + 2) (omega arith) (omega arith)) (none (d.0 + 3) (d.0 + 3) _ refl)))
 
-segments_within : (m : NamedModule) (a : ℕ) (xs : List SegmentEntry)
+pub segments_within : (m : NamedModule) (a : ℕ) (xs : List SegmentEntry)
     → Within (a + 2) (a + length xs + 2) (flat_map (write_data m.tree) (zip (range_with_len a (length xs)) xs))
 segments_within m a [] = none (a + 2) (a + 0 + 2) [] refl
 segments_within m a (x ∷ xs) =
@@ -103,8 +105,8 @@ trap_within true l u n kind le less = upward l u u (tree.Label (label_name n) �
     (omega arith) (one l u n le less) (none u u (makers.trap kind ∷ []) refl)
 trap_within false l u n kind le less = none l u [] refl
 
-pub init_within : (m : NamedModule) → Within 0 (length m.tree.segments + 2) (init_stmts m)
-init_within m =
+pub whole_within : (m : NamedModule) → Within 0 (length m.tree.segments + 2) (whole_stmts m)
+whole_within m =
     let u : ℕ = length m.tree.segments + 2 in
     let «data» : List tree.Stmt = flat_map (write_data m.tree) (numbered m.tree.segments) in
     let limits : List tree.Stmt = trap_if (tests_limits m.tree) limits_label (makers.trap trap.ImportLimits) in
@@ -129,3 +131,45 @@ init_within m =
     (upward 0 1 2 limits bounds (omega arith) (omega arith)
     (trap_within (tests_limits m.tree) 0 1 0 trap.ImportLimits (omega arith) (omega arith))
     (trap_within (tests_bounds m.tree) 1 2 1 trap.SegmentOut (omega arith) (omega arith)))))))))))))
+
+-- ---- parts
+
+-- an init function that calls parts has the trap for limits alone
+pub calling_within : (m : NamedModule) (parts : ℕ) → Within 0 2 (calling_stmts m parts)
+calling_within m parts =
+    let limits : List tree.Stmt = trap_if (tests_limits m.tree) limits_label (makers.trap trap.ImportLimits) in
+    skip (Between 0 2) (tree.Null ∷ []) _ refl
+    (skip (Between 0 2) (takes_from m 0 (filter (λ i. not (is_func_import i)) m.tree.imports)) _
+    (takes_none m 0 (filter (λ i. not (is_func_import i)) m.tree.imports))
+    (skip (Between 0 2) (map (λ t. make_table t.limits) m.tree.tables) _ (none_map (λ t. make_table t.limits) m.tree.tables (λ t. refl))
+    (skip (Between 0 2) (map (λ t. make_memory t.limits) m.tree.memories) _
+    (none_map (λ t. make_memory t.limits) m.tree.memories (λ t. refl))
+    (skip (Between 0 2) (map call_part (range_with_len 0 parts)) _ (none_map call_part (range_with_len 0 parts) (λ k. refl))
+    (skip (Between 0 2) (start_stmts m m.tree.start) _ (start_none m m.tree.start)
+    (skip (Between 0 2) (tree.ReturnNone ∷ []) _ refl
+    (upward 0 1 2 limits [] (omega arith) (omega arith)
+    (trap_within (tests_limits m.tree) 0 1 0 trap.ImportLimits (omega arith) (omega arith)) (none 1 2 [] refl))))))))
+
+-- all labels of the init function lie below those of the segments' numbers
+pub init_within : (m : NamedModule) → Within 0 (length m.tree.segments + 2) (init_stmts m)
+init_within m = by (length (parts_of m.tree))
+  where
+    by : (parts : ℕ) → Within 0 (length m.tree.segments + 2) (stmts_with m parts)
+    by zero = whole_within m
+    by (suc parts) = wider 0 2 0 (length m.tree.segments + 2) (calling_stmts m (suc parts)) (omega arith) (omega arith)
+        (calling_within m (suc parts))
+
+-- a part without loops
+pub plain_within : (x : Part) → labels_of x.stmts ≡ [] → Within 0 2 (part_stmts x)
+plain_within x unlabelled =
+    skip (Between 0 2) x.stmts (part_end x) unlabelled
+    (behind_one 0 2 tree.ReturnNone (trap_if x.tests bounds_label (makers.trap trap.SegmentOut)) refl
+    (wider 1 2 0 2 (trap_if x.tests bounds_label (makers.trap trap.SegmentOut)) (omega arith) (omega arith)
+    (trap_within x.tests 1 2 1 trap.SegmentOut (omega arith) (omega arith))))
+
+-- one that writes the bytes of segments, of which the first has this number
+pub bytes_within : (m : NamedModule) (j : ℕ) (ds : List SegmentEntry)
+    → Within (j + 2) (j + length ds + 2) (part_stmts (bytes_part m.tree (numbered_from j ds)))
+bytes_within m j ds =
+    upward (j + 2) (j + length ds + 2) (j + length ds + 2) (flat_map (write_data m.tree) (numbered_from j ds)) (tree.ReturnNone ∷ [])
+    (omega arith) (omega arith) (segments_within m j ds) (none (j + length ds + 2) (j + length ds + 2) (tree.ReturnNone ∷ []) refl)

@@ -6,6 +6,9 @@ pub mod Fits
 pub mod LookUps
 pub mod InitLabelsDiffer
 pub mod NoFaults
+pub mod PieceCounts
+pub mod FewParts
+pub mod PartsOf
 -- What the crate's own proofs cite.
 mod Common
 mod Counts
@@ -15,3 +18,6 @@ mod Constants
 mod Somes
 mod FuncNames
 mod InitParts
+mod Calls
+mod PieceLists
+mod PortionTests

@@ -2,19 +2,20 @@
 use Rattle.c_init.proofs.Common.{◌≡◌, ℕ, zero, suc, ◌+◌, ◌<◌, ◌≤◌, List, [], ◌∷◌, ◌++◌, map, length, get_or, drop, zip, flat_map, sym, ap}
 use Rattle.c_init.proofs.Common.{◌∙◌, append_assoc, append-nil, arith, map_push, range_with_len, numbered_past, numbered, at_front}
 use Rattle.c_init.proofs.Common.{read_again}
+use Rattle.c_init.specs.Portions.{numbered_from}
 
 -- numbered items from one on
-numbered_from : {A : Type 0} (k : ℕ) (xs : List A) (i : ℕ) (x : A) → i < length xs → x ≡ get_or xs i x
+numbered_front : {A : Type 0} (k : ℕ) (xs : List A) (i : ℕ) (x : A) → i < length xs → x ≡ get_or xs i x
     → drop i (zip (range_with_len k (length xs)) xs) ≡ (k + i, x) ∷ drop (i + 1) (zip (range_with_len k (length xs)) xs)
-numbered_from k [] i x lt is = absurd (omega arith)
-numbered_from k (y ∷ xs) zero x lt is =
+numbered_front k [] i x lt is = absurd (omega arith)
+numbered_front k (y ∷ xs) zero x lt is =
     let e : k ≡ k + 0 = omega arith in
     ap (λ z. (k, z) ∷ zip (range_with_len (k + 1) (length xs)) xs) (sym is)
     ∙ ap (λ n. (n, x) ∷ zip (range_with_len (k + 1) (length xs)) xs) e
-numbered_from k (y ∷ xs) (suc i) x lt is =
+numbered_front k (y ∷ xs) (suc i) x lt is =
     let e : (k + 1) + i ≡ k + suc i = omega arith in
     let next : suc (i + 1) ≡ suc i + 1 = omega arith in
-    numbered_from (k + 1) xs i x (omega arith) is
+    numbered_front (k + 1) xs i x (omega arith) is
     ∙ ap (λ n. (n, x) ∷ drop (suc (i + 1)) (zip (range_with_len k (length (y ∷ xs))) (y ∷ xs))) e
     ∙ ap (λ m. (k + suc i, x) ∷ drop m (zip (range_with_len k (length (y ∷ xs))) (y ∷ xs))) next
 
@@ -23,7 +24,7 @@ front : {A : Type 0} (xs items : List A) → items ≡ xs → (i : ℕ) (x : A) 
 front xs items same i x less read =
     let within : i < length xs = omega (arith, less, ap length same) in
     let start : 0 + i ≡ i = omega arith in
-    numbered_from 0 xs i x within (read ∙ ap (λ ys. get_or ys i x) same) ∙ ap (λ n. (n, x) ∷ drop (i + 1) (numbered xs)) start
+    numbered_front 0 xs i x within (read ∙ ap (λ ys. get_or ys i x) same) ∙ ap (λ n. (n, x) ∷ drop (i + 1) (numbered xs)) start
 
 -- one more item
 pub pushed : {A B : Type 0} (f : A → B) (before after : List A) (x : A) (y : B) → after ≡ before ++ x ∷ [] → f x ≡ y
@@ -87,3 +88,35 @@ module _ {A B : Type 0} (xs items : List A) (same : items ≡ xs) (i : ℕ) wher
   put_all f made whole past so_far =
       let end : length xs ≤ i = omega (arith, past, ap length same) in
       sym (append-nil made) ∙ ap (λ ys. made ++ flat_map f ys) (sym (numbered_past 0 xs i end)) ∙ so_far
+
+-- ---- items whose numbers begin with one
+
+module _ {A B : Type 0} (k : ℕ) (xs : List A) (i : ℕ) where
+  pub push_from : {V : Type 0} (g : V → B) (f : ℕ × A → B) (made after : List V) (v : V) (whole : List B) (number : ℕ) (x : A)
+      → i < length xs → x ≡ get_or xs i x
+      → number ≡ k + i → after ≡ made ++ v ∷ [] → g v ≡ f (number, x) → map g made ++ map f (drop i (numbered_from k xs)) ≡ whole
+      → map g after ++ map f (drop (i + 1) (numbered_from k xs)) ≡ whole
+  push_from g f made after v whole number x less read at grown is so_far =
+      let rest = map f (drop (i + 1) (numbered_from k xs)) in
+      ap (λ ys. map g ys ++ rest) grown ∙ ap (λ ys. ys ++ rest) (map_push g made v) ∙ append_assoc (map g made) (g v ∷ []) rest
+      ∙ ap (λ y. map g made ++ y ∷ rest) (is ∙ ap (λ n. f (n, x)) at)
+      ∙ ap (λ ys. map g made ++ map f ys) (sym (numbered_front k xs i x less read)) ∙ so_far
+
+  pub pushed_from : (f : ℕ × A → B) (made whole : List B) → length xs ≤ i → made ++ map f (drop i (numbered_from k xs)) ≡ whole
+      → made ≡ whole
+  pushed_from f made whole past so_far =
+      sym (append-nil made) ∙ ap (λ ys. made ++ map f ys) (sym (numbered_past k xs i past)) ∙ so_far
+
+  pub put_from : (f : ℕ × A → List B) (before after whole : List B) (number : ℕ) (x : A) → i < length xs → x ≡ get_or xs i x
+      → number ≡ k + i → after ≡ before ++ f (number, x) → before ++ flat_map f (drop i (numbered_from k xs)) ≡ whole
+      → after ++ flat_map f (drop (i + 1) (numbered_from k xs)) ≡ whole
+  put_from f before after whole number x less read at grown so_far =
+      let rest = flat_map f (drop (i + 1) (numbered_from k xs)) in
+      ap (λ ys. ys ++ rest) grown ∙ append_assoc before (f (number, x)) rest
+      ∙ ap (λ n. before ++ (f (n, x) ++ rest)) at
+      ∙ ap (λ ys. before ++ flat_map f ys) (sym (numbered_front k xs i x less read)) ∙ so_far
+
+  pub put_all_from : (f : ℕ × A → List B) (made whole : List B) → length xs ≤ i
+      → made ++ flat_map f (drop i (numbered_from k xs)) ≡ whole → made ≡ whole
+  put_all_from f made whole past so_far =
+      sym (append-nil made) ∙ ap (λ ys. made ++ flat_map f ys) (sym (numbered_past k xs i past)) ∙ so_far

@@ -1,9 +1,10 @@
 -- The init function of a module's unit (WebAssembly Core 1.0, 4.5.4 instantiation): for each task of the
 -- instantiation a statement at least, in the order of the tasks. A test that fails goes to a trap at the
--- end, where no object is changed.
-use Rattle.std.specs.Prelude.{ℕ, zero, suc, nat_lt, ◌+◌, not, ◌||◌, Bool, true, false, if◌then◌else◌, List, [], ◌∷◌, ◌++◌, map, filter}
-use Rattle.std.specs.Prelude.{flat_map, length, codes, decimal, is_some, Option, Some, None, unwrap_or}
-use Rattle.std.specs.List.{list_any}
+-- end, where no object is changed. In the unit of a large module static functions make the globals, test the bounds and write
+-- the segments, each for a hundred entries at most, and the init function calls them in order.
+use Rattle.std.specs.Prelude.{ℕ, zero, suc, nat_lt, ◌+◌, ◌*◌, ◌/◌, not, ◌||◌, Bool, true, false, if◌then◌else◌, List, [], ◌∷◌, ◌++◌}
+use Rattle.std.specs.Prelude.{map, filter, flat_map, length, take, drop, codes, decimal, is_some, Option, Some, None, unwrap_or}
+use Rattle.std.specs.List.{list_any, range_with_len}
 use Rattle.w2c_base.specs.declared.signature.FuncType.{FuncType}
 use Rattle.w2c_base.specs.declared.trap.TrapKind.TheVariants as trap
 use Rattle.w2c_base.specs.Lookup.{numbered}
@@ -16,6 +17,7 @@ use Rattle.wasm_tree.specs.declared.entries.Import.{Import}
 use Rattle.wasm_tree.specs.declared.entries.Limits.{Limits}
 use Rattle.wasm_tree.specs.declared.entries.GlobalEntry.{GlobalEntry}
 use Rattle.wasm_tree.specs.declared.entries.ElementEntry.{ElementEntry}
+use Rattle.wasm_tree.specs.declared.entries.FuncRef.{FuncRef}
 use Rattle.wasm_tree.specs.declared.entries.SegmentEntry.{SegmentEntry}
 use Rattle.wasm_tree.specs.declared.entries.Start.{Start}
 use Rattle.wasm_tree.specs.declared.entries.ImportKind.TheVariants.{Func as ImportFunc, Table as ImportTable, Memory as ImportMemory}
@@ -28,7 +30,7 @@ use Rattle.c_tree.specs.declared.tree.COp.TheVariants as op
 use Rattle.c_tree.specs.Tree as tree
 use Rattle.c_tree.specs.Scope.{Name}
 use Rattle.c_tree.specs.Makers as makers
-use Rattle.c_tree.specs.DefinedNames.{memory_name, table_name, global_name, pointer_name, label_name}
+use Rattle.c_tree.specs.DefinedNames.{memory_name, table_name, global_name, pointer_name, label_name, part_name}
 use Rattle.c_symbols.specs.Symbols.{import_symbol, is_usable}
 use Rattle.c_symbols.specs.Objects.{function_name, callee, memory_arg, table_arg, global_value}
 
@@ -226,30 +228,141 @@ trap_if named l trap = if named then tree.Label (label_name l) ∷ trap ∷ [] e
 abbrev pub local_if : Bool → Name → List tree.Local
 local_if used name = if used then (c_type.U64, name, N64 0) ∷ [] else []
 
-abbrev pub init_stmts : NamedModule → List tree.Stmt
-init_stmts m =
+-- ---- parts of the init function of a large module
+
+-- a function has statements for so many entries of a kind at most
+abbrev pub most : ℕ
+most = 100
+
+-- a list in pieces of so many, of which the last may be shorter
+abbrev pub piece : {A : Type 0} → List A → ℕ → List A
+piece items k = take most (drop (most * k) items)
+
+abbrev pub piece_count : ℕ → ℕ
+piece_count n = (n + 99) / 100
+
+abbrev pub pieces : {A : Type 0} → List A → List (List A)
+pieces items = map (piece items) (range_with_len 0 (piece_count (length items)))
+
+-- a function of an element segment, with its number there
+abbrev pub Element : Type 0
+Element = ElementEntry × (ℕ × FuncRef)
+
+abbrev pub elements_in : ElementEntry → List Element
+elements_in e = map (λ f. (e, f)) (numbered e.funcs)
+
+abbrev pub elements_of : Module → List Element
+elements_of m = flat_map elements_in m.elements
+
+abbrev pub write_one : Module → Element → tree.Stmt
+write_one m x = write_element m x.0.offset x.1.0 x.1.1.index
+
+-- what a part does, and whether it tests bounds
+pub record Part : Type 0 where
+  pub stmts : List tree.Stmt
+  pub tests : Bool
+
+abbrev pub globals_part : Module → List (ℕ × GlobalEntry) → Part
+globals_part m globals = record { stmts = map (make_global m) globals; tests = false }
+
+abbrev pub element_tests_part : Module → List ElementEntry → Part
+element_tests_part m elements = record { stmts = flat_map (test_elements m) elements; tests = true }
+
+abbrev pub data_tests_part : Module → List SegmentEntry → Part
+data_tests_part m segments = record { stmts = flat_map (test_data m) segments; tests = true }
+
+abbrev pub elements_part : Module → List Element → Part
+elements_part m elements = record { stmts = map (write_one m) elements; tests = false }
+
+abbrev pub bytes_part : Module → List (ℕ × SegmentEntry) → Part
+bytes_part m segments = record { stmts = flat_map (write_data m) segments; tests = false }
+
+abbrev pub some_bytes : List (ℕ × SegmentEntry) → Bool
+some_bytes segments = list_any (λ d. has_bytes d.1) segments
+
+-- in the order of the tasks; a piece of segments without bytes has nothing to write
+abbrev pub all_parts : Module → List Part
+all_parts m =
+    map (globals_part m) (pieces (numbered m.globals))
+    ++ (map (element_tests_part m) (pieces m.elements)
+    ++ (map (data_tests_part m) (pieces m.segments)
+    ++ (map (elements_part m) (pieces (elements_of m))
+    ++ map (bytes_part m) (filter some_bytes (pieces (numbered m.segments))))))
+
+abbrev pub is_large : Module → Bool
+is_large m =
+    (nat_lt most (length m.globals) || nat_lt most (length m.elements))
+    || (nat_lt most (length m.segments) || nat_lt most (length (elements_of m)))
+
+abbrev pub parts_of : Module → List Part
+parts_of m = if is_large m then all_parts m else []
+
+-- ---- the functions: they take and give nothing, and have the same local variables
+
+abbrev pub own_locals : Module → List tree.Local
+own_locals m = local_if (tests_limits m || tests_bounds m) size_name ++ local_if (list_any has_bytes m.segments) byte_name
+
+abbrev pub own_func : Bool → Name → Module → List tree.Stmt → tree.Func
+own_func static name m stmts = record {
+  is_static = static;
+  result = c_type.Void;
+  name = name;
+  params = (c_type.Void, None) ∷ [];
+  body = Some (record { locals = own_locals m; stmts = stmts });
+}
+
+-- a part, and its end
+abbrev pub part_end : Part → List tree.Stmt
+part_end p = tree.ReturnNone ∷ trap_if p.tests bounds_label (makers.trap trap.SegmentOut)
+
+abbrev pub part_stmts : Part → List tree.Stmt
+part_stmts p = p.stmts ++ part_end p
+
+-- with its number
+abbrev pub part_func : Module → ℕ × Part → tree.Func
+part_func m p = own_func true (part_name p.0) m (part_stmts p.1)
+
+abbrev pub call_part : ℕ → tree.Stmt
+call_part k = tree.Call None (tree.Called (part_name k)) []
+
+-- ---- the init function's statements
+
+-- its beginning, the imports, the tables and the memories, before others
+abbrev pub begun : NamedModule → List tree.Stmt → List tree.Stmt
+begun m rest =
     (tree.Null ∷ [])
     ++ (takes_from m 0 (filter (λ i. not (is_func_import i)) m.tree.imports)
     ++ (map (λ t. make_table t.limits) m.tree.tables
     ++ (map (λ t. make_memory t.limits) m.tree.memories
-    ++ (map (make_global m.tree) (numbered m.tree.globals)
+    ++ rest)))
+
+-- the start call, the end and the traps
+abbrev pub ended : NamedModule → Bool → List tree.Stmt
+ended m bounds =
+    start_stmts m m.tree.start
+    ++ (tree.ReturnNone ∷ []
+    ++ (trap_if (tests_limits m.tree) limits_label (makers.trap trap.ImportLimits)
+    ++ trap_if bounds bounds_label (makers.trap trap.SegmentOut)))
+
+abbrev pub whole_stmts : NamedModule → List tree.Stmt
+whole_stmts m = begun m
+    (map (make_global m.tree) (numbered m.tree.globals)
     ++ (flat_map (test_elements m.tree) m.tree.elements
     ++ (flat_map (test_data m.tree) m.tree.segments
     ++ (flat_map (write_elements m.tree) m.tree.elements
     ++ (flat_map (write_data m.tree) (numbered m.tree.segments)
-    ++ (start_stmts m m.tree.start
-    ++ (tree.ReturnNone ∷ []
-    ++ (trap_if (tests_limits m.tree) limits_label (makers.trap trap.ImportLimits)
-    ++ trap_if (tests_bounds m.tree) bounds_label (makers.trap trap.SegmentOut))))))))))))
+    ++ ended m (tests_bounds m.tree))))))
+
+-- with so many parts that are called
+abbrev pub calling_stmts : NamedModule → ℕ → List tree.Stmt
+calling_stmts m parts = begun m (map call_part (range_with_len 0 parts) ++ ended m false)
+
+abbrev pub stmts_with : NamedModule → ℕ → List tree.Stmt
+stmts_with m zero = whole_stmts m
+stmts_with m (suc parts) = calling_stmts m (suc parts)
+
+abbrev pub init_stmts : NamedModule → List tree.Stmt
+init_stmts m = stmts_with m (length (parts_of m.tree))
 
 abbrev pub init_func : NamedModule → tree.Func
-init_func m = record {
-  is_static = false;
-  result = c_type.Void;
-  name = init_symbol_of m.name;
-  params = (c_type.Void, None) ∷ [];
-  body = Some (record {
-    locals = local_if (tests_limits m.tree || tests_bounds m.tree) size_name ++ local_if (list_any has_bytes m.tree.segments) byte_name;
-    stmts = init_stmts m;
-  });
-}
+init_func m = own_func false (init_symbol_of m.name) m.tree (init_stmts m)

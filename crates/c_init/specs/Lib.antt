@@ -4,6 +4,7 @@ pub mod Sources
 pub mod Entries
 -- of the code and the proofs alone
 pub mod InitParts
+pub mod Portions
 pub mod Single
 pub mod SetPointers
 pub mod Loops

@@ -39,7 +39,8 @@ impl<'a> Source<'a> {
         args.push(Arg::Value(n64(self.signature(func))))
     }
 
-    fn element(&self, offset: &Code, number: usize, func: u32) -> Result<Stmt, Memory>
+    /// The function with an index, written at a number of a segment with this offset.
+    pub(crate) fn element(&self, offset: &Code, number: usize, func: u32) -> Result<Stmt, Memory>
         ensures { IfOk result (λ s. stmt_of s ≡ of.write_element self.now.tree.now offset.now number func) }
     {
         let alloc = self.alloc;

@@ -28,7 +28,8 @@ fn put_func(alloc: Global, names: &mut Vec<Name>, import: &Import) -> Result<(),
         ImportKind::Func(_) => {
             let module = import.module.as_slice();
             let field = import.field.as_slice();
-            names.push(export_symbol(alloc, module, SymbolKind::Func, field)?)?;
+            let symbol = export_symbol(alloc, module, SymbolKind::Func, field)?;
+            names.push(Name::from_bytes(alloc, symbol)?)?;
         }
         ImportKind::Table(_) => {}
         ImportKind::Memory(_) => {}

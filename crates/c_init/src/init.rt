@@ -1,11 +1,12 @@
 // The init function of a unit.
-ghost use Rattle.std.specs.Prelude.{◌≡◌, ◌++◌, ◌∷◌, [], map, None, OnOk, IfOk};
+ghost use Rattle.std.specs.Prelude.{◌≡◌, ◌++◌, ◌∷◌, [], length, map, None, OnOk, IfOk};
 ghost use Rattle.c_tree.specs.Tree as tree;
 ghost use Rattle.c_tree.specs.View.{func_of, stmt_of};
 ghost use Rattle.c_init.specs.Init as of;
 ghost use Rattle.c_init.specs.InitParts.{making, writing, ending, put_locals};
 
 use crate::needs::{loops, tests_bounds, tests_limits};
+use crate::parts::put_calls;
 use crate::source::Source;
 use crate::statements::put_trap;
 use c_tree::{Args, Body, CType, Callee, Func, Locals, Name, Num, Stmt, Stmts, name_of, no_params};
@@ -41,6 +42,15 @@ fn put_locals(alloc: Global, locals: &mut Locals, m: &Module) -> Result<(), Memo
     put_local(alloc, locals, loops(m), b"k")
 }
 
+/// The local variables of the init function and of its parts.
+pub(crate) fn locals(alloc: Global, m: &Module) -> Result<Locals, Memory>
+    ensures { IfOk result (λ locals. locals ≡ of.own_locals m.now) }
+{
+    let mut locals = Locals::new(alloc);
+    put_locals(alloc, &mut locals, m)?;
+    Ok(locals)
+}
+
 impl<'a> Source<'a> {
     ghost use Rattle.c_init.specs.Sources.{module_of};
 
@@ -56,28 +66,28 @@ impl<'a> Source<'a> {
         }
     }
 
-    // The statements as far as nothing is written.
+    // What is imported, the tables and the memories.
     fn put_making(&self, stmts: &mut Stmts) -> Result<(), Memory>
         ensures { OnOk result (map stmt_of stmts.new ≡ making (module_of self.now) (map stmt_of stmts.old)) }
     {
         stmts.push(Stmt::Null)?;
         self.put_takes(stmts)?;
         self.put_tables(stmts)?;
-        self.put_memories(stmts)?;
-        self.put_globals(stmts)
+        self.put_memories(stmts)
     }
 
     fn put_writing(&self, stmts: &mut Stmts) -> Result<(), Memory>
         ensures { OnOk result (map stmt_of stmts.new ≡ writing (module_of self.now) (map stmt_of stmts.old)) }
     {
-        self.put_element_bounds(stmts)?;
-        self.put_data_bounds(stmts)?;
+        self.put_globals(stmts, 0, self.tree.globals.as_slice())?;
+        self.put_element_bounds(stmts, self.tree.elements.as_slice())?;
+        self.put_data_bounds(stmts, self.tree.segments.as_slice())?;
         self.put_elements(stmts)?;
-        self.put_bytes(stmts)
+        self.put_bytes(stmts, 0, self.tree.segments.as_slice())
     }
 
-    fn put_ending(&self, stmts: &mut Stmts) -> Result<(), Memory>
-        ensures { OnOk result (map stmt_of stmts.new ≡ ending (module_of self.now) (map stmt_of stmts.old)) }
+    fn put_ending(&self, stmts: &mut Stmts, bounds: bool) -> Result<(), Memory>
+        ensures { OnOk result (map stmt_of stmts.new ≡ ending (module_of self.now) bounds (map stmt_of stmts.old)) }
     {
         self.put_start(stmts)?;
         stmts.push(Stmt::ReturnNone)?;
@@ -89,34 +99,52 @@ impl<'a> Source<'a> {
             0,
             TrapKind::ImportLimits,
         )?;
-        put_trap(
-            alloc,
-            stmts,
-            tests_bounds(self.tree),
-            1,
-            TrapKind::SegmentOut,
-        )
+        put_trap(alloc, stmts, bounds, 1, TrapKind::SegmentOut)
     }
 
-    fn init_stmts(&self) -> Result<Stmts, Memory>
-        ensures { IfOk result (λ stmts. map stmt_of stmts ≡ of.init_stmts (module_of self.now)) }
+    // All in one function.
+    fn whole_stmts(&self) -> Result<Stmts, Memory>
+        ensures { IfOk result (λ stmts. map stmt_of stmts ≡ of.whole_stmts (module_of self.now)) }
     {
         let mut stmts = Stmts::new(self.alloc);
         self.put_making(&mut stmts)?;
         self.put_writing(&mut stmts)?;
-        self.put_ending(&mut stmts)?;
+        self.put_ending(&mut stmts, tests_bounds(self.tree))?;
         Ok(stmts)
     }
 
-    /// The init function.
-    pub fn init_func(&self) -> Result<Func, Memory>
+    // With so many parts that are called.
+    fn calling_stmts(&self, parts: usize) -> Result<Stmts, Memory>
+        ensures { IfOk result (λ stmts. map stmt_of stmts ≡ of.calling_stmts (module_of self.now) parts) }
+    {
+        let mut stmts = Stmts::new(self.alloc);
+        self.put_making(&mut stmts)?;
+        put_calls(self.alloc, &mut stmts, parts)?;
+        self.put_ending(&mut stmts, false)?;
+        Ok(stmts)
+    }
+
+    #[tactic(auto, using(crate::proofs::InitParts::with_none, crate::proofs::InitParts::with_some))]
+    fn init_stmts(&self, parts: usize) -> Result<Stmts, Memory>
+        ensures { IfOk result (λ stmts. map stmt_of stmts ≡ of.stmts_with (module_of self.now) parts) }
+    {
+        if parts > 0 {
+            self.calling_stmts(parts)
+        } else {
+            self.whole_stmts()
+        }
+    }
+
+    /// The init function, which calls so many parts.
+    #[tactic(auto, using(crate::proofs::InitParts::all_called))]
+    pub fn init_func(&self, parts: usize) -> Result<Func, Memory>
+        requires { parts ≡ length (of.parts_of self.now.tree.now) }
         ensures { IfOk result (λ f. func_of f ≡ of.init_func (module_of self.now)) }
     {
-        let stmts = self.init_stmts()?;
-        let name = init_symbol(self.alloc, self.name)?;
+        let stmts = self.init_stmts(parts)?;
+        let name = Name::from_bytes(self.alloc, init_symbol(self.alloc, self.name)?)?;
         let params = no_params(self.alloc)?;
-        let mut locals = Locals::new(self.alloc);
-        put_locals(self.alloc, &mut locals, self.tree)?;
+        let locals = locals(self.alloc, self.tree)?;
         Ok(Func {
             is_static: false,
             result: CType::Void,

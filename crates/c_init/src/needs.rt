@@ -55,8 +55,9 @@ pub(crate) fn tests_bounds(m: &Module) -> bool
     has_elements(m) || has_segments(m)
 }
 
+/// Whether a segment has a byte.
 #[tactic(auto, using(crate::proofs::Somes::bytes_some, crate::proofs::Somes::bytes_none))]
-fn has_bytes(segment: &SegmentEntry) -> bool
+pub(crate) fn has_bytes(segment: &SegmentEntry) -> bool
     ensures { result ≡ of.has_bytes segment.now }
 {
     if segment.bytes.len() > 0 { true } else { false }

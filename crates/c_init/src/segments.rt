@@ -1,12 +1,12 @@
 // The init function tests the bounds of all segments, and then writes them.
-ghost use Rattle.std.specs.Prelude.{◌≡◌, ◌<◌, ◌^◌, ◌∷◌, [], ◌++◌, flat_map, map, OnOk, IfOk};
-ghost use Rattle.w2c_base.specs.Lookup.{numbered};
+ghost use Rattle.std.specs.Prelude.{◌≡◌, ◌+◌, ◌<◌, ◌≤◌, ◌^◌, ◌∷◌, [], ◌++◌, flat_map, length, map, OnOk, IfOk};
 ghost use Rattle.c_tree.specs.Tree as tree;
 ghost use Rattle.c_tree.specs.View.{arg_of, expr_of, stmt_of};
 ghost use Rattle.c_tree.specs.Primitives.{primitive_name};
 ghost use Rattle.c_tree.specs.DefinedNames.{label_name as label_name_of};
 ghost use Rattle.c_init.specs.Init as of;
 ghost use Rattle.c_init.specs.Loops.{byte_parts, byte_put, byte_next, byte_test};
+ghost use Rattle.c_init.specs.Portions.{numbered_from};
 
 use crate::source::Source;
 use crate::statements::{jump, put_label, reading};
@@ -17,7 +17,7 @@ use c_tree::{
 use std::alloc::Global;
 use std::boxed::Box;
 use w2c_base::Memory;
-use wasm_tree::{Code, SegmentEntry};
+use wasm_tree::{Code, ElementEntry, SegmentEntry};
 
 // The number of the next byte.
 fn byte(alloc: Global) -> Result<Expr, Memory>
@@ -76,11 +76,15 @@ impl<'a> Source<'a> {
         stmts.push(jump(COp::Gt, end, Expr::Name(size), label))
     }
 
-    /// The bounds of the element segments.
-    pub(crate) fn put_element_bounds(&self, stmts: &mut Stmts) -> Result<(), Memory>
-        ensures { OnOk result (map stmt_of stmts.new ≡ map stmt_of stmts.old ++ flat_map (of.test_elements self.now.tree.now) self.now.tree.now.elements) }
+    /// The bounds of element segments.
+    pub(crate) fn put_element_bounds(
+        &self,
+        stmts: &mut Stmts,
+        elements: &[ElementEntry],
+    ) -> Result<(), Memory>
+        ensures { OnOk result (map stmt_of stmts.new ≡ map stmt_of stmts.old ++ flat_map (of.test_elements self.now.tree.now) elements.now) }
     {
-        for element in self.tree.elements.as_slice() {
+        for element in elements {
             let table = self.spaces.table_arg(self.alloc)?;
             self.put_bounds(
                 stmts,
@@ -93,11 +97,15 @@ impl<'a> Source<'a> {
         Ok(())
     }
 
-    /// The bounds of the data segments.
-    pub(crate) fn put_data_bounds(&self, stmts: &mut Stmts) -> Result<(), Memory>
-        ensures { OnOk result (map stmt_of stmts.new ≡ map stmt_of stmts.old ++ flat_map (of.test_data self.now.tree.now) self.now.tree.now.segments) }
+    /// The bounds of data segments.
+    pub(crate) fn put_data_bounds(
+        &self,
+        stmts: &mut Stmts,
+        segments: &[SegmentEntry],
+    ) -> Result<(), Memory>
+        ensures { OnOk result (map stmt_of stmts.new ≡ map stmt_of stmts.old ++ flat_map (of.test_data self.now.tree.now) segments.now) }
     {
-        for segment in self.tree.segments.as_slice() {
+        for segment in segments {
             let memory = self.spaces.memory_arg(self.alloc)?;
             self.put_bounds(
                 stmts,
@@ -172,12 +180,18 @@ impl<'a> Source<'a> {
         }
     }
 
-    /// The bytes of the data segments.
-    pub(crate) fn put_bytes(&self, stmts: &mut Stmts) -> Result<(), Memory>
-        ensures { OnOk result (map stmt_of stmts.new ≡ map stmt_of stmts.old ++ flat_map (of.write_data self.now.tree.now) (numbered self.now.tree.now.segments)) }
+    /// The bytes of data segments, of which the first has this number.
+    pub(crate) fn put_bytes(
+        &self,
+        stmts: &mut Stmts,
+        from: usize,
+        segments: &[SegmentEntry],
+    ) -> Result<(), Memory>
+        requires { from + length segments.now ≤ length self.now.tree.now.segments }
+        ensures { OnOk result (map stmt_of stmts.new ≡ map stmt_of stmts.old ++ flat_map (of.write_data self.now.tree.now) (numbered_from from segments.now)) }
     {
-        let mut number = 0usize;
-        for segment in self.tree.segments.as_slice() {
+        let mut number = from;
+        for segment in segments {
             self.put_data(stmts, number, segment)?;
             number += 1;
         }

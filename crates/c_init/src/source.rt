@@ -1,10 +1,11 @@
 // What the init function is made of, and what bodies and exports read of their module.
-ghost use Rattle.std.specs.Prelude.{◌≡◌, ◌<◌, ◌^◌, map, IfOk};
+ghost use Rattle.std.specs.Prelude.{◌≡◌, ◌<◌, ◌^◌, length, map, IfOk};
 ghost use Rattle.c_symbols.specs.Spaces as index_spaces;
 ghost use Rattle.c_symbols.specs.Symbols.{import_symbol, func_imports};
 ghost use Rattle.c_symbols.specs.Named.{named_of};
 ghost use Rattle.c_symbols.specs.Usable.{AreReached};
 ghost use Rattle.c_init.specs.Entries.{entries};
+ghost use Rattle.c_init.specs.Init.{parts_of};
 
 use crate::import_symbols::func_symbols;
 use c_symbols::{IndexSpaces, Reached, Symbols};
@@ -25,6 +26,7 @@ pub struct Source<'a> {
     pub(crate) func_symbols: Vec<Name>,
     ghost checked_is: { checked.now ≡ tree.now },
     ghost few_entries: { entries tree.now < 2 ^ 32 },
+    ghost few_parts: { length (parts_of tree.now) < 2 ^ 62 },
     ghost spaces_are: { index_spaces.named_of spaces ≡ record { name = name.now; tree = tree.now } },
     ghost func_symbols_are: { func_symbols.items ≡ map import_symbol (func_imports tree.now) },
 }

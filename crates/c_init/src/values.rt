@@ -1,14 +1,14 @@
 // The init function makes what the module defines: tables, memories and globals.
-ghost use Rattle.std.specs.Prelude.{◌≡◌, ◌<◌, option_map, ◌+◌, length, None, ◌++◌, ◌∷◌, [], map, IfOk, OnOk};
+ghost use Rattle.std.specs.Prelude.{◌≡◌, ◌<◌, ◌≤◌, option_map, ◌+◌, length, None, ◌++◌, ◌∷◌, [], map, IfOk, OnOk};
 ghost use Rattle.c_tree.specs.Tree as tree;
 ghost use Rattle.c_tree.specs.View.{expr_of, stmt_of};
 ghost use Rattle.c_tree.specs.Primitives.{primitive_name};
 ghost use Rattle.c_tree.specs.DefinedNames.{global_name as global_name_of};
-ghost use Rattle.w2c_base.specs.Lookup.{numbered};
 ghost use Rattle.wasm_tree.specs.IndexSpaces.{imported_globals};
 ghost use Rattle.std.specs.Option.{option_copied};
 ghost use Rattle.wasm_tree.specs.Views.{kind_tree};
 ghost use Rattle.c_init.specs.Init as of;
+ghost use Rattle.c_init.specs.Portions.{numbered_from};
 ghost use Rattle.c_init.specs.Single.{single_of};
 
 use crate::source::Source;
@@ -21,7 +21,7 @@ use c_tree::{
 };
 use std::alloc::Global;
 use w2c_base::Memory;
-use wasm_tree::{Code, Kind, Limits};
+use wasm_tree::{Code, GlobalEntry, Kind, Limits};
 
 // A new table or memory.
 fn made(alloc: Global, maker: Primitive, object: &[u8], limits: Limits) -> Result<Stmt, Memory>
@@ -112,12 +112,18 @@ impl<'a> Source<'a> {
         global_name(self.alloc, self.reached().globals.len() + number)
     }
 
-    /// The globals that the module defines.
-    pub(crate) fn put_globals(&self, stmts: &mut Stmts) -> Result<(), Memory>
-        ensures { OnOk result (map stmt_of stmts.new ≡ map stmt_of stmts.old ++ map (of.make_global self.now.tree.now) (numbered self.now.tree.now.globals)) }
+    /// Globals that the module defines, of which the first has this number.
+    pub(crate) fn put_globals(
+        &self,
+        stmts: &mut Stmts,
+        from: usize,
+        globals: &[GlobalEntry],
+    ) -> Result<(), Memory>
+        requires { from + length globals.now ≤ length self.now.tree.now.globals }
+        ensures { OnOk result (map stmt_of stmts.new ≡ map stmt_of stmts.old ++ map (of.make_global self.now.tree.now) (numbered_from from globals.now)) }
     {
-        let mut number = 0usize;
-        for global in self.tree.globals.as_slice() {
+        let mut number = from;
+        for global in globals {
             let name = self.own_global(number)?;
             let value = self.constant(&global.code)?;
             stmts.push(set(name, value))?;

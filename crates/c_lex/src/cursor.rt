@@ -10,7 +10,7 @@ ghost use Rattle.c_lex.specs.Reading.{Reads};
 use crate::front::{Front, read_front};
 use crate::number::{num, value};
 use crate::token::Token;
-use c_tree::{CReadFault, Kind, Name, Num, Part, Suffix, Tok, Wanted};
+use c_tree::{CReadFault, Kind, Name, Num, Part, Suffix, Tok, Wanted, name_of};
 use std::alloc::Global;
 use std::marker::Model;
 
@@ -118,7 +118,7 @@ impl<'a> Cursor<'a> {
         let Token::Named(bytes) = self.token else {
             return Err(self.unexpected(Wanted::Token(Tok::Name)));
         };
-        let name = Name::from_vec(Vec::from_slice(alloc, bytes)?);
+        let name = name_of(alloc, bytes)?;
         self.advance();
         Ok(name)
     }

@@ -81,7 +81,7 @@ fn define(alloc: Global, table: &Offers, u: usize, f: &Func) -> Result<(), LinkR
         return Ok(());
     }
     match table.find(f.name.as_slice()) {
-        Some(_) => Err(LinkRefusal::Twice(u, f.name.copy(alloc)?)),
+        Some(_) => Err(LinkRefusal::Twice(u, f.name.to_bytes(alloc)?)),
         None => Ok(()),
     }
 }
@@ -128,12 +128,12 @@ fn resolve(alloc: Global, table: &Offers, u: usize, f: &Func) -> Result<(), Link
     ensures first { IfErr result (λ r. IsRefusal r (first (unresolved (types_in table.now) u (func_of f.now)))) }
 {
     match table.find(f.name.as_slice()) {
-        None => Err(LinkRefusal::Undefined(u, f.name.copy(alloc)?)),
+        None => Err(LinkRefusal::Undefined(u, f.name.to_bytes(alloc)?)),
         Some(offer) => {
             if has_type(&offer.ty, f) {
                 Ok(())
             } else {
-                Err(LinkRefusal::TypeDiffers(u, f.name.copy(alloc)?))
+                Err(LinkRefusal::TypeDiffers(u, f.name.to_bytes(alloc)?))
             }
         }
     }

@@ -18,7 +18,8 @@ pub(crate) fn new_name(alloc: Global, unit: usize, name: &[u8]) -> Result<Name, 
     new.extend(buffer.format(unit).as_bytes())?;
     new.extend(b"_")?;
     new.extend(name)?;
-    Ok(new)
+    let made = Name::from_bytes(alloc, new)?;
+    Ok(made)
 }
 
 /// The name of a variable, an array, a parameter or a local variable: w2c_depth stays.

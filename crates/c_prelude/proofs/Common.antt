@@ -40,9 +40,9 @@ pub use Rattle.c_helpers.specs.Helpers.{copy_helper, element_helper, fill_helper
 pub use Rattle.c_helpers.specs.Helpers.{object_stmts, size_helper, store_helper}
 pub use Rattle.c_helpers.specs.Pieces.{flag}
 pub use Rattle.c_helpers.specs.Rows.{Binary, Compare, Extend, ExtendI32S, Unary, operator_of, row_of}
+pub use Rattle.c_helpers.specs.declared.operation.Form.{Form}
 pub use Rattle.c_helpers.specs.declared.operation.Helper.{Helper}
 pub use Rattle.c_helpers.specs.declared.operation.NumOp.{NumOp}
-pub use Rattle.c_helpers.specs.declared.rows.Form.{Form}
 pub use Rattle.c_prelude.specs.Calls.{CallComesBetween, CallComesTo, CallEnd, GivesBack, call_begun, call_ended}
 pub use Rattle.c_prelude.specs.Operators.{ComesToBytes, DoesCopy, DoesElement, DoesFill, DoesItsInstruction, DoesLoad, DoesOperator}
 pub use Rattle.c_prelude.specs.Operators.{DoesSize, DoesStore, answered, element_found, number, stored}

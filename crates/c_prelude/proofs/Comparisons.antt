@@ -4,7 +4,7 @@ use Rattle.c_prelude.proofs.Common.{I32, truth, Program, Pending, Progress, go_o
 use Rattle.c_prelude.proofs.Common.{DoesOperator, Compare}
 use Rattle.w2c_base.specs.declared.value.ValType.TheVariants as type
 use Rattle.wasm_tree.specs.declared.operators.CompareOp.TheVariants as comparison_op
-use Rattle.c_helpers.specs.declared.rows.Form.TheVariants as form
+use Rattle.c_helpers.specs.declared.operation.Form.TheVariants as form
 use Rattle.c_prelude.proofs.Computed.{computed}
 use Rattle.c_prelude.proofs.Numbers.{lt_s_32, lt_s_64, le_s_32, le_s_64}
 

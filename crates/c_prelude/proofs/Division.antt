@@ -3,7 +3,7 @@ use Rattle.c_prelude.proofs.Common.{ℕ, ◌-◌, ◌^◌, refl, inl, inr, arith
 use Rattle.c_prelude.proofs.Common.{Machine, number_helper, DoesOperator, Binary}
 use Rattle.w2c_base.specs.declared.value.ValType.TheVariants as type
 use Rattle.wasm_tree.specs.declared.operators.BinaryOp.TheVariants as binary_op
-use Rattle.c_helpers.specs.declared.rows.Form.TheVariants as form
+use Rattle.c_helpers.specs.declared.operation.Form.TheVariants as form
 use Rattle.c_prelude.proofs.Computed.{BeginsWith, computed_from}
 use Rattle.c_prelude.proofs.Widths.{widths, at_operands, twice, half_pos, answers, sides}
 use Rattle.c_prelude.proofs.Signs.{minus, minus_not_zero, quot_pp, quot_pn, quot_np, quot_nn, rem_pp, rem_pn, rem_np, rem_nn, div_s_zero}

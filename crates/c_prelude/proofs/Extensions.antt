@@ -4,7 +4,7 @@ use Rattle.c_prelude.proofs.Common.{mod-lt, one-add, arith, pow_pos, xor_block, 
 use Rattle.c_prelude.proofs.Common.{mod-pow-add, ValType, extend_s, Program, Pending, Progress, go_on, Frame, Machine, give, number_helper}
 use Rattle.c_prelude.proofs.Common.{DoesOperator, number, Extend, ExtendI32S, Form}
 use Rattle.w2c_base.specs.declared.value.ValType.TheVariants as type
-use Rattle.c_helpers.specs.declared.rows.Form.TheVariants as form
+use Rattle.c_helpers.specs.declared.operation.Form.TheVariants as form
 use Rattle.c_prelude.proofs.Computed.{computed}
 
 flip_last : (r : ℕ) → r < 2 → bit_xor r 1 ≡ (r + 1) % 2

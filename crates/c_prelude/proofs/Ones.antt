@@ -7,7 +7,7 @@ use Rattle.w2c_base.proofs.Numbers.{below_is_found}
 use Rattle.wasm_tree.specs.declared.operators.UnaryOp.TheVariants as unary_op
 use Rattle.c_tree.specs.declared.tree.COp.TheVariants as op
 use Rattle.c_tree.specs.Tree as tree
-use Rattle.c_helpers.specs.declared.rows.Form.TheVariants as form
+use Rattle.c_helpers.specs.declared.operation.Form.TheVariants as form
 use Rattle.c_prelude.proofs.Computed.{computed}
 use Rattle.c_prelude.proofs.Widths.{widths, evaluate-num, seen}
 use Rattle.c_prelude.proofs.Zeros.{Call, called, gives, steps_of, whole_width}

@@ -7,7 +7,7 @@ use Rattle.c_prelude.proofs.Common.{shl-shr, shr_below, shr_le, bits, ValType, G
 use Rattle.w2c_base.specs.declared.value.ValType.TheVariants as type
 use Rattle.w2c_base.proofs.Types.{bits_below}
 use Rattle.wasm_tree.specs.declared.operators.BinaryOp.TheVariants as binary_op
-use Rattle.c_helpers.specs.declared.rows.Form.TheVariants as form
+use Rattle.c_helpers.specs.declared.operation.Form.TheVariants as form
 use Rattle.c_prelude.proofs.Computed.{BeginsWith, computed_from}
 use Rattle.c_prelude.proofs.Widths.{widths, at_operands, twice, half_pos, answers, sides}
 use Rattle.c_prelude.proofs.Signs.{is_low, is_high, pattern_of-pos}

@@ -10,7 +10,7 @@ use Rattle.w2c_base.proofs.Numbers.{below_is_found}
 use Rattle.wasm_tree.specs.declared.operators.UnaryOp.TheVariants as unary_op
 use Rattle.c_tree.specs.declared.tree.COp.TheVariants as op
 use Rattle.c_tree.specs.Tree as tree
-use Rattle.c_helpers.specs.declared.rows.Form.TheVariants as form
+use Rattle.c_helpers.specs.declared.operation.Form.TheVariants as form
 use Rattle.c_prelude.proofs.Computed.{computed}
 use Rattle.c_prelude.proofs.Widths.{widths, evaluate-num, evaluate-flag, seen, sides, twice, half_pos}
 use Rattle.c_prelude.proofs.Halving.{Shifted, shift-some, shift-none, shifted-some, shifted-none, counted, room, more_room, lowest}

@@ -1,6 +1,7 @@
 -- What proofs of this crate cite of std, of the crates below and of specs/, passed on from one place. Declares nothing.
 pub use Rattle.std.proofs.Common.{◌≡◌, ℕ, ◌+◌, ◌<◌, Bool, true, false, cond, ◌&&◌, List, [], ◌∷◌, ◌++◌, map, length, get_or, take, drop}
-pub use Rattle.std.proofs.Common.{Contains, Option, sym, refl, ap, ◌∙◌, subst, append_assoc, append-nil, add-one, arith, drop-cons, rules}
+pub use Rattle.std.proofs.Common.{Contains, Option, option_to_list, Some, None, sym, refl, ap, ◌∙◌, subst, append_assoc, append-nil}
+pub use Rattle.std.proofs.Common.{add-one, arith, drop-cons, rules}
 pub use Rattle.w2c_io.proofs.Passed.{front_passed, memory_wanted, more_passed, none_passed, nothing_put, part_passed, vain_passed}
 pub use Rattle.w2c_io.proofs.Passed.{whole_passed}
 pub use Rattle.c_tree.specs.Layout.{laid}

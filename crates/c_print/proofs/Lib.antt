@@ -4,5 +4,6 @@ pub mod Spells
 pub mod WorkedUnit
 -- What the crate's own proofs cite.
 mod Common
+mod Gaps
 mod Onto
 mod PageText

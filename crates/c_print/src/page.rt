@@ -1,5 +1,5 @@
 // The text so far, and the tokens that are put at its end.
-ghost use Rattle.std.specs.Prelude.{◌≡◌, [], ◌∷◌, ◌++◌, map, OnOk};
+ghost use Rattle.std.specs.Prelude.{◌≡◌, [], ◌∷◌, ◌++◌, map, option_to_list, OnOk};
 ghost use Rattle.std.specs.Fmt.{decimal};
 ghost use Rattle.c_tree.specs.declared.token.Tok.TheVariants as tok;
 ghost use Rattle.c_tree.specs.declared.token.Kind.TheVariants as kind;
@@ -35,7 +35,7 @@ impl Page {
     fn put(&mut self, next: Kind, text: &[u8]) -> Result<(), Memory>
         ensures { OnOk result (self.new ≡ record { text = (self.old.text ++ gap self.old.last next) ++ text.now; last = next }) }
     {
-        self.text.extend(gap(self.last, next))?;
+        put_gap(&mut self.text, self.last, next)?;
         self.text.extend(text)?;
         self.last = next;
         Ok(())
@@ -104,21 +104,34 @@ impl Page {
     }
 }
 
-fn gap(last: Kind, next: Kind) -> &'static [u8]
-    ensures { result.now ≡ gap last next }
+#[tactic(auto, using(crate::proofs::Gaps::no_gap, crate::proofs::Gaps::one_gap))]
+fn put_gap(text: &mut Bytes, last: Kind, next: Kind) -> Result<(), Memory>
+    ensures { OnOk result (text.new ≡ text.old ++ gap last next) }
+{
+    match gap(last, next) {
+        None => Ok(()),
+        Some(byte) => {
+            text.push(byte)?;
+            Ok(())
+        }
+    }
+}
+
+fn gap(last: Kind, next: Kind) -> Option<u8>
+    ensures { option_to_list result ≡ gap last next }
 {
     if opens(last) {
-        b""
+        None
     } else if ends_line(last) {
-        b"\n"
+        Some(b'\n')
     } else if ends_block(last, next) {
-        b"\n"
+        Some(b'\n')
     } else if closes(next) {
-        b""
+        None
     } else if is_named(last) && begins_list(next) {
-        b""
+        None
     } else {
-        b" "
+        Some(b' ')
     }
 }
 

@@ -130,12 +130,13 @@ impl<'a> Indexes<'a> {
             ImportKind::Memory(_) => (SymbolKind::Memory, accessor(CType::PtrMem)),
             ImportKind::Global(ty, mutable) => (global_kind(mutable), accessor(pointer_type(ty))),
         };
-        let name = export_symbol(
+        let symbol = export_symbol(
             alloc,
             import.module.as_slice(),
             kind,
             import.field.as_slice(),
         )?;
+        let name = Name::from_bytes(alloc, symbol)?;
         Ok(Symbol { name, ty })
     }
 
@@ -152,7 +153,8 @@ impl<'a> Indexes<'a> {
                 Some((ty, mutable)) => (global_kind(mutable), accessor(pointer_type(ty))),
             },
         };
-        let name = export_symbol(alloc, self.name, kind, export.name.as_slice())?;
+        let symbol = export_symbol(alloc, self.name, kind, export.name.as_slice())?;
+        let name = Name::from_bytes(alloc, symbol)?;
         Ok(Symbol { name, ty })
     }
 }

@@ -2,7 +2,7 @@
 ghost use Rattle.std.specs.Prelude.{◌≡◌, ◌++◌, codes, IfOk};
 ghost use Rattle.c_tree.specs.DefinedNames.{func_name as func_name_of, global_name as global_name_of, pointer_name as pointer_name_of};
 
-use c_tree::{Name, name_of, with_number};
+use c_tree::{Name, with_number};
 use std::alloc::Global;
 use w2c_base::Memory;
 
@@ -16,8 +16,7 @@ pub const TABLE_NAME: &[u8] = b"t0";
 pub fn pointer_name(alloc: Global, object: &[u8]) -> Result<Name, Memory>
     ensures { IfOk result (λ name. name ≡ codes "p" ++ object.now) }
 {
-    let mut name = name_of(alloc, b"p")?;
-    name.extend(object)?;
+    let name = Name::joined(alloc, b"p", object)?;
     Ok(name)
 }
 

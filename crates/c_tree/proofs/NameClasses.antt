@@ -7,6 +7,7 @@ use Rattle.w2c_base.proofs.Conjunctions.{both_hold}
 use Rattle.c_tree.specs.Scope.{Name}
 use Rattle.c_tree.proofs.Proper.{all_digits}
 use Rattle.c_tree.proofs.TreeIsProper.{decimal_digits}
+use Rattle.c_tree.specs.DefinedNames.{part_name}
 use Rattle.c_tree.specs.NameClasses.{has_underscore, by_letter, class}
 
 no_underscore : (ds : List ℕ) → list_all is_digit ds ≡ true → has_underscore ds ≡ false
@@ -50,3 +51,17 @@ lettered c n m p q ne = by (bytes_eq (c ∷ decimal n) (c ∷ decimal m)) refl
     by : (b : Bool) → bytes_eq (c ∷ decimal n) (c ∷ decimal m) ≡ b → b ≡ false
     by false e = refl
     by true e = absurd (ne (decimal_injective n m p q (ap tail ((bytes_eq-Decides (c ∷ decimal n) (c ∷ decimal m)).0 e))))
+
+-- the parts of an init function
+pub class_part : (k : ℕ) → class (part_name k) ≡ 10
+class_part k = refl
+
+abbrev behind_five : List ℕ → List ℕ
+behind_five name = tail (tail (tail (tail (tail name))))
+
+pub part_names : GivesNames part_name
+part_names n m p q ne = by (bytes_eq (part_name n) (part_name m)) refl
+  where
+    by : (b : Bool) → bytes_eq (part_name n) (part_name m) ≡ b → b ≡ false
+    by false e = refl
+    by true e = absurd (ne (decimal_injective n m p q (ap behind_five ((bytes_eq-Decides (part_name n) (part_name m)).0 e))))

@@ -1,5 +1,5 @@
 -- The names in a module's unit of its memory, its table, and the functions and globals that it defines,
--- numbered as in the module, imports first; and of what points to those of others.
+-- numbered as in the module, imports first; of what points to those of others; and of the parts of its init function.
 use Rattle.std.specs.Prelude.{ℕ, List, ◌++◌, codes, decimal}
 
 abbrev pub memory_name : List ℕ
@@ -21,3 +21,7 @@ pointer_name object = codes "p" ++ object
 -- a label of a function
 abbrev pub label_name : ℕ → List ℕ
 label_name l = codes "L" ++ decimal l
+
+-- a static function that the init function calls
+abbrev pub part_name : ℕ → List ℕ
+part_name k = codes "init_" ++ decimal k

@@ -16,11 +16,11 @@ by_letter c =
     else (if c == 100 then 5
     else (if c == 102 then 7 else 9)))))
 
--- 6 are symbols, 8 helpers
+-- 6 are symbols, 8 helpers, and 10 parts of an init function, whose second letter is `n`
 abbrev pub class : Name → ℕ
 class [] = 0
 class (c ∷ []) = 9
-class (c ∷ d ∷ rest) = if c == 119 then 6 else (if has_underscore rest then 8 else by_letter c)
+class (c ∷ d ∷ rest) = if c == 119 then 6 else (if has_underscore rest then (if d == 110 then 10 else 8) else by_letter c)
 
 abbrev pub NoneOf : ℕ → List Name → Type 0
 NoneOf k names = AllByRecursion (λ name. class name ≢ k) names

@@ -19,9 +19,7 @@ use w2c_base::{Memory, TrapKind, ValType};
 pub fn name_of(alloc: Global, text: &[u8]) -> Result<Name, Memory>
     ensures { IfOk result (λ name. name ≡ text.now) }
 {
-    let mut name = Name::new(alloc);
-    name.extend(text)?;
-    Ok(name)
+    Name::joined(alloc, b"", text)
 }
 
 /// A copy of a name, where there is one.
@@ -151,8 +149,8 @@ pub fn trap(alloc: Global, kind: TrapKind) -> Result<Stmt, Memory>
 pub fn with_number(alloc: Global, letters: &[u8], number: usize) -> Result<Name, Memory>
     ensures { IfOk result (λ name. name ≡ letters.now ++ decimal number) }
 {
-    let mut name = name_of(alloc, letters)?;
-    name.extend(Buffer::new().format(number).as_bytes())?;
+    let mut buffer = Buffer::new();
+    let name = Name::joined(alloc, letters, buffer.format(number).as_bytes())?;
     Ok(name)
 }
 

@@ -7,10 +7,10 @@ ghost use Rattle.c_tree.specs.View.{func_of, item_of, maybe_body_of, stmt_of};
 
 use std::alloc::Global;
 use std::boxed::Box;
-use w2c_base::{Bytes, Memory, Sequence};
+use w2c_base::{Bytes, Memory, Sequence, ShortBytes};
 
 /// The bytes of a name.
-pub type Name = Bytes;
+pub type Name = ShortBytes;
 
 /// A type. `Mem` and `Tab` are a linear memory and a table, `FnPtr` is an element of a table.
 #[derive(Clone, Copy, Debug, PartialEq, Eq)]

@@ -4,7 +4,7 @@ pub use Rattle.std.proofs.Common.{◌⊎◌, List, [], ◌∷◌, ◌++◌, map,
 pub use Rattle.std.proofs.Common.{is_some, is_none, IfOk, if◌then◌else◌, IsSome, nat_eq, ◌==◌, slice_get}
 pub use Rattle.std.proofs.Common.{Some, None, All, Contains, filter, Option, option_map, find, zip, flat_map, filter_map}
 pub use Rattle.std.proofs.Common.{bytes_eq, unwrap_or, sym, refl, ap, ◌∙◌, subst, inl, inr, append_assoc, append-nil, add-one}
-pub use Rattle.std.proofs.Common.{arith, length-append, Bor, zero-add, add-zero}
+pub use Rattle.std.proofs.Common.{arith, length-append, Bor, zero-add, add-zero, leb-true}
 pub use Rattle.std.proofs.lemmas.Bool.{or_left, or_right, not-true}
 pub use Rattle.std.proofs.lemmas.Fmt.{decimal_injective}
 pub use Rattle.std.proofs.lemmas.List.{drop_all, length-map, map-append, map_push}
@@ -86,13 +86,14 @@ pub use Rattle.c_unit.specs.Accessors.{accessor_by}
 pub use Rattle.c_unit.specs.Arrays.{byte_segments, bytes_if, bytes_of}
 pub use Rattle.c_unit.specs.Exports.{accessor, args_from, export_func, param_name, params_from, passes_on}
 pub use Rattle.c_unit.specs.Exports.{usable_symbol}
-pub use Rattle.c_unit.specs.Items.{bodies, data_item, data_of, declaration, global_item, header_of, items, no_name, objects_of, prototype}
+pub use Rattle.c_unit.specs.Items.{bodies, data_item, data_of, declaration, global_item, header_of, items, no_name, objects_of, part_items}
+pub use Rattle.c_unit.specs.Items.{prototype}
 pub use Rattle.c_unit.specs.Items.{variable}
 pub use Rattle.c_unit.specs.Pointers.{pointed}
 pub use Rattle.c_unit.specs.Prototypes.{bare_params, prototype_of}
 pub use Rattle.c_unit.specs.Tails.{Given, from_bodies, from_data, from_declared, from_exports, from_global_pointers, from_globals}
-pub use Rattle.c_unit.specs.Tails.{from_helpers, from_init, from_memories, from_pointers, from_prototypes, from_table_pointers, from_tables}
-pub use Rattle.c_unit.specs.Tails.{global_pointer, left_of}
+pub use Rattle.c_unit.specs.Tails.{from_helpers, from_init, from_memories, from_parts, from_pointers, from_prototypes, from_table_pointers}
+pub use Rattle.c_unit.specs.Tails.{from_tables, global_pointer, left_of}
 pub use Rattle.w2c_base.proofs.Options.{some_is}
 pub use Rattle.w2c_base.proofs.Lists.{filter_few, get_numbered, get_unmapped}
 pub use Rattle.wasm_tree.proofs.ImportCounts.{global_count, memory_count, table_count}

@@ -1,4 +1,4 @@
--- What the names of a module's unit stand for in it: helpers, bodies, exports and the init function, and
+-- What the names of a module's unit stand for in it: helpers, bodies, exports, the init function and its parts, and
 -- that symbols of other modules stand for nothing.
 use Rattle.c_unit.proofs.Common.{◌≡◌, ℕ, zero, suc, ◌+◌, ◌-◌, ◌^◌, ◌<◌, ◌≤◌, Bool, true, false, not, ◌&&◌, ◌≢◌, ◌⊎◌, List, [], ◌∷◌, ◌++◌}
 use Rattle.c_unit.proofs.Common.{map, length, is_none, if◌then◌else◌, nat_eq, slice_get, Some, None, All, Contains, Option, option_map}
@@ -12,7 +12,11 @@ use Rattle.c_unit.proofs.Common.{memory_name, table_name, listed, made_static, n
 use Rattle.c_unit.proofs.Common.{export_type, global_imports, global_kind, global_symbol, memory_imports, table_imports, class}
 use Rattle.c_unit.proofs.Common.{class_lettered, get_numbered, IsDefined, body_of, defined_at, func_of, helpers_of, needs_of, callee}
 use Rattle.c_unit.proofs.Common.{accessor, export_func, passes_on, data_name, init_func, bodies, data_of, declaration, items, objects_of}
-use Rattle.c_unit.proofs.Common.{prototype, not-true, test_at}
+use Rattle.c_unit.proofs.Common.{part_items, prototype, not-true, test_at, same_Some, slice_get_within}
+use Rattle.c_tree.specs.DefinedNames.{part_name}
+use Rattle.c_init.specs.Init.{Part, own_locals, part_func, part_stmts, parts_of}
+use Rattle.w2c_base.proofs.Lists.{get_zipped}
+use Rattle.w2c_base.proofs.NumberedLists.{numbered_at}
 use Rattle.w2c_base.proofs.Options.{no_option}
 use Rattle.w2c_mangle.specs.declared.symbol.SymbolKind.TheVariants as symbol
 use Rattle.c_tree.specs.declared.tree.CType.TheVariants as c_type
@@ -52,7 +56,8 @@ defining m =
     map (λ which. tree.Function (helper_of which)) (needs_of m).helpers
     ++ (map tree.Function (bodies m)
     ++ (map (λ e. tree.Function (export_func m e)) m.tree.exports
-    ++ tree.Function (init_func m) ∷ []))
+    ++ (part_items m.tree
+    ++ tree.Function (init_func m) ∷ [])))
 
 found_in_items : (t : Test) (m : NamedModule) (f : tree.Func) (body : tree.Body) → Finds t f body (defining m) → Finds t f body (items m)
 found_in_items t m f body found =
@@ -68,7 +73,7 @@ none_in_items t m none =
     (skip_none t _ _ (declared_miss t m)
     (skip_none t _ _ (prototypes_miss t (bodies m)) none)))
 
--- no helper, no body, no export passes
+-- no helper, no body, no export, no part passes
 abbrev pub NoHelper : Test → NamedModule → Type 0
 NoHelper t m = find (λ which. t (helper_of which)) (helpers_of m.tree) ≡ None
 
@@ -77,6 +82,9 @@ NoBody t m = find t (bodies m) ≡ None
 
 abbrev pub NoExport : Test → NamedModule → Type 0
 NoExport t m = find (λ e. t (export_func m e)) m.tree.exports ≡ None
+
+abbrev pub NoPart : Test → NamedModule → Type 0
+NoPart t m = find (λ p. t (part_func m.tree p)) (numbered (parts_of m.tree)) ≡ None
 
 in_helpers : (t : Test) (m : NamedModule) (which : Helper) (body : tree.Body) → (helper_of which).body ≡ Some body
     → find (λ w. t (helper_of w)) (helpers_of m.tree) ≡ Some which → Finds t (helper_of which) body (items m)
@@ -96,20 +104,32 @@ in_exports t m e body is helpers bodies_none found = found_in_items t m (export_
     (skip t _ body _ _ (none_among t (λ (g : tree.Func). g) (bodies m) bodies_none)
     (found_among t (export_func m) m.tree.exports _ e body is found)))
 
-in_init : (t : Test) (m : NamedModule) (body : tree.Body) → (init_func m).body ≡ Some body → NoHelper t m → NoBody t m → NoExport t m
-    → t (init_func m) ≡ true → Finds t (init_func m) body (items m)
-in_init t m body is helpers bodies_none exports passes = found_in_items t m (init_func m) body
+in_parts : (t : Test) (m : NamedModule) (p : ℕ × Part) (body : tree.Body) → (part_func m.tree p).body ≡ Some body → NoHelper t m
+    → NoBody t m → NoExport t m → find (λ p. t (part_func m.tree p)) (numbered (parts_of m.tree)) ≡ Some p
+    → Finds t (part_func m.tree p) body (items m)
+in_parts t m p body is helpers bodies_none exports found = found_in_items t m (part_func m.tree p) body
     (skip t _ body _ _ (none_among t helper_of (helpers_of m.tree) helpers)
     (skip t _ body _ _ (none_among t (λ (g : tree.Func). g) (bodies m) bodies_none)
     (skip t _ body _ _ (none_among t (export_func m) m.tree.exports exports)
-    (here t (init_func m) body [] is passes))))
+    (found_among t (part_func m.tree) (numbered (parts_of m.tree)) _ p body is found))))
 
-in_none : (t : Test) (m : NamedModule) → NoHelper t m → NoBody t m → NoExport t m → t (init_func m) ≡ false → FindsNone t (items m)
-in_none t m helpers bodies_none exports init = none_in_items t m
+in_init : (t : Test) (m : NamedModule) (body : tree.Body) → (init_func m).body ≡ Some body → NoHelper t m → NoBody t m → NoExport t m
+    → NoPart t m → t (init_func m) ≡ true → Finds t (init_func m) body (items m)
+in_init t m body is helpers bodies_none exports parts passes = found_in_items t m (init_func m) body
+    (skip t _ body _ _ (none_among t helper_of (helpers_of m.tree) helpers)
+    (skip t _ body _ _ (none_among t (λ (g : tree.Func). g) (bodies m) bodies_none)
+    (skip t _ body _ _ (none_among t (export_func m) m.tree.exports exports)
+    (skip t _ body _ _ (none_among t (part_func m.tree) (numbered (parts_of m.tree)) parts)
+    (here t (init_func m) body [] is passes)))))
+
+in_none : (t : Test) (m : NamedModule) → NoHelper t m → NoBody t m → NoExport t m → NoPart t m → t (init_func m) ≡ false
+    → FindsNone t (items m)
+in_none t m helpers bodies_none exports parts init = none_in_items t m
     (skip_none t _ _ (none_among t helper_of (helpers_of m.tree) helpers)
     (skip_none t _ _ (none_among t (λ (g : tree.Func). g) (bodies m) bodies_none)
     (skip_none t _ _ (none_among t (export_func m) m.tree.exports exports)
-    (skip_none t (tree.Function (init_func m) ∷ []) [] (inr init, tt) (λ k. refl)))))
+    (skip_none t _ _ (none_among t (part_func m.tree) (numbered (parts_of m.tree)) parts)
+    (skip_none t (tree.Function (init_func m) ∷ []) [] (inr init, tt) (λ k. refl))))))
 
 -- ---- names
 
@@ -221,6 +241,19 @@ no_helper_external m name = find_none (λ which. external_by name (helper_of whi
 no_body_external : (m : NamedModule) (name : Name) → NoBody (external_by name) m
 no_body_external m name = no_body (external_by name) m (λ index. rw ((body_is m.tree m.name index).1) refl)
 
+-- ---- parts of the init function
+
+pub no_part : (t : Test) (m : NamedModule) → ((p : ℕ × Part) → t (part_func m.tree p) ≡ false) → NoPart t m
+no_part t m h = find_none (λ p. t (part_func m.tree p)) (numbered (parts_of m.tree)) (λ i p is. h p)
+
+-- they begin with another letter than symbols
+no_part_symbol : (m : NamedModule) (name : Name) → head name ≡ 119 → NoPart (named_by name) m
+no_part_symbol m name letter = no_part (named_by name) m (λ p. bytes_differ (part_name p.0) name (λ e.
+    let wrong : true ≡ false = ap (λ n. nat_eq (head n) 105) e ∙ ap (λ b. nat_eq b 105) letter in cc))
+
+no_part_external : (m : NamedModule) (name : Name) → NoPart (external_by name) m
+no_part_external m name = no_part (external_by name) m (λ p. refl)
+
 -- ---- exports
 
 -- the kind of an export's symbol
@@ -300,6 +333,7 @@ no_symbol_undefined : (m : NamedModule) (name : Name) → nat_eq (head name) 119
 no_symbol_undefined m name letter =
     in_none (external_by name) m (no_helper_external m name) (no_body_external m name)
     (find_none (λ e. external_by name (export_func m e)) m.tree.exports (λ i e is. rw ((export_external m e).external) (by_name e)))
+    (no_part_external m name)
     (bytes_differ (init_symbol_of m.name) name (λ same. no_letter refl same)) 0
   where
     no_letter : {symbol : Name} → nat_eq (head symbol) 119 ≡ true → symbol ≡ name → ⊥
@@ -421,10 +455,11 @@ init_defined m small = (
   _,
   refl,
   in_init (named_by name) m _ refl (no_helper_symbol m name refl) (no_body_symbol m name refl)
-      (find_none (λ e. named_by name (export_func m e)) m.tree.exports (λ i e is. by_name e)) (bytes_equal name) 0,
+      (find_none (λ e. named_by name (export_func m e)) m.tree.exports (λ i e is. by_name e)) (no_part_symbol m name refl)
+      (bytes_equal name) 0,
   in_init (external_by name) m _ refl (no_helper_external m name) (no_body_external m name)
       (find_none (λ e. external_by name (export_func m e)) m.tree.exports (λ i e is. rw ((export_external m e).external) (by_name e)))
-      (bytes_equal name) 0,
+      (no_part_external m name) (bytes_equal name) 0,
 )
   where
     name : Name
@@ -434,6 +469,45 @@ init_defined m small = (
     by_name e = bytes_differ (export_func m e).name (init_symbol_of m.name) (λ same.
         init_symbol_of-not_export m.name m.name (kind_of m e) e.name small small (sym same ∙ (export_external m e).named ∙ symbol_is m e))
 
+-- a part of the init function
+abbrev pub part_body : NamedModule → Part → tree.Body
+part_body m x = record { locals = own_locals m.tree; stmts = part_stmts x }
+
+abbrev behind_five : Name → Name
+behind_five name = tail (tail (tail (tail (tail name))))
+
+pub part_defined : (m : NamedModule) (k : ℕ) (x : Part) → length (parts_of m.tree) < 2 ^ 62 → slice_get (parts_of m.tree) k ≡ Some x
+    → IsDefinition (defined (items m)) (part_name k) (part_func m.tree (k, x)) (part_body m x)
+part_defined m k x few is =
+    in_parts (named_by (part_name k)) m (k, x) (part_body m x) refl (no_helper m (part_name k) refl)
+    (no_body_named m (part_name k) refl refl)
+    (find_none (λ e. named_by (part_name k) (export_func m e)) m.tree.exports (λ i e at. no_export e))
+    (find_only (λ p. named_by (part_name k) (part_func m.tree p)) (numbered parts) k (k, x) (numbered_at parts k x is)
+    (bytes_equal (part_name k)) only)
+    0
+  where
+    parts : List Part
+    parts = parts_of m.tree
+
+    no_export : (e : Export) → named_by (part_name k) (export_func m e) ≡ false
+    no_export e = bytes_differ (export_func m e).name (part_name k) (λ same.
+        let symbol : export_symbol_of m.name (kind_of m e) e.name ≡ part_name k =
+        sym (symbol_is m e) ∙ (sym (export_external m e).named ∙ same) in
+        let wrong : true ≡ false = ap (λ n. nat_eq (head n) 119) symbol in cc)
+
+    only : (i : ℕ) (p : ℕ × Part) → slice_get (numbered parts) i ≡ Some p → named_by (part_name k) (part_func m.tree p) ≡ true
+        → p ≡ (k, x)
+    only i p at passes =
+        let both = get_zipped (range_with_len 0 (length parts)) parts i p at in
+        let within : i < length parts = slice_get_within parts i p.1 both.1 in
+        let start : 0 + i ≡ i = omega arith in
+        let place : p.0 ≡ i = same_Some p.0 i (sym both.0 ∙ get_numbered 0 (length parts) i within ∙ ap Some start) in
+        let there : k < length parts = slice_get_within parts k x is in
+        let number : p.0 ≡ k = decimal_injective p.0 k (omega (arith, place, within, few)) (omega (arith, there, few))
+        (ap behind_five ((bytes_eq-Decides (part_name p.0) (part_name k)).0 passes)) in
+        let part : p.1 ≡ x = same_Some p.1 x (sym both.1 ∙ ap (slice_get parts) (sym place ∙ number) ∙ is) in
+        λ j. (number j, part j)
+
 -- a symbol that is none of the module's own
 pub symbol_undefined : (m : NamedModule) (name : Name) → IsOfSymbol name
     → ((i : ℕ) (e : Export) → slice_get m.tree.exports i ≡ Some e → export_symbol m e ≢ name) → init_symbol_of m.name ≢ name
@@ -441,10 +515,11 @@ pub symbol_undefined : (m : NamedModule) (name : Name) → IsOfSymbol name
 symbol_undefined m name symbol none init = (
   in_none (named_by name) m (no_helper_symbol m name symbol) (no_body_symbol m name symbol)
       (find_none (λ e. named_by name (export_func m e)) m.tree.exports (λ i e is. by_name e (none i e is)))
-      (bytes_differ (init_symbol_of m.name) name init) 0,
+      (no_part_symbol m name symbol) (bytes_differ (init_symbol_of m.name) name init) 0,
   in_none (external_by name) m (no_helper_external m name) (no_body_external m name)
       (find_none (λ e. external_by name (export_func m e)) m.tree.exports
-      (λ i e is. rw ((export_external m e).external) (by_name e (none i e is)))) (bytes_differ (init_symbol_of m.name) name init) 0,
+      (λ i e is. rw ((export_external m e).external) (by_name e (none i e is)))) (no_part_external m name)
+      (bytes_differ (init_symbol_of m.name) name init) 0,
 )
   where
     by_name : (b : Export) → export_symbol m b ≢ name → named_by name (export_func m b) ≡ false
@@ -470,6 +545,10 @@ typed_inside : (m : NamedModule) (name : Name) (f : tree.Func) (body : tree.Body
     → IsDefinition (defined (items m)) name f body → IsDefinition (typed (items m)) name f body
 typed_inside m name f body letter d =
     (d.0, ap (λ (o : Option Definition). option_or o (defined (items m) name)) (no_symbol_undefined m name letter) ∙ d.1)
+
+pub part_typed : (m : NamedModule) (k : ℕ) (f : tree.Func) (body : tree.Body)
+    → IsDefinition (defined (items m)) (part_name k) f body → IsDefinition (typed (items m)) (part_name k) f body
+part_typed m k f body d = typed_inside m (part_name k) f body refl d
 
 pub func_typed : (m : NamedModule) (index : ℕ) (f : tree.Func) (body : tree.Body)
     → IsDefinition (defined (items m)) (func_name index) f body → IsDefinition (typed (items m)) (func_name index) f body

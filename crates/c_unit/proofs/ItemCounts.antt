@@ -5,15 +5,11 @@ use Rattle.c_unit.proofs.Common.{slice_get_within, list_any, range_with_len, num
 use Rattle.c_unit.proofs.Common.{is_table_import, BodyEntry, SegmentEntry, Module, Name, is_among, NamedModule, HELPERS, declared_symbols}
 use Rattle.c_unit.proofs.Common.{declared_type, firsts, global_imports, import_symbol, memory_imports, symbol_type, table_imports}
 use Rattle.c_unit.proofs.Common.{filter_few, body_of, any_in, calls_helper, helpers_of, pointers_of, bodies, data_item, data_of, items}
-use Rattle.c_unit.proofs.Common.{objects_of, length-map}
+use Rattle.c_unit.proofs.Common.{objects_of, part_items, length-map, leb-true}
 use Rattle.c_tree.specs.Tree as tree
 use Rattle.c_init.specs.Entries.{entries}
-
-joined : {A : Type 0} (xs ys : List A) (a b : ℕ) → length xs ≤ a → length ys ≤ b → length (xs ++ ys) ≤ a + b
-joined xs ys a b few others = let e = length-append xs ys in omega (arith, e, few, others)
-
-mapped : {A B : Type 0} (f : A → B) (xs : List A) (a : ℕ) → length xs ≤ a → length (map f xs) ≤ a
-mapped f xs a few = let e = length-map xs f in omega (arith, e, few)
+use Rattle.c_init.proofs.FewParts.{joined_few, mapped_few}
+use Rattle.c_init.specs.Init.{parts_of}
 
 -- each brings one at most
 one_each : {A B : Type 0} (brings : A → List B) → ((x : A) → length (brings x) ≤ 1) → (xs : List A)
@@ -46,8 +42,9 @@ firsts_few seen (name ∷ names) = go (is_among name seen) (firsts_few seen name
     go true skipped kept = omega (arith, skipped)
     go false skipped kept = omega (arith, kept)
 
-helper_count : length HELPERS ≡ 57
-helper_count = refl
+-- far more than there are
+helpers_at_most : length HELPERS ≤ 1000
+helpers_at_most = leb-true (length HELPERS) 1000 refl
 
 data_few : (m : Module) → length (data_of m) ≤ length m.segments
 data_few m =
@@ -58,53 +55,56 @@ data_few m =
 declared_few : (m : NamedModule) → length (declared_symbols m) ≤ length m.tree.imports
 declared_few m =
     let names = map import_symbol m.tree.imports in
-    mapped (λ name. (name, declared_type (symbol_type m name))) (firsts [] names) (length m.tree.imports)
+    mapped_few (λ name. (name, declared_type (symbol_type m name))) (firsts [] names) (length m.tree.imports)
     (let few = firsts_few [] names in let e = length-map m.tree.imports import_symbol in omega (arith, few, e))
 
-helpers_few : (m : Module) → length (helpers_of m) ≤ 57
+helpers_few : (m : Module) → length (helpers_of m) ≤ 1000
 helpers_few m =
     let few = filter_few (λ which. list_any (λ (b : BodyEntry). any_in (calls_helper which) b.code) m.bodies) HELPERS in
-    let e = helper_count in
-    omega (arith, few, e)
+    omega (arith, few, helpers_at_most)
 
 pointers_few : (m : Module) → length (pointers_of m) ≤ length m.imports + (length m.imports + length m.imports)
 pointers_few m =
     let n = length m.imports in
-    joined _ _ n (n + n) (mapped _ (memory_imports m) n (filter_few is_memory_import m.imports))
-    (joined _ _ n n (mapped _ (table_imports m) n (filter_few is_table_import m.imports))
-    (mapped _ (numbered (global_imports m)) n
+    joined_few _ _ n (n + n) (mapped_few _ (memory_imports m) n (filter_few is_memory_import m.imports))
+    (joined_few _ _ n n (mapped_few _ (table_imports m) n (filter_few is_table_import m.imports))
+    (mapped_few _ (numbered (global_imports m)) n
     (let few = numbered_few (global_imports m) in let some = filter_few is_global_import m.imports in omega (arith, few, some))))
 
 objects_few : (m : Module) → length (objects_of m (pointers_of m)) ≤ length m.tables + (length m.memories + (length m.globals
     + (length m.imports + (length m.imports + length m.imports))))
 objects_few m =
-    joined _ _ (length m.tables) _ (mapped _ m.tables _ (omega arith))
-    (joined _ _ (length m.memories) _ (mapped _ m.memories _ (omega arith))
-    (joined _ _ (length m.globals) _ (mapped _ (numbered m.globals) (length m.globals) (numbered_few m.globals))
-    (mapped _ (pointers_of m) _ (pointers_few m))))
+    joined_few _ _ (length m.tables) _ (mapped_few _ m.tables _ (omega arith))
+    (joined_few _ _ (length m.memories) _ (mapped_few _ m.memories _ (omega arith))
+    (joined_few _ _ (length m.globals) _ (mapped_few _ (numbered m.globals) (length m.globals) (numbered_few m.globals))
+    (mapped_few _ (pointers_of m) _ (pointers_few m))))
 
 bodies_few : (m : NamedModule) → length (bodies m) ≤ length m.tree.funcs
 bodies_few m = let e = length-map-range_with_len (body_of m.tree m.name) (imported_funcs m.tree) (length m.tree.funcs) in omega (arith, e)
 
-few_items : (n : NamedModule) → entries n.tree < 2 ^ 32 → length (items n) < 2 ^ 64
-few_items n few =
+parts_few : (m : Module) → length (part_items m) ≤ length (parts_of m)
+parts_few m = mapped_few _ (numbered (parts_of m)) (length (parts_of m)) (numbered_few (parts_of m))
+
+few_items : (n : NamedModule) → entries n.tree < 2 ^ 32 → length (parts_of n.tree) < 2 ^ 62 → length (items n) < 2 ^ 64
+few_items n few parts =
     let m = n.tree in
     let i = length m.imports in
     let all : length (items n) ≤ (length m.tables + (length m.memories + (length m.globals + (i + (i + i))))) + (length m.segments + (i
-    + (length m.funcs + (57 + (length m.funcs + (length m.exports + 1)))))) =
-    joined _ _ _ _ (objects_few m)
-    (joined _ _ _ _ (data_few m)
-    (joined _ _ _ _ (mapped _ (declared_symbols n) _ (declared_few n))
-    (joined _ _ _ _ (mapped _ (bodies n) _ (bodies_few n))
-    (joined _ _ _ _ (mapped _ (helpers_of m) _ (helpers_few m))
-    (joined _ _ _ _ (mapped _ (bodies n) _ (bodies_few n))
-    (joined _ _ _ _ (mapped _ m.exports _ (omega arith)) (omega arith))))))) in
-    omega (arith, all, few)
+    + (length m.funcs + (1000 + (length m.funcs + (length m.exports + (length (parts_of m) + 1))))))) =
+    joined_few _ _ _ _ (objects_few m)
+    (joined_few _ _ _ _ (data_few m)
+    (joined_few _ _ _ _ (mapped_few _ (declared_symbols n) _ (declared_few n))
+    (joined_few _ _ _ _ (mapped_few _ (bodies n) _ (bodies_few n))
+    (joined_few _ _ _ _ (mapped_few _ (helpers_of m) _ (helpers_few m))
+    (joined_few _ _ _ _ (mapped_few _ (bodies n) _ (bodies_few n))
+    (joined_few _ _ _ _ (mapped_few _ m.exports _ (omega arith))
+    (joined_few _ _ _ _ (parts_few m) (omega arith)))))))) in
+    omega (arith, all, few, parts)
 
 -- behind an item is a number
-pub next_number : (n : NamedModule) (number : ℕ) (item : tree.Item) → entries n.tree < 2 ^ 32 → Some item ≡ slice_get (items n) number
-    → number + 1 < 2 ^ 64
-next_number n number item few is =
+pub next_number : (n : NamedModule) (number : ℕ) (item : tree.Item) → entries n.tree < 2 ^ 32 → length (parts_of n.tree) < 2 ^ 62
+    → Some item ≡ slice_get (items n) number → number + 1 < 2 ^ 64
+next_number n number item few parts is =
     let there = slice_get_within (items n) number item (sym is) in
-    let all = few_items n few in
+    let all = few_items n few parts in
     omega (arith, all, there)

@@ -2,7 +2,7 @@
 use Rattle.c_unit.proofs.Common.{ℕ, ◌+◌, ◌++◌, List, [], ◌∷◌, map, None, numbered, imported_globals, GlobalEntry, Import, LimitsEntry, Name}
 use Rattle.c_unit.proofs.Common.{CType, NamedModule, c_type_of, global_name, memory_name, table_name, helper_of, declared_symbols}
 use Rattle.c_unit.proofs.Common.{global_imports, import_type, memory_imports, table_imports, pointer_name, helpers_of, pointers_of}
-use Rattle.c_unit.proofs.Common.{export_func, bodies, data_of, declaration, objects_of, prototype, init_func}
+use Rattle.c_unit.proofs.Common.{export_func, bodies, data_of, declaration, objects_of, part_items, prototype, init_func}
 use Rattle.c_tree.specs.declared.tree.CType.TheVariants as type
 use Rattle.c_tree.specs.Tree as tree
 
@@ -58,6 +58,9 @@ functions_of m = map tree.Function (bodies m)
 abbrev pub exports : NamedModule → List tree.Item
 exports m = map (λ e. tree.Function (export_func m e)) m.tree.exports
 
+abbrev pub parts : NamedModule → List tree.Item
+parts m = part_items m.tree
+
 abbrev pub init : NamedModule → List tree.Item
 init m = tree.Function (init_func m) ∷ []
 
@@ -78,5 +81,8 @@ before_functions m = before_helpers m ++ helpers m
 abbrev pub before_exports : NamedModule → List tree.Item
 before_exports m = before_functions m ++ functions_of m
 
+abbrev pub before_parts : NamedModule → List tree.Item
+before_parts m = before_exports m ++ exports m
+
 abbrev pub before_init : NamedModule → List tree.Item
-before_init m = before_exports m ++ exports m
+before_init m = before_parts m ++ parts m

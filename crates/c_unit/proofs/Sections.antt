@@ -27,6 +27,9 @@ use Rattle.c_helpers.specs.declared.operation.Helper.TheVariants as helper
 use Rattle.c_helpers.specs.declared.operation.NumOp.TheVariants as num
 use Rattle.c_init.proofs.Small.{all_images}
 use Rattle.c_init.proofs.Countable.{few_tables, few_memories}
+use Rattle.c_init.proofs.FewParts.{few_parts}
+use Rattle.c_init.specs.Init.{Part, part_func, parts_of}
+use Rattle.c_tree.proofs.NameClasses.{class_part, part_names}
 
 -- ---- classes
 
@@ -140,6 +143,17 @@ module _ (m : NamedModule) (a : IsAccepted m) where
 
   pub few_funcs : imported_funcs t + length t.funcs ≤ 2 ^ 64
   few_funcs = let i = filter_few is_func_import t.imports in omega (arith, i, (accepted_limits a).imports, (accepted_limits a).funcs)
+
+  -- parts of the init function
+
+  pub parts_class : AllClass 10 (map (λ p. tree.Function (part_func t p)) (numbered (parts_of t)))
+  parts_class = all_zip (λ o. class (name_of o) ≡ 10) (λ (p : ℕ × Part). tree.Function (part_func t p)) 0 (length (parts_of t)) (parts_of t)
+      (omega arith) (λ j x low high. class_part j)
+
+  pub parts_pairs : AllPairs NotSame (map (λ p. tree.Function (part_func t p)) (numbered (parts_of t)))
+  parts_pairs = pairs_zip NotSame (λ (p : ℕ × Part). tree.Function (part_func t p)) 0 (length (parts_of t)) (parts_of t) (omega arith)
+      (λ i j x y less high. let few = few_parts t a.within in
+      part_names i j (omega (arith, less, high, few)) (omega (arith, high, few)) (λ e. absurd (omega (arith, e, less))))
 
   -- objects
 

@@ -12,7 +12,12 @@ use Rattle.c_tree.specs.Tree as tree
 use Rattle.c_symbols.specs.Reached.{usable_symbol}
 use Rattle.c_unit.specs.Arrays.{array_of}
 use Rattle.c_unit.proofs.SectionLists.{tabs, mems, global_item, globals, memory_pointers, table_pointers, pointer_item, global_pointers}
-use Rattle.c_unit.proofs.SectionLists.{declarations, helpers, exports}
+use Rattle.c_unit.proofs.SectionLists.{declarations, helpers, exports, parts}
+use Rattle.c_init.specs.Init.{part_func, parts_of}
+use Rattle.c_init.specs.Portions.{IsOf, part_of}
+use Rattle.std.specs.List.{AllByRecursion}
+use Rattle.w2c_base.proofs.OfEach.{all_at}
+use Rattle.c_init.specs.declared.portion.Portion.{Portion}
 use Rattle.c_init.proofs.LookUps.{read}
 use Rattle.c_unit.proofs.Parted.{in_second, numbered_at}
 
@@ -52,6 +57,15 @@ of_seen : {A B : Type 0} (g : A → B) (f : B → tree.Item) (made : List A) (xs
 of_seen g f made xs is = subst (λ xs. Lists made (map f xs) (λ n a. f (g a))) is (record {
   at = λ n. slice_get-map f (map g made) n ∙ ap (option_map f) (slice_get-map g made n) ∙ option_twice f g (slice_get made n);
   count = length-map (map g made) f ∙ length-map made g;
+})
+
+-- the items are made of what is seen of the list and of its places
+of_made_numbered : {A B : Type 0} (g : A → B) (f : ℕ × B → tree.Item) (made : List A) (xs : List B) → map g made ≡ xs
+    → Lists made (map f (numbered xs)) (λ n a. f (n, g a))
+of_made_numbered g f made xs is = subst (λ xs. Lists made (map f (numbered xs)) (λ n a. f (n, g a))) is (record {
+  at = λ n. (of_numbered f (map g made)).at n ∙ ap (option_map (λ b. f (n, b))) (slice_get-map g made n)
+      ∙ option_twice (λ b. f (n, b)) g (slice_get made n);
+  count = (of_numbered f (map g made)).count ∙ length-map made g;
 })
 
 -- what a look-up tells
@@ -114,6 +128,21 @@ helpers_listed m made is = subst (λ xs. Lists made (map (λ which. tree.Functio
 
 pub exports_listed : (m : NamedModule) → Lists m.tree.exports (exports m) (λ n e. tree.Function (export_func m e))
 exports_listed m = of_each (λ e. tree.Function (export_func m e)) m.tree.exports
+
+pub parts_listed : (m : NamedModule) (made : List Portion) → map (part_of m.tree) made ≡ parts_of m.tree
+    → Lists made (parts m) (λ n p. tree.Function (part_func m.tree (n, part_of m.tree p)))
+parts_listed m made is =
+    of_made_numbered (part_of m.tree) (λ p. tree.Function (part_func m.tree p)) made (parts_of m.tree) is
+
+-- as many portions as parts
+pub as_many : (m : NamedModule) (made : List Portion) (n : ℕ) → map (part_of m.tree) made ≡ parts_of m.tree → n ≡ length made
+    → n ≡ length (parts_of m.tree)
+as_many m made n is count = count ∙ sym (length-map made (part_of m.tree)) ∙ ap length is
+
+-- one of the portions that are the module's
+pub own_at : (m : NamedModule) (made items : List Portion) (n : ℕ) (a : Portion) → AllByRecursion (IsOf m.tree) made → items ≡ made
+    → n < length items → a ≡ get_or items n a → IsOf m.tree a
+own_at m made items n a all same lt is = all_at (IsOf m.tree) made n a all (read items made n a same lt is)
 
 -- ---- functions by their numbers
 

@@ -1,5 +1,5 @@
 -- The unit of a module under a name, item by item: what it declares, the helpers that its bodies call, the
--- bodies, a function for each export, and the init function; and the module's header.
+-- bodies, a function for each export, the parts of the init function, and the init function; and the module's header.
 use Rattle.std.specs.Prelude.{ℕ, ◌+◌, false, List, [], ◌∷◌, ◌++◌, map, flat_map, length, None}
 use Rattle.std.specs.List.{range_with_len}
 use Rattle.w2c_base.specs.Lookup.{numbered}
@@ -22,7 +22,7 @@ use Rattle.c_helpers.specs.Helpers.{helper_of}
 use Rattle.c_symbols.specs.Symbols.{Typed, export_symbol, export_type}
 use Rattle.c_body.specs.Body.{body_of}
 use Rattle.c_body.specs.Needs.{needs_of}
-use Rattle.c_init.specs.Init.{data_name, init_func}
+use Rattle.c_init.specs.Init.{data_name, init_func, part_func, parts_of}
 use Rattle.c_unit.specs.Exports.{export_func}
 
 -- ---- objects: the table, the memory, the globals, and pointers to imported ones
@@ -76,6 +76,10 @@ prototype f = tree.Function (record {
 abbrev pub bodies : NamedModule → List tree.Func
 bodies m = map (body_of m.tree m.name) (range_with_len (imported_funcs m.tree) (length m.tree.funcs))
 
+-- those that the init function calls
+abbrev pub part_items : Module → List tree.Item
+part_items m = map (λ p. tree.Function (part_func m p)) (numbered (parts_of m))
+
 abbrev pub items : NamedModule → List tree.Item
 items m =
     objects_of m.tree (needs_of m).pointers
@@ -85,7 +89,8 @@ items m =
     ++ (map (λ which. tree.Function (helper_of which)) (needs_of m).helpers
     ++ (map tree.Function (bodies m)
     ++ (map (λ e. tree.Function (export_func m e)) m.tree.exports
-    ++ tree.Function (init_func m) ∷ []))))))
+    ++ (part_items m.tree
+    ++ tree.Function (init_func m) ∷ [])))))))
 
 -- the unit of the module with this tree and name
 abbrev pub items_of : Module → List ℕ → List tree.Item

@@ -15,14 +15,17 @@ use Rattle.c_unit.specs.declared.unit_items.UnitItems.{UnitItems}
 use Rattle.c_unit.specs.Arrays.{array_of, byte_segments}
 use Rattle.c_init.specs.Init.{init_func}
 use Rattle.c_unit.specs.Exports.{export_func}
-use Rattle.c_unit.specs.Items.{variable, global_item, declaration, prototype, bodies, items}
+use Rattle.c_unit.specs.Items.{variable, global_item, declaration, prototype, bodies, part_items, items}
 use Rattle.c_init.specs.Sources.{module_of}
 
 abbrev pub from_init : NamedModule → List tree.Item
 from_init m = tree.Function (init_func m) ∷ []
 
+abbrev pub from_parts : NamedModule → List tree.Item
+from_parts m = part_items m.tree ++ from_init m
+
 abbrev pub from_exports : NamedModule → List tree.Item
-from_exports m = map (λ e. tree.Function (export_func m e)) m.tree.exports ++ from_init m
+from_exports m = map (λ e. tree.Function (export_func m e)) m.tree.exports ++ from_parts m
 
 abbrev pub from_bodies : NamedModule → List tree.Item
 from_bodies m = map tree.Function (bodies m) ++ from_exports m

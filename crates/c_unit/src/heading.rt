@@ -5,9 +5,9 @@ ghost use Rattle.c_unit.specs.Lines.{line_of};
 ghost use Rattle.c_symbols.specs.Named.{named_of};
 
 use c_symbols::Indexes;
-use c_tree::{CType, CTypes, Header, HeaderLines, c_types, name_of};
+use c_tree::{CType, CTypes, Header, HeaderLines, Name, c_types};
 use std::alloc::Global;
-use w2c_base::Memory;
+use w2c_base::{Bytes, Memory};
 use w2c_mangle::init_symbol;
 use wasm_tree::Export;
 use wasm_typing::ValidModule;
@@ -25,7 +25,7 @@ pub fn header(alloc: Global, m: &ValidModule, name: &[u8]) -> Result<Header, Mem
 fn header_by(alloc: Global, indexes: &Indexes) -> Result<Header, Memory>
     ensures { IfOk result (λ header. header ≡ header_of indexes.now.tree.now indexes.now.name.now) }
 {
-    let module = name_of(alloc, indexes.name())?;
+    let module = Bytes::from_vec(Vec::from_slice(alloc, indexes.name())?);
     let lines = header_lines(alloc, indexes)?;
     Ok(Header { module, lines })
 }
@@ -33,7 +33,7 @@ fn header_by(alloc: Global, indexes: &Indexes) -> Result<Header, Memory>
 fn header_lines(alloc: Global, indexes: &Indexes) -> Result<HeaderLines, Memory>
     ensures { IfOk result (λ lines. lines ≡ (header_of indexes.now.tree.now indexes.now.name.now).lines) }
 {
-    let init = init_symbol(alloc, indexes.name())?;
+    let init = Name::from_bytes(alloc, init_symbol(alloc, indexes.name())?)?;
     let mut lines = HeaderLines::new(alloc);
     lines.push((CType::Void, init, CTypes::new(alloc)))?;
     for export in indexes.tree().exports.as_slice() {

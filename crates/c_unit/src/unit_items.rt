@@ -1,12 +1,16 @@
 // The items of a unit, one at a time.
 ghost use Rattle.std.specs.Prelude.{◌≡◌, ◌+◌, map, slice_get, option_map, IfOk, OnErr};
+ghost use Rattle.std.specs.List.{AllByRecursion};
 ghost use Rattle.c_tree.specs.View.{item_of};
 ghost use Rattle.c_tree.specs.DefinedNames.{global_name, pointer_name as pointer_name_of};
 ghost use Rattle.c_helpers.specs.Needed.{helpers_of};
 ghost use Rattle.c_symbols.specs.Symbols.{declared_symbols, global_imports};
 ghost use Rattle.c_symbols.specs.Named.{pair_of};
 ghost use Rattle.c_unit.specs.Items as of;
+ghost use Rattle.c_init.specs.Init.{parts_of};
+ghost use Rattle.c_init.specs.Portions.{part_of, IsOf};
 ghost use Rattle.c_init.specs.Sources.{module_of};
+ghost use Rattle.c_unit.specs.OneProof.{own_all-prop, same_parts-prop};
 ghost use Rattle.c_unit.specs.Pointers.{pointed};
 ghost use Rattle.c_unit.specs.Arrays.{bytes_of, byte_segments};
 
@@ -17,7 +21,7 @@ use crate::global_pointers::global_pointers;
 use crate::items::{array, declaration, global_item, memory, table, variable};
 use crate::with_bytes::with_bytes;
 use c_helpers::{Helper, helper, helpers};
-use c_init::Source;
+use c_init::{Portion, Source, portions_of};
 use c_symbols::{MEMORY_NAME, Symbol, TABLE_NAME, pointer_name, pointer_to_global};
 use c_tree::{CType, Item};
 use std::alloc::Global;
@@ -32,6 +36,7 @@ struct Listed<'a> {
     arrays: Vec<(usize, &'a SegmentEntry)>,
     declared: Vec<Symbol<'a>>,
     helpers: Vec<Helper>,
+    parts: Vec<Portion<'a>>,
 }
 
 /// The items of a module's unit that were not given yet.
@@ -43,6 +48,8 @@ pub struct UnitItems<'a> {
     ghost arrays_are: { map bytes_of listed.arrays.items ≡ byte_segments source.tree.now },
     ghost declared_are: { map pair_of listed.declared.items ≡ declared_symbols (module_of source) },
     ghost helpers_are: { listed.helpers.items ≡ helpers_of source.tree.now },
+    ghost parts_are: { map (part_of source.tree.now) listed.parts.items ≡ parts_of source.tree.now } by { same_parts-prop (map (part_of source.tree.now) listed.parts.items) (parts_of source.tree.now) },
+    ghost parts_are_own: { AllByRecursion (IsOf source.tree.now) listed.parts.items } by { own_all-prop source.tree.now listed.parts.items },
 }
 
 // By hand, so that each place which drops it is proved by one call.
@@ -85,17 +92,21 @@ impl<'a> Listed<'a> {
         ensures arrays { IfOk result (λ listed. map bytes_of listed.arrays.items ≡ byte_segments source.now.tree.now) }
         ensures declared { IfOk result (λ listed. map pair_of listed.declared.items ≡ declared_symbols (module_of source.now)) }
         ensures helpers { IfOk result (λ listed. listed.helpers.items ≡ helpers_of source.now.tree.now) }
+        ensures parts { IfOk result (λ listed. map (part_of source.now.tree.now) listed.parts.items ≡ parts_of source.now.tree.now) }
+        ensures own { IfOk result (λ listed. AllByRecursion (IsOf source.now.tree.now) listed.parts.items) }
     {
         let alloc = source.alloc;
         let pointers = global_pointers(alloc, source.tree)?;
         let arrays = with_bytes(alloc, source.tree)?;
         let declared = declared(alloc, source.symbols())?;
         let helpers = helpers(alloc, source.tree)?;
+        let parts = portions_of(alloc, source.tree)?;
         Ok(Listed {
             pointers,
             arrays,
             declared,
             helpers,
+            parts,
         })
     }
 }
@@ -230,15 +241,28 @@ impl<'a> UnitItems<'a> {
         let exports = self.source.tree.exports.as_slice();
         match exports.get(n) {
             Some(export) => Ok(Some(Item::Func(export_func(&self.source, export)?))),
-            None => self.at_init(n.saturating_sub(exports.len())),
+            None => self.at_parts(n.saturating_sub(exports.len())),
         }
     }
 
+    #[tactic(auto, using(crate::proofs::Standing::own_at))]
+    fn at_parts(&self, n: usize) -> Result<Option<Item>, Memory>
+        ensures { IfOk result (λ item. option_map item_of item ≡ slice_get (tail.from_parts (module_of self.now.source)) n) }
+    {
+        let parts = self.listed.parts.as_slice();
+        match parts.get(n) {
+            Some(portion) => Ok(Some(Item::Func(self.source.part_func(n, *portion)?))),
+            None => self.at_init(n.saturating_sub(parts.len())),
+        }
+    }
+
+    #[tactic(auto, using(crate::proofs::Standing::as_many))]
     fn at_init(&self, n: usize) -> Result<Option<Item>, Memory>
         ensures { IfOk result (λ item. option_map item_of item ≡ slice_get (tail.from_init (module_of self.now.source)) n) }
     {
         if n == 0 {
-            Ok(Some(Item::Func(self.source.init_func()?)))
+            let parts = self.listed.parts.len();
+            Ok(Some(Item::Func(self.source.init_func(parts)?)))
         } else {
             Ok(None)
         }

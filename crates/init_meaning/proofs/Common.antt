@@ -81,7 +81,7 @@ pub use Rattle.alike.proofs.Store.{together_memory, together_table, with_unit}
 pub use Rattle.alike.specs.Objects.{global_object, memory_object, table_object}
 pub use Rattle.alike.specs.Defines.{Defines}
 pub use Rattle.c_init.specs.Init.{asks_something, bounds_label, byte_name, call_start, constant_expr, data_name, has_bytes, has_test}
-pub use Rattle.c_init.specs.Init.{init_func, init_stmts, limits_label, local_if, loop_label, make_global, make_memory, make_table}
+pub use Rattle.c_init.specs.Init.{init_stmts, limits_label, local_if, loop_label, make_global, make_memory, make_table}
 pub use Rattle.c_init.specs.Init.{max_number, n32, n64, place_expr, set_pointer, signature, size_name, start_stmts, take_stmts, takes_from}
 pub use Rattle.c_init.specs.Init.{test_data, test_elements, test_limits, test_max, test_min, tests_bounds, tests_limits, trap_if}
 pub use Rattle.c_init.specs.Init.{write_data, write_element, write_elements}

@@ -26,7 +26,7 @@ use Rattle.c_init.proofs.Small.{at_least}
 use Rattle.init_meaning.proofs.Held.{held_there}
 use Rattle.init_meaning.proofs.InitStatements.{Seat, at, Evaluates, Gets, GetsAll, gets_one, effect_goes, effect_behind_label}
 use Rattle.init_meaning.proofs.InitStatements.{set_local_goes, test_goes, test_jumps}
-use Rattle.init_meaning.proofs.InitRuns.{Stage, FollowsTask, FollowsTasks, and_others}
+use Rattle.init_meaning.proofs.InitRuns.{Stage, FollowsTask, FollowsTasks, and_others, and_others_gaining}
 use Rattle.init_meaning.proofs.InitConstants.{OffsetFound, place_gets}
 use Rattle.init_meaning.proofs.InitTests.{IsWide, locals_kept, local_evaluates, operates}
 use Rattle.init_meaning.specs.Owners.{MemoryOwner}
@@ -381,6 +381,30 @@ module _ (s : LinkedSet) (g : Seat) (m : NamedModule) (elements : List ElementEn
       (λ j. let e : i + suc j ≡ i + 1 + j = omega arith in same (suc j) ∙ ap (slice_get d.bytes) e)
       (enters_loop n (i + 1)) found behind)
 
+  -- the first of them leaves two statements to spare
+  bytes_gain : (from : Stage) (spare n i b j : ℕ) (bytes : List ℕ) (start : List c.Stmt) (tasks : List Task) → j ≤ 2
+      → Surroundings s g m → IsWritten g m elements segments k d
+      → i + suc (length bytes) ≡ length d.bytes → n ≡ length d.bytes → ((j : ℕ) → slice_get (b ∷ bytes) j ≡ slice_get d.bytes (i + j))
+      → Enters from n i j start → after_label (label_name (loop_label k)) g.stmts ≡ Some (loop m.tree k d.offset n rest)
+      → FollowsTasks s g (spare + 2) (AreTested s g m elements segments) rest tasks
+      → FollowsTasks s g spare from start
+      (map (λ (b : ℕ × ℕ). WriteByte d b.0 b.1) (zip (range_with_len i (suc (length bytes))) (b ∷ bytes)) ++ tasks)
+  bytes_gain from spare n i b j [] start tasks few a w end n_is same enters found behind =
+      and_others_gaining s g spare from (WriteByte d i b) (AreTested s g m elements segments) start rest tasks refl
+      (last_byte from i b n j start few a w (let e : i + 0 ≡ i = omega arith in sym (same 0 ∙ ap (slice_get d.bytes) e))
+      (omega (arith, end)) n_is enters)
+      behind
+  bytes_gain from spare n i b j (x ∷ bytes) start tasks few a w end n_is same enters found behind =
+      and_others_gaining s g spare from (WriteByte d i b) (InLoop s g m elements segments (i + 1)) start (loop m.tree k d.offset n rest)
+      (map (λ (b : ℕ × ℕ). WriteByte d b.0 b.1) (zip (range_with_len (i + 1) (suc (length bytes))) (x ∷ bytes)) ++ tasks) refl
+      (next_turn from i b n j start few a w (let e : i + 0 ≡ i = omega arith in sym (same 0 ∙ ap (slice_get d.bytes) e))
+      (omega (arith, end)) n_is enters found)
+      (bytes_from (InLoop s g m elements segments (i + 1)) (spare + 2) n (i + 1) x 1 bytes (loop m.tree k d.offset n rest) tasks
+      (omega arith) a w
+      (omega (arith, end)) n_is
+      (λ j. let e : i + suc j ≡ i + 1 + j = omega arith in same (suc j) ∙ ap (slice_get d.bytes) e)
+      (enters_loop n (i + 1)) found behind)
+
 -- ---- all segments
 
 abbrev write_bytes : Module → ℕ → Code → List ℕ → List c.Stmt
@@ -409,6 +433,25 @@ module _ (s : LinkedSet) (g : Seat) (m : NamedModule) (elements : List ElementEn
       (λ j. let e : j ≡ 0 + j = omega arith in ap (λ bytes. slice_get bytes j) (sym is) ∙ ap (slice_get d.bytes) e)
       (enters_first s g m elements segments k d rest (suc (length bytes)) w.counted) placed.0 behind
 
+  -- a segment with bytes leaves two statements to spare
+  segment_gains : (spare k : ℕ) (d : SegmentEntry) (b : ℕ) (bytes : List ℕ) (rest : List c.Stmt) (tasks : List Task) → d.bytes ≡ b ∷ bytes
+      → Surroundings s g m → DataIsValid m.tree d → ((P : SegmentEntry → Type 0) → AllByRecursion P segments → P d)
+      → (0 < length d.bytes → array_named g.program g.unit (data_name k) ≡ Some d.bytes)
+      → list_any has_bytes m.tree.segments ≡ true
+      → IsPlaced g.stmts (write_bytes m.tree k d.offset (b ∷ bytes)) rest
+      → FollowsTasks s g (spare + 2) (AreTested s g m elements segments) rest tasks
+      → FollowsTasks s g spare (AreTested s g m elements segments) (write_bytes m.tree k d.offset (b ∷ bytes) ++ rest)
+      (map (λ (b : ℕ × ℕ). WriteByte d b.0 b.1) (numbered (b ∷ bytes)) ++ tasks)
+  segment_gains spare k d b bytes rest tasks is a valid among array counted placed behind =
+      let size : length d.bytes ≡ suc (length bytes) = ap length is in
+      let w : IsWritten g m elements segments k d = record
+      { valid = valid; among = among; array = array (omega (arith, size)); counted = counted } in
+      bytes_gain s g m elements segments k d rest (AreTested s g m elements segments) spare (suc (length bytes)) 0 b 2 bytes
+      (c.Set byte_name (c.Value (n64 0)) ∷ c.Label (label_name (loop_label k)) ∷ loop m.tree k d.offset (suc (length bytes)) rest) tasks
+      (omega arith) a w (omega (arith, size)) (sym size)
+      (λ j. let e : j ≡ 0 + j = omega arith in ap (λ bytes. slice_get bytes j) (sym is) ∙ ap (slice_get d.bytes) e)
+      (enters_first s g m elements segments k d rest (suc (length bytes)) w.counted) placed.0 behind
+
   any_middle : (front : List SegmentEntry) (d : SegmentEntry) (ds : List SegmentEntry) → has_bytes d ≡ true
       → list_any has_bytes (front ++ d ∷ ds) ≡ true
   any_middle [] d ds is = ap (λ t. t || list_any has_bytes ds) is
@@ -421,29 +464,37 @@ module _ (s : LinkedSet) (g : Seat) (m : NamedModule) (elements : List ElementEn
       go [] some = absurd (omega (arith, some))
       go (b ∷ bytes) some = refl
 
-  abbrev stmts_from : ℕ → List SegmentEntry → List c.Stmt
+  -- the array of a segment that stands there
+  array_there : (k : ℕ) (front : List SegmentEntry) (d : SegmentEntry) (behind : List SegmentEntry) → Surroundings s g m
+      → m.tree.segments ≡ front ++ d ∷ behind → k ≡ length front
+      → 0 < length d.bytes → array_named g.program g.unit (data_name k) ≡ Some d.bytes
+  array_there k front d behind a whole at some =
+      a.array k d (ap (λ ds. slice_get ds k) whole ∙ ap (slice_get (front ++ d ∷ behind)) at ∙ right_behind front d behind) some
+
+  abbrev pub stmts_from : ℕ → List SegmentEntry → List c.Stmt
   stmts_from k ds = flat_map (write_data m.tree) (zip (range_with_len k (length ds)) ds)
 
-  abbrev tasks_of : List SegmentEntry → List Task
+  abbrev pub tasks_of : List SegmentEntry → List Task
   tasks_of ds = flat_map (λ (d : SegmentEntry). map (λ (b : ℕ × ℕ). WriteByte d b.0 b.1) (numbered d.bytes)) ds
 
-  pub writes_of_data : (spare k : ℕ) (front ds : List SegmentEntry) (rest : List c.Stmt) (tasks : List Task) → Surroundings s g m
-      → m.tree.segments ≡ front ++ ds → segments ≡ m.tree.segments → k ≡ length front → AllByRecursion (DataIsValid m.tree) ds
+  -- of segments that stand among others
+  pub writes_of_data : (spare k : ℕ) (front ds more : List SegmentEntry) (rest : List c.Stmt) (tasks : List Task) → Surroundings s g m
+      → m.tree.segments ≡ front ++ (ds ++ more) → segments ≡ m.tree.segments → k ≡ length front → AllByRecursion (DataIsValid m.tree) ds
       → IsPlaced g.stmts (stmts_from k ds) rest
       → FollowsTasks s g spare (AreTested s g m elements segments) rest tasks
       → FollowsTasks s g spare (AreTested s g m elements segments) (stmts_from k ds ++ rest) (tasks_of ds ++ tasks)
-  writes_of_data spare k front [] rest tasks a whole same at valid placed behind = behind
-  writes_of_data spare k front (d ∷ ds) rest tasks a whole same at valid placed behind =
+  writes_of_data spare k front [] more rest tasks a whole same at valid placed behind = behind
+  writes_of_data spare k front (d ∷ ds) more rest tasks a whole same at valid placed behind =
       subst (λ stmts. FollowsTasks s g spare stage stmts (tasks_of (d ∷ ds) ++ tasks))
       (sym (append_assoc (write_data m.tree (k, d)) (stmts_from (k + 1) ds) rest))
       (subst (λ ts. FollowsTasks s g spare stage (write_data m.tree (k, d) ++ others) ts)
       (sym (append_assoc (map (λ (b : ℕ × ℕ). WriteByte d b.0 b.1) (numbered d.bytes)) (tasks_of ds) tasks))
       (segment_written spare k d d.bytes others (tasks_of ds ++ tasks) refl a valid.0
-      (λ P all. (all_behind P front (d ∷ ds) (subst (AllByRecursion P) (same ∙ whole) all)).0)
-      (λ some. a.array k d (ap (λ ds. slice_get ds k) whole ∙ ap (slice_get (front ++ d ∷ ds)) at ∙ right_behind front d ds) some)
-      (λ some. ap (list_any has_bytes) whole ∙ any_middle front d ds (has_some d some))
+      (λ P all. (all_behind P front (d ∷ (ds ++ more)) (subst (AllByRecursion P) (same ∙ whole) all)).0)
+      (array_there k front d (ds ++ more) a whole at)
+      (λ some. ap (list_any has_bytes) whole ∙ any_middle front d (ds ++ more) (has_some d some))
       (placed_front g.stmts (write_data m.tree (k, d)) (stmts_from (k + 1) ds) rest placed)
-      (writes_of_data spare (k + 1) (front ++ d ∷ []) ds rest tasks a (whole ∙ sym (append_assoc front (d ∷ []) ds)) same
+      (writes_of_data spare (k + 1) (front ++ d ∷ []) ds more rest tasks a (whole ∙ sym (append_assoc front (d ∷ []) (ds ++ more))) same
       (omega (arith, at, length-append front (d ∷ []))) valid.1
       (placed_back g.stmts (write_data m.tree (k, d)) (stmts_from (k + 1) ds) rest placed)
       behind)))
@@ -453,3 +504,60 @@ module _ (s : LinkedSet) (g : Seat) (m : NamedModule) (elements : List ElementEn
 
       others : List c.Stmt
       others = stmts_from (k + 1) ds ++ rest
+
+  -- where one of them has bytes, they leave two statements to spare
+  pub writes_gain : (spare k : ℕ) (front ds more : List SegmentEntry) (rest : List c.Stmt) (tasks : List Task) → Surroundings s g m
+      → m.tree.segments ≡ front ++ (ds ++ more) → segments ≡ m.tree.segments → k ≡ length front → AllByRecursion (DataIsValid m.tree) ds
+      → list_any has_bytes ds ≡ true → IsPlaced g.stmts (stmts_from k ds) rest
+      → FollowsTasks s g (spare + 2) (AreTested s g m elements segments) rest tasks
+      → FollowsTasks s g spare (AreTested s g m elements segments) (stmts_from k ds ++ rest) (tasks_of ds ++ tasks)
+  writes_gain spare k front [] more rest tasks a whole same at valid some placed behind = absurd cc
+  writes_gain spare k front (d ∷ ds) more rest tasks a whole same at valid some placed behind =
+      subst (λ stmts. FollowsTasks s g spare stage stmts (tasks_of (d ∷ ds) ++ tasks))
+      (sym (append_assoc (write_data m.tree (k, d)) (stmts_from (k + 1) ds) rest))
+      (subst (λ ts. FollowsTasks s g spare stage (write_data m.tree (k, d) ++ others) ts)
+      (sym (append_assoc (map (λ (b : ℕ × ℕ). WriteByte d b.0 b.1) (numbered d.bytes)) (tasks_of ds) tasks))
+      (by d.bytes refl some
+      (placed_front g.stmts (write_data m.tree (k, d)) (stmts_from (k + 1) ds) rest placed)
+      (λ some. writes_gain spare (k + 1) (front ++ d ∷ []) ds more rest tasks a next same number valid.1 some
+      (placed_back g.stmts (write_data m.tree (k, d)) (stmts_from (k + 1) ds) rest placed) behind)))
+    where
+      stage : Stage
+      stage = AreTested s g m elements segments
+
+      others : List c.Stmt
+      others = stmts_from (k + 1) ds ++ rest
+
+      next : m.tree.segments ≡ (front ++ d ∷ []) ++ (ds ++ more)
+      next = whole ∙ sym (append_assoc front (d ∷ []) (ds ++ more))
+
+      number : k + 1 ≡ length (front ++ d ∷ [])
+      number = omega (arith, at, length-append front (d ∷ []))
+
+      by : (bytes : List ℕ) → d.bytes ≡ bytes → (elim bytes [ [] ↦ false | b ∷ rest ↦ true ]) || list_any has_bytes ds ≡ true
+          → IsPlaced g.stmts (write_bytes m.tree k d.offset bytes) others
+          → (list_any has_bytes ds ≡ true → FollowsTasks s g spare stage others (tasks_of ds ++ tasks))
+          → FollowsTasks s g spare stage (write_bytes m.tree k d.offset bytes ++ others)
+          (map (λ (b : ℕ × ℕ). WriteByte d b.0 b.1) (numbered bytes) ++ (tasks_of ds ++ tasks))
+      by [] is some here others_gain = others_gain some
+      by (b ∷ bytes) is some here others_gain =
+          segment_gains spare k d b bytes others (tasks_of ds ++ tasks) is a valid.0
+          (λ P all. (all_behind P front (d ∷ (ds ++ more)) (subst (AllByRecursion P) (same ∙ whole) all)).0)
+          (array_there k front d (ds ++ more) a whole at)
+          (ap (list_any has_bytes) whole ∙ any_middle front d (ds ++ more)
+          (has_some d (let size : length d.bytes ≡ suc (length bytes) = ap length is in omega (arith, size))))
+          here
+          (writes_of_data (spare + 2) (k + 1) (front ++ d ∷ []) ds more rest tasks a next same number valid.1
+          (placed_back g.stmts (write_data m.tree (k, d)) (stmts_from (k + 1) ds) rest placed) behind)
+
+-- segments without bytes have no tasks
+pub no_tasks : (s : LinkedSet) (g : Seat) (m : NamedModule) (elements : List ElementEntry) (segments ds : List SegmentEntry)
+    → list_any has_bytes ds ≡ false → tasks_of s g m elements segments ds ≡ []
+no_tasks s g m elements segments [] none = refl
+no_tasks s g m elements segments (d ∷ ds) none = by d.bytes none (no_tasks s g m elements segments ds)
+  where
+    by : (bytes : List ℕ) → (elim bytes [ [] ↦ false | b ∷ rest ↦ true ]) || list_any has_bytes ds ≡ false
+        → (list_any has_bytes ds ≡ false → tasks_of s g m elements segments ds ≡ [])
+        → map (λ (b : ℕ × ℕ). WriteByte d b.0 b.1) (numbered bytes) ++ tasks_of s g m elements segments ds ≡ []
+    by [] none others = others none
+    by (b ∷ bytes) none others = absurd cc

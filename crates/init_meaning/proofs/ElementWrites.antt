@@ -159,7 +159,7 @@ sets_element m a t place f number there less some =
     result : Effect
     result = Gives (machine.with_table m a (with_element t place (record { func = f; signature = number }))) None
 
-write_of_element : (s : LinkedSet) (g : Seat) (m : NamedModule) (elements : List ElementEntry) (segments : List SegmentEntry)
+pub write_of_element : (s : LinkedSet) (g : Seat) (m : NamedModule) (elements : List ElementEntry) (segments : List SegmentEntry)
     (e : ElementEntry) (number func : ℕ) (rest : List c.Stmt)
     → Surroundings s g m → ElementIsValid m.tree e → number < length e.funcs → func < length (func_space m.tree)
     → ((P : ElementEntry → Type 0) → AllByRecursion P elements → P e)

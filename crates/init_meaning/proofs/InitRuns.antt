@@ -10,17 +10,18 @@ use Rattle.c_tree.specs.Tree as tree
 use Rattle.c_meaning.specs.State as state
 use Rattle.init_meaning.proofs.InitStatements.{Seat, at}
 
--- the init function has come back, with so many statements to spare
-pub record ComesBack (s : LinkedSet) (g : Seat) (spare : ℕ) (from : Progress) (n left : ℕ) (made : store.Store)
-    (trail : Trail) : Type 0 where
+-- the init function has come back to those who wait for it, with so many statements to spare
+pub record ComesBack (p : Program) (s : LinkedSet) (u : ℕ) (pending : Pending) (last : List state.Frame) (spare : ℕ) (from : Progress)
+    (n left : ℕ) (made : store.Store) (trail : Trail) : Type 0 where
   pub machine : state.Machine
-  pub together : Together g.program s (suc g.unit) 0 machine made trail
+  pub together : Together p s (suc u) 0 machine made trail
   pub statements : ℕ
-  pub way : Reaches g.program statements from (given g.program g.pending machine None g.below)
+  pub way : Reaches p statements from (given p pending machine None last)
   pub paid : Paid spare n left statements
 
 abbrev pub Instantiates : LinkedSet → Seat → ℕ → Progress → ℕ → exec.Called → Type 0
-Instantiates s g spare from n (exec.Back left value made trail) = ComesBack s g spare from n left made trail
+Instantiates s g spare from n (exec.Back left value made trail) =
+    ComesBack g.program s g.unit g.pending g.last spare from n left made trail
 Instantiates s g spare from n (exec.CallStops why made trail) = StopsAlike g.program s g.pending spare from n why made trail
 
 -- j statements lead to what pays for m steps, with some to spare
@@ -65,7 +66,7 @@ before s g spare others j n m from to (exec.Back left value made trail) way cove
   machine = h.machine;
   together = h.together;
   statements = j + h.statements;
-  way = join g.program j h.statements from to (given g.program g.pending h.machine None g.below) way h.way;
+  way = join g.program j h.statements from to (given g.program g.pending h.machine None g.last) way h.way;
   paid = record { least = omega (arith, covers, h.paid.least); most = omega (arith, covers, h.paid.most) };
 }
 before s g spare others j n m from to (exec.CallStops why made trail) way covers h =
@@ -93,7 +94,7 @@ pub record IsDone (s : LinkedSet) (g : Seat) (t : Task) (stage : Stage) (stmts r
   pub reached : stage machine new trail locals
   pub statements : ℕ
   pub some : 1 ≤ statements
-  pub few : statements ≤ 400
+  pub few : statements ≤ 398
   pub way : Reaches g.program statements (at g m stmts vars) (at g machine rest locals)
 
 -- The task traps, and so do its statements.
@@ -124,12 +125,21 @@ out_of_steps s g spare m stmts vars made trail = record {
   least = omega arith;
 }
 
--- a task with its statements, before others with theirs
-pub and_others : (s : LinkedSet) (g : Seat) (spare : ℕ) (from : Stage) (t : Task) (to : Stage) (stmts rest : List tree.Stmt)
+-- more may be spared
+pub more_spare : (s : LinkedSet) (g : Seat) (spare more : ℕ) (stage : Stage) (rest : List tree.Stmt) (tasks : List Task)
+    → spare ≤ more → FollowsTasks s g spare stage rest tasks → FollowsTasks s g more stage rest tasks
+more_spare s g spare more stage rest tasks le follows n made trail m vars here =
+    before s g more spare 0 n n (at g m rest vars) (at g m rest vars) (do_tasks s g.unit tasks n made trail)
+    (stays g.program (at g m rest vars))
+    (omega arith, omega (arith, le))
+    (follows n made trail m vars here)
+
+-- A task with its statements, before others with theirs. It takes two statements less than it pays, which those behind it may spare.
+pub and_others_gaining : (s : LinkedSet) (g : Seat) (spare : ℕ) (from : Stage) (t : Task) (to : Stage) (stmts rest : List tree.Stmt)
     (tasks : List Task)
-    → is_free t ≡ false → FollowsTask s g from t to stmts rest → FollowsTasks s g spare to rest tasks
+    → is_free t ≡ false → FollowsTask s g from t to stmts rest → FollowsTasks s g (spare + 2) to rest tasks
     → FollowsTasks s g spare from stmts (t ∷ tasks)
-and_others s g spare from t to stmts rest tasks costs one others n made trail m vars here =
+and_others_gaining s g spare from t to stmts rest tasks costs one others n made trail m vars here =
     subst (λ c. Instantiates s g spare (at g m stmts vars) n (and_then c (do_tasks s g.unit tasks)))
     (ap (λ free. paid free n made trail does) (sym costs))
     (steps n)
@@ -141,7 +151,7 @@ and_others s g spare from t to stmts rest tasks costs one others n made trail m 
         → Instantiates s g spare (at g m stmts vars) (suc k) (and_then (does k) (do_tasks s g.unit tasks))
     goes k (inl d) =
         subst (λ c. Instantiates s g spare (at g m stmts vars) (suc k) (and_then c (do_tasks s g.unit tasks))) (sym (d.does k))
-        (before s g spare spare d.statements (suc k) k (at g m stmts vars) (at g d.machine rest d.locals)
+        (before s g spare (spare + 2) d.statements (suc k) k (at g m stmts vars) (at g d.machine rest d.locals)
         (do_tasks s g.unit tasks k d.new trail)
         d.way (omega (arith, d.some), omega (arith, d.few)) (others k d.new trail d.machine d.locals d.reached))
     goes k (inr x) =
@@ -159,3 +169,12 @@ and_others s g spare from t to stmts rest tasks costs one others n made trail m 
     steps : (n : ℕ) → Instantiates s g spare (at g m stmts vars) n (and_then (paid false n made trail does) (do_tasks s g.unit tasks))
     steps zero = out_of_steps s g spare m stmts vars made trail
     steps (suc k) = goes k (one m made trail vars here)
+
+-- a task with its statements, before others with theirs
+pub and_others : (s : LinkedSet) (g : Seat) (spare : ℕ) (from : Stage) (t : Task) (to : Stage) (stmts rest : List tree.Stmt)
+    (tasks : List Task)
+    → is_free t ≡ false → FollowsTask s g from t to stmts rest → FollowsTasks s g spare to rest tasks
+    → FollowsTasks s g spare from stmts (t ∷ tasks)
+and_others s g spare from t to stmts rest tasks costs one others =
+    and_others_gaining s g spare from t to stmts rest tasks costs one
+    (more_spare s g spare (spare + 2) to rest tasks (omega arith) others)

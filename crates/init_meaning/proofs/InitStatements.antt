@@ -12,8 +12,8 @@ use Rattle.c_tree.specs.Makers as makers
 use Rattle.init_meaning.specs.Zeros.{held}
 use Rattle.init_meaning.proofs.Held.{held_in, held_there, put_where_held}
 
--- what does not change while an init function runs: the program, the unit and the item of the function, all
--- its statements, what is pending, and who waits
+-- what does not change while an init function or a part of it runs: the program, the unit and the item of the function, all
+-- its statements, what is pending, who waits for the function, and who waits for the init function
 pub record Seat : Type 0 where
   pub program : Program
   pub unit : ℕ
@@ -21,6 +21,7 @@ pub record Seat : Type 0 where
   pub stmts : List tree.Stmt
   pub pending : Pending
   pub below : List Frame
+  pub last : List Frame
 
 -- an init function gives nothing
 abbrev pub running : Seat → List tree.Stmt → Vars → Running
@@ -112,7 +113,7 @@ set_global_goes g m name a v rest vars apart none there gets =
 
 -- ---- calls
 
-abbrev frame : Seat → Option Name → List tree.Stmt → Vars → Frame
+abbrev pub frame : Seat → Option Name → List tree.Stmt → Vars → Frame
 frame g target rest vars = record { target = target; running = running g rest vars }
 
 abbrev called_with : Seat → Machine → Option Name → Name → List tree.Arg → List tree.Stmt → Vars → Evaluated (List CValue) → Step

@@ -18,4 +18,11 @@ mod ElementWrites
 mod DataWrites
 mod StartTasks
 mod InitLabels
+mod FirstVars
+mod PartCalls
+mod PartRows
+mod PartStages
+mod PartLabels
+mod PartKinds
+mod CallingStmts
 mod Tasks

@@ -269,7 +269,7 @@ module _ (s : LinkedSet) (g : Seat) (m : NamedModule) where
             are_bytes = all_replicate (λ b. b < 256) (l.min * 65536) 0 (λ some. omega arith);
           })
 
-  global_follows : (front : List GlobalEntry) (k : ℕ) (e : GlobalEntry) (rest : List c.Stmt)
+  pub global_follows : (front : List GlobalEntry) (k : ℕ) (e : GlobalEntry) (rest : List c.Stmt)
       → Surroundings s g m → k ≡ length front → slice_get m.tree.globals k ≡ Some e
       → ShapeFits e.ty (shape_of (imported_global_space m.tree) e.code)
       → FollowsTask s g (IsMaking s g m true true front) (MakeGlobal e.ty e.code) (IsMaking s g m true true (front ++ e ∷ []))
@@ -399,7 +399,7 @@ module _ (s : LinkedSet) (g : Seat) (m : NamedModule) where
   make_one spare from to P task stmt (t ∷ v ∷ es) rest tasks costs one fits none some behind = absurd (omega (arith, one))
 
   -- when all is made the module is ready
-  making_is_filled : (mach : state.Machine) (made : store.Store) (trail : Trail) (vars : state.Vars)
+  pub making_is_filled : (mach : state.Machine) (made : store.Store) (trail : Trail) (vars : state.Vars)
       → Surroundings s g m → IsMaking s g m true true m.tree.globals mach made trail vars → IsFilled s g m mach made trail vars
   making_is_filled mach made trail vars a here = record {
     together = more_ready g.program s g.unit m.tree mach made trail here.o (module_is s g.unit m a.module_is) here.own.o_is
@@ -424,10 +424,15 @@ stmts_making m rest =
     ++ (map (λ (t : LimitsEntry). make_memory t.limits) m.memories
     ++ (map (make_global m) (numbered m.globals) ++ rest))
 
-pub making_follows : (s : LinkedSet) (g : Seat) (m : NamedModule) (spare : ℕ) (rest : List c.Stmt) (tasks : List Task) → Surroundings s g m
-    → FollowsTasks s g spare (IsFilled s g m) rest tasks
-    → FollowsTasks s g spare (IsMaking s g m false false []) (stmts_making m.tree rest) (tasks_making m.tree tasks)
-making_follows s g m spare rest tasks a behind =
+-- a table and a memory
+pub objects_follow : (s : LinkedSet) (g : Seat) (m : NamedModule) (spare : ℕ) (rest : List c.Stmt) (tasks : List Task) → Surroundings s g m
+    → FollowsTasks s g spare (IsMaking s g m true true []) rest tasks
+    → FollowsTasks s g spare (IsMaking s g m false false [])
+    (map (λ (t : LimitsEntry). make_table t.limits) m.tree.tables
+    ++ (map (λ (t : LimitsEntry). make_memory t.limits) m.tree.memories ++ rest))
+    (map (λ (t : LimitsEntry). MakeTable t.limits) m.tree.tables
+    ++ (map (λ (t : LimitsEntry). MakeMemory t.limits) m.tree.memories ++ tasks))
+objects_follow s g m spare rest tasks a behind =
     make_one s g m spare (IsMaking s g m false false []) (IsMaking s g m true false []) (λ (t : LimitsEntry). t.limits.min ≤ 1000000)
     MakeTable make_table m.tree.tables _ _ (λ l. refl) a.instantiable.one_table a.instantiable.table_limits
     (λ none mach made trail vars here. record {
@@ -451,5 +456,13 @@ making_follows s g m spare rest tasks a behind =
       types = here.types;
     })
     (λ t rest some few. memory_follows s g m t.limits rest some few.0 few.1)
+    behind)
+
+pub making_follows : (s : LinkedSet) (g : Seat) (m : NamedModule) (spare : ℕ) (rest : List c.Stmt) (tasks : List Task) → Surroundings s g m
+    → FollowsTasks s g spare (IsFilled s g m) rest tasks
+    → FollowsTasks s g spare (IsMaking s g m false false []) (stmts_making m.tree rest) (tasks_making m.tree tasks)
+making_follows s g m spare rest tasks a behind =
+    objects_follow s g m spare (map (make_global m.tree) (numbered m.tree.globals) ++ rest)
+    (map (λ (g : GlobalEntry). MakeGlobal g.ty g.code) m.tree.globals ++ tasks) a
     (make_globals s g m spare 0 [] m.tree.globals rest tasks a refl refl a.instantiable.globals
-    (λ n made trail mach vars here. behind n made trail mach vars (making_is_filled s g m mach made trail vars a here))))
+    (λ n made trail mach vars here. behind n made trail mach vars (making_is_filled s g m mach made trail vars a here)))

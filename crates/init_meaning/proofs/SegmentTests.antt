@@ -20,7 +20,7 @@ use Rattle.init_meaning.proofs.InitConstants.{OffsetFound, place_evaluates}
 use Rattle.init_meaning.proofs.InitTests.{IsWide, locals_kept, Asked, IsTrapLabel, ask_and_test, with_size, size_evaluates, operates}
 use Rattle.init_meaning.proofs.InitTests.{passes, fails}
 use Rattle.init_meaning.specs.Owners.{TableOwner, MemoryOwner}
-use Rattle.init_meaning.proofs.Surroundings.{Surroundings, IsFilled, TableFound, table_found, MemoryFound, memory_found, offset_of}
+use Rattle.init_meaning.proofs.Surroundings.{Surroundings, CanTrap, IsFilled, TableFound, table_found, MemoryFound, memory_found, offset_of}
 use Rattle.init_meaning.proofs.Surroundings.{elements_length}
 
 -- ---- segments that fit
@@ -160,12 +160,12 @@ with_size_filled : (s : LinkedSet) (g : Seat) (m : NamedModule) (mach : state.Ma
 with_size_filled s g m mach made trail vars n wide f = record
     { together = f.together; locals = locals_kept m.tree size_name n vars wide f.locals }
 
-test_of_elements : (s : LinkedSet) (g : Seat) (m : NamedModule) (front : List ElementEntry) (segments : List SegmentEntry)
+pub test_of_elements : (s : LinkedSet) (g : Seat) (m : NamedModule) (front : List ElementEntry) (segments : List SegmentEntry)
     (e : ElementEntry) (rest : List c.Stmt)
-    → Surroundings s g m → ElementIsValid m.tree e → tests_bounds m.tree ≡ true
+    → Surroundings s g m → CanTrap g m.tree → ElementIsValid m.tree e → tests_bounds m.tree ≡ true
     → FollowsTask s g (AreTested s g m front segments) (TestElements e) (AreTested s g m (front ++ e ∷ []) segments)
     (test_elements m.tree e ++ rest) rest
-test_of_elements s g m front segments e rest a valid used mach made trail vars here =
+test_of_elements s g m front segments e rest a trap valid used mach made trail vars here =
     segment_tested s g m (TestElements e) (AreTested s g m (front ++ e ∷ []) segments) (codes "w2c_tab_len") (table_arg m.tree) e.offset
     (length e.funcs) size rest mach made trail vars
     (record {
@@ -177,7 +177,7 @@ test_of_elements s g m front segments e rest a valid used mach made trail vars h
           ∙ ap (λ n. gives mach (I64 n)) (elements_length g.program s found.table.elements found.other.elements found.agree.elements);
       there = wide;
     })
-    offset valid.few (a.bounds used) here.filled.together.agrees
+    offset valid.few (trap used) here.filled.together.agrees
     (λ n. with_all {A = store.Table} (table_at s g.unit e.table) (store.table_in made)
     (if_found (constant_of s g.unit made e.offset) as_offset) made trail (λ owner t offset. tested
     (nat_le (offset + length e.funcs) (length t.elements)) SegmentOut n made trail) o.owner found.table offset.offset owner_is
@@ -218,12 +218,12 @@ test_of_elements s g m front segments e rest a valid used mach made trail vars h
     owner_is : table_at s g.unit e.table ≡ Some o.owner
     owner_is = ap (table_at s g.unit) valid.table_is ∙ o.owner_is
 
-test_of_data : (s : LinkedSet) (g : Seat) (m : NamedModule) (elements : List ElementEntry) (front : List SegmentEntry) (d : SegmentEntry)
-    (rest : List c.Stmt)
-    → Surroundings s g m → DataIsValid m.tree d → tests_bounds m.tree ≡ true
+pub test_of_data : (s : LinkedSet) (g : Seat) (m : NamedModule) (elements : List ElementEntry) (front : List SegmentEntry)
+    (d : SegmentEntry) (rest : List c.Stmt)
+    → Surroundings s g m → CanTrap g m.tree → DataIsValid m.tree d → tests_bounds m.tree ≡ true
     → FollowsTask s g (AreTested s g m elements front) (TestData d) (AreTested s g m elements (front ++ d ∷ []))
     (test_data m.tree d ++ rest) rest
-test_of_data s g m elements front d rest a valid used mach made trail vars here =
+test_of_data s g m elements front d rest a trap valid used mach made trail vars here =
     segment_tested s g m (TestData d) (AreTested s g m elements (front ++ d ∷ [])) (codes "w2c_mem_len") (memory_arg m.tree) d.offset
     (length d.bytes) size rest mach made trail vars
     (record {
@@ -235,7 +235,7 @@ test_of_data s g m elements front d rest a valid used mach made trail vars here 
           ∙ ap (λ bytes. gives mach (I64 (length bytes))) found.agree.bytes;
       there = wide;
     })
-    offset valid.few (a.bounds used) here.filled.together.agrees
+    offset valid.few (trap used) here.filled.together.agrees
     (λ n. with_all {A = store.Memory} (memory_at s g.unit d.memory) (store.memory_in made)
     (if_found (constant_of s g.unit made d.offset) as_offset) made trail (λ owner t offset. tested
     (nat_le (offset + length d.bytes) (length t.bytes)) SegmentOut n made trail) o.owner found.memory offset.offset owner_is
@@ -280,33 +280,35 @@ test_of_data s g m elements front d rest a valid used mach made trail vars here 
 
 pub tests_of_elements : (s : LinkedSet) (g : Seat) (m : NamedModule) (spare : ℕ) (front segment : List ElementEntry)
     (segments : List SegmentEntry) (rest : List c.Stmt) (tasks : List Task)
-    → Surroundings s g m → AllByRecursion (ElementIsValid m.tree) segment → (0 < length segment → tests_bounds m.tree ≡ true)
+    → Surroundings s g m → CanTrap g m.tree → AllByRecursion (ElementIsValid m.tree) segment
+    → (0 < length segment → tests_bounds m.tree ≡ true)
     → FollowsTasks s g spare (AreTested s g m (front ++ segment) segments) rest tasks
     → FollowsTasks s g spare (AreTested s g m front segments) (flat_map (test_elements m.tree) segment ++ rest)
     (map TestElements segment ++ tasks)
-tests_of_elements s g m spare front [] segments rest tasks a valid used behind =
+tests_of_elements s g m spare front [] segments rest tasks a trap valid used behind =
     subst (λ es. FollowsTasks s g spare (AreTested s g m es segments) rest tasks) (append-nil front) behind
-tests_of_elements s g m spare front (e ∷ es) segments rest tasks a valid used behind =
+tests_of_elements s g m spare front (e ∷ es) segments rest tasks a trap valid used behind =
     and_others s g spare (AreTested s g m front segments) (TestElements e) (AreTested s g m (front ++ e ∷ []) segments)
     (test_elements m.tree e ++ (flat_map (test_elements m.tree) es ++ rest)) (flat_map (test_elements m.tree) es ++ rest)
     (map TestElements es ++ tasks)
     refl
-    (test_of_elements s g m front segments e (flat_map (test_elements m.tree) es ++ rest) a valid.0 (used (omega arith)))
-    (tests_of_elements s g m spare (front ++ e ∷ []) es segments rest tasks a valid.1 (λ some. used (omega arith))
+    (test_of_elements s g m front segments e (flat_map (test_elements m.tree) es ++ rest) a trap valid.0 (used (omega arith)))
+    (tests_of_elements s g m spare (front ++ e ∷ []) es segments rest tasks a trap valid.1 (λ some. used (omega arith))
     (subst (λ es. FollowsTasks s g spare (AreTested s g m es segments) rest tasks) (sym (append_assoc front (e ∷ []) es)) behind))
 
 pub tests_of_data : (s : LinkedSet) (g : Seat) (m : NamedModule) (spare : ℕ) (elements : List ElementEntry)
     (front segments : List SegmentEntry) (rest : List c.Stmt) (tasks : List Task)
-    → Surroundings s g m → AllByRecursion (DataIsValid m.tree) segments → (0 < length segments → tests_bounds m.tree ≡ true)
+    → Surroundings s g m → CanTrap g m.tree → AllByRecursion (DataIsValid m.tree) segments
+    → (0 < length segments → tests_bounds m.tree ≡ true)
     → FollowsTasks s g spare (AreTested s g m elements (front ++ segments)) rest tasks
     → FollowsTasks s g spare (AreTested s g m elements front) (flat_map (test_data m.tree) segments ++ rest)
     (map TestData segments ++ tasks)
-tests_of_data s g m spare elements front [] rest tasks a valid used behind =
+tests_of_data s g m spare elements front [] rest tasks a trap valid used behind =
     subst (λ es. FollowsTasks s g spare (AreTested s g m elements es) rest tasks) (append-nil front) behind
-tests_of_data s g m spare elements front (d ∷ ds) rest tasks a valid used behind =
+tests_of_data s g m spare elements front (d ∷ ds) rest tasks a trap valid used behind =
     and_others s g spare (AreTested s g m elements front) (TestData d) (AreTested s g m elements (front ++ d ∷ []))
     (test_data m.tree d ++ (flat_map (test_data m.tree) ds ++ rest)) (flat_map (test_data m.tree) ds ++ rest) (map TestData ds ++ tasks)
     refl
-    (test_of_data s g m elements front d (flat_map (test_data m.tree) ds ++ rest) a valid.0 (used (omega arith)))
-    (tests_of_data s g m spare elements (front ++ d ∷ []) ds rest tasks a valid.1 (λ some. used (omega arith))
+    (test_of_data s g m elements front d (flat_map (test_data m.tree) ds ++ rest) a trap valid.0 (used (omega arith)))
+    (tests_of_data s g m spare elements (front ++ d ∷ []) ds rest tasks a trap valid.1 (λ some. used (omega arith))
     (subst (λ es. FollowsTasks s g spare (AreTested s g m elements es) rest tasks) (sym (append_assoc front (d ∷ []) ds)) behind))

@@ -6,28 +6,30 @@ use Rattle.alike.specs.Placed.{IsPlaced}
 use Rattle.c_meaning.specs.State as state
 use Rattle.c_init.specs.Instantiable.{StartIsValid}
 use Rattle.c_init.proofs.NoFaults.{used_by_elements, used_by_segments}
-use Rattle.init_meaning.proofs.Common.{◌≡◌, ℕ, suc, ◌+◌, ◌<◌, ◌≤◌, List, [], ◌∷◌, ◌++◌, map, Some, None, Option, flat_map, sym, refl, subst}
-use Rattle.init_meaning.proofs.Common.{arith, numbered, FuncType, ElementEntry, SegmentEntry, Start, Module, Name, LinkedSet, NamedModule}
+use Rattle.init_meaning.proofs.Common.{◌≡◌, ℕ, suc, ◌+◌, ◌≤◌, List, [], ◌∷◌, ◌++◌, map, Some, None, Option, flat_map, sym, refl, subst}
+use Rattle.init_meaning.proofs.Common.{append-nil, arith, numbered, FuncType, ElementEntry, SegmentEntry, Start, Module, Name, LinkedSet}
+use Rattle.init_meaning.proofs.Common.{NamedModule}
 use Rattle.init_meaning.proofs.Common.{CallStart, Task, TestData, TestElements, WriteByte, WriteElement, start_tasks, with_found, join}
-use Rattle.init_meaning.proofs.Common.{step, Reaches, Progress, CallFollows, CallsFollow, call_spare, callee, function_name, called}
+use Rattle.init_meaning.proofs.Common.{step, Reaches, Progress, CallFollows, CallsFollow, call_spare, callee, function_name, called, given}
 use Rattle.init_meaning.proofs.Common.{call_start, start_stmts, test_data, test_elements, write_data, write_elements, and_then, do_tasks}
 use Rattle.init_meaning.proofs.InitTests.{HasLocals}
 use Rattle.init_meaning.proofs.InitStatements.{Seat, at, state_at, running, call_goes}
 use Rattle.init_meaning.proofs.InitRuns.{FollowsTasks, Instantiates, before, stops_before}
-use Rattle.init_meaning.proofs.Surroundings.{Surroundings, IsFilled}
+use Rattle.init_meaning.proofs.Surroundings.{Surroundings, CanTrap, IsFilled}
 use Rattle.init_meaning.specs.ReachedFuncs.{FuncIsReached}
 use Rattle.init_meaning.proofs.SegmentTests.{AreTested, tests_of_elements, tests_of_data}
 use Rattle.init_meaning.proofs.ElementWrites.{writes_of_elements}
 use Rattle.init_meaning.proofs.DataWrites.{writes_of_data}
 
 -- the function returns
-pub returns : (s : LinkedSet) (g : Seat) (m : NamedModule) (spare : ℕ) (rest : List c.Stmt) → 1 ≤ spare
+pub returns : (s : LinkedSet) (g : Seat) (m : NamedModule) (spare : ℕ) (rest : List c.Stmt) → g.below ≡ g.last → 1 ≤ spare
     → FollowsTasks s g spare (IsFilled s g m) (c.ReturnNone ∷ rest) []
-returns s g m spare rest some n made trail mach vars here = record {
+returns s g m spare rest last some n made trail mach vars here = record {
   machine = mach;
   together = here.together;
   statements = 1;
-  way = step g.program g.pending (state_at g mach (c.ReturnNone ∷ rest) vars);
+  way = subst (λ waiting. Reaches g.program 1 (at g mach (c.ReturnNone ∷ rest) vars) (given g.program g.pending mach None waiting)) last
+      (step g.program g.pending (state_at g mach (c.ReturnNone ∷ rest) vars));
   paid = record { least = omega arith; most = omega (arith, some) };
 }
 
@@ -77,13 +79,13 @@ start_follows s g m spare func rest tasks a valid calls behind n made trail mach
 
 -- ---- from the tests on
 
-starts : (s : LinkedSet) (g : Seat) (m : NamedModule) (start : Option Start) (rest : List c.Stmt)
+pub starts : (s : LinkedSet) (g : Seat) (m : NamedModule) (start : Option Start) (rest : List c.Stmt) → g.below ≡ g.last
     → Surroundings s g m → ((x : Start) → start ≡ Some x → StartIsValid m.tree x.index)
     → CallsFollow g.program s (suc g.unit) 1024 (exec.call_within s 1024)
     → FollowsTasks s g 62 (IsFilled s g m) (start_stmts m start ++ (c.ReturnNone ∷ rest)) (start_tasks start)
-starts s g m None rest a valid calls = returns s g m 62 rest (omega arith)
-starts s g m (Some start) rest a valid calls =
-    start_follows s g m 1 start.index (c.ReturnNone ∷ rest) [] a (valid start refl) calls (returns s g m 1 rest (omega arith))
+starts s g m None rest last a valid calls = returns s g m 62 rest last (omega arith)
+starts s g m (Some start) rest last a valid calls =
+    start_follows s g m 1 start.index (c.ReturnNone ∷ rest) [] a (valid start refl) calls (returns s g m 1 rest last (omega arith))
 
 abbrev pub tasks_behind : Module → List Task
 tasks_behind m =
@@ -103,23 +105,24 @@ stmts_behind m rest =
     ++ (flat_map (write_elements m.tree) m.tree.elements
     ++ stmts_writing m rest))
 
-pub filled_follows : (s : LinkedSet) (g : Seat) (m : NamedModule) (rest : List c.Stmt)
-    → Surroundings s g m → CallsFollow g.program s (suc g.unit) 1024 (exec.call_within s 1024)
+pub filled_follows : (s : LinkedSet) (g : Seat) (m : NamedModule) (rest : List c.Stmt) → g.below ≡ g.last
+    → Surroundings s g m → CanTrap g m.tree → CallsFollow g.program s (suc g.unit) 1024 (exec.call_within s 1024)
     → IsPlaced g.stmts (flat_map (write_data m.tree) (numbered m.tree.segments)) (start_stmts m m.tree.start ++ (c.ReturnNone ∷ rest))
     → FollowsTasks s g 62 (IsFilled s g m) (stmts_behind m rest) (tasks_behind m.tree)
-filled_follows s g m rest a calls placed n made trail mach vars here =
+filled_follows s g m rest last a trap calls placed n made trail mach vars here =
     tests n made trail mach vars (record { filled = here; elements_fit = tt; data_fit = tt })
   where
     written : FollowsTasks s g 62 (AreTested s g m m.tree.elements m.tree.segments) (stmts_writing m rest)
         (flat_map (λ (d : SegmentEntry). map (λ b. WriteByte d b.0 b.1) (numbered d.bytes)) m.tree.segments ++ start_tasks m.tree.start)
-    written = writes_of_data s g m m.tree.elements m.tree.segments 62 0 [] m.tree.segments
-        (start_stmts m m.tree.start ++ (c.ReturnNone ∷ rest)) (start_tasks m.tree.start) a refl refl refl a.instantiable.segments
+    written = writes_of_data s g m m.tree.elements m.tree.segments 62 0 [] m.tree.segments []
+        (start_stmts m m.tree.start ++ (c.ReturnNone ∷ rest)) (start_tasks m.tree.start) a (sym (append-nil m.tree.segments))
+        refl refl a.instantiable.segments
         placed
-        (λ n made trail mach vars t. starts s g m m.tree.start rest a a.instantiable.start calls n made trail mach vars t.filled)
+        (λ n made trail mach vars t. starts s g m m.tree.start rest last a a.instantiable.start calls n made trail mach vars t.filled)
 
     tests : FollowsTasks s g 62 (AreTested s g m [] []) (stmts_behind m rest) (tasks_behind m.tree)
-    tests = tests_of_elements s g m 62 [] m.tree.elements [] _ _ a a.instantiable.elements
+    tests = tests_of_elements s g m 62 [] m.tree.elements [] _ _ a trap a.instantiable.elements
         (λ some. used_by_elements m.tree m.tree.elements some)
-        (tests_of_data s g m 62 m.tree.elements [] m.tree.segments _ _ a a.instantiable.segments
+        (tests_of_data s g m 62 m.tree.elements [] m.tree.segments _ _ a trap a.instantiable.segments
         (λ some. used_by_segments m.tree m.tree.segments some)
         (writes_of_elements s g m 62 m.tree.elements [] m.tree.elements m.tree.segments _ _ a refl a.instantiable.elements written))

@@ -10,7 +10,8 @@ use Rattle.c_init.specs.Instantiable.{IsInstantiable}
 use Rattle.alike.proofs.LookUps.{module_is}
 use Rattle.init_meaning.proofs.Common.{◌≡◌, ℕ, suc, ◌<◌, true, false, List, [], ◌∷◌, length, IsSome, slice_get, Some, None, Option, refl}
 use Rattle.init_meaning.proofs.Common.{ap, arith, Trail, SegmentOut, ValType, func_space, global_space, imported_global_space, memory_space}
-use Rattle.init_meaning.proofs.Common.{table_space, Code, SegmentEntry, shape_of, LinkedSet, NamedModule, array_named, memory_object}
+use Rattle.init_meaning.proofs.Common.{table_space, Code, SegmentEntry, Module, shape_of, LinkedSet, NamedModule, array_named}
+use Rattle.init_meaning.proofs.Common.{memory_object}
 use Rattle.init_meaning.proofs.Common.{memory_seen, table_object, table_seen, ElementsAgree, MemoryAgrees, PointersAreSet, TableAgrees}
 use Rattle.init_meaning.proofs.Common.{Together, memory_arg, table_arg, bounds_label, data_name, tests_bounds}
 use Rattle.init_meaning.proofs.InitStatements.{Seat, Gets}
@@ -30,10 +31,13 @@ pub record Surroundings (s : LinkedSet) (g : Seat) (m : NamedModule) : Type 0 wh
   pub function : (index : ℕ) → index < length (func_space m.tree) → FuncIsReached g.program s g.unit m index
   pub array : (k : ℕ) (d : SegmentEntry) → slice_get m.tree.segments k ≡ Some d → 0 < length d.bytes
       → array_named g.program g.unit (data_name k) ≡ Some d.bytes
-  pub bounds : tests_bounds m.tree ≡ true → IsTrapLabel g bounds_label SegmentOut
   pub early_global : (index : ℕ) (t : ValType) → slice_get (imported_global_space m.tree) index ≡ Some (t, false)
       → (o : GlobalOwner s g.unit m.tree index t) × (o.global.owner < g.unit)
   pub instantiable : IsInstantiable m.tree
+
+-- where bounds are tested, the function has a trap for them
+abbrev pub CanTrap : Seat → Module → Type 0
+CanTrap g m = tests_bounds m ≡ true → IsTrapLabel g bounds_label SegmentOut
 
 -- the module is ready, and its init function has its variables
 pub record IsFilled (s : LinkedSet) (g : Seat) (m : NamedModule) (machine : state.Machine) (made : store.Store) (trail : Trail)

@@ -1,109 +1,40 @@
 -- An init function follows its module's instantiation (WebAssembly Core 1.0, 4.5.4): its beginning, and all
 -- tasks one behind another.
 use Rattle.wasm_meaning.specs.Execution as exec
+use Rattle.c_tree.specs.Makers as makers
 use Rattle.c_tree.specs.Tree as c
 use Rattle.c_meaning.specs.State as state
+use Rattle.c_init.specs.Init.{Part, all_parts, call_part, calling_stmts, is_large, stmts_with, whole_stmts}
 use Rattle.c_init.specs.Instantiable.{IsInstantiable}
-use Rattle.init_meaning.proofs.InitLabels.{data_placed, traps, limits_found, bounds_found}
-use Rattle.init_meaning.proofs.Common.{◌≡◌, ℕ, zero, suc, Bool, true, false, cond, ◌||◌, List, [], ◌∷◌, ◌++◌, map, if◌then◌else◌, slice_get}
-use Rattle.init_meaning.proofs.Common.{Some, None, filter, Option, option_map, flat_map, sym, refl, ap, ◌∙◌, subst, arith, or_right}
-use Rattle.init_meaning.proofs.Common.{same_Some, AllByRecursion, list_any, named, SegmentOut, I64, init_symbol_of, memory_of_import}
-use Rattle.init_meaning.proofs.Common.{memory_space, table_of_import, table_space, Import, ImportKind, ImportFunc, ImportGlobal}
-use Rattle.init_meaning.proofs.Common.{ImportMemory, ImportTable, Limits, Module, IsMaximum, Void, LinkedSet, NamedModule, Begin, Take}
-use Rattle.init_meaning.proofs.Common.{Task, tasks_of, stays, Program, Pending, Progress, go_on, Next, Step, Stops, begin, locals_of}
-use Rattle.init_meaning.proofs.Common.{global_name, all_behind, all_front, CallsFollow, pointer_name, called, Defines, bounds_label}
-use Rattle.init_meaning.proofs.Common.{byte_name, has_bytes, has_test, init_func, init_stmts, local_if, size_name, takes_from, tests_bounds}
-use Rattle.init_meaning.proofs.Common.{tests_limits, InitFollows, do_tasks}
+use Rattle.init_meaning.proofs.InitLabels.{bounds_found, calling_limits_found, data_placed, limits_found, traps}
+use Rattle.init_meaning.proofs.Common.{◌≡◌, ℕ, zero, suc, Bool, true, false, cond, ◌||◌, List, [], ◌∷◌, ◌++◌, map, length, if◌then◌else◌}
+use Rattle.init_meaning.proofs.Common.{slice_get, Some, filter, flat_map, sym, refl, ap, ◌∙◌, subst, arith, or_right, AllByRecursion}
+use Rattle.init_meaning.proofs.Common.{list_any, range_with_len, ImportLimits, init_symbol_of, memory_of_import, memory_space}
+use Rattle.init_meaning.proofs.Common.{table_of_import, table_space, GlobalEntry, Import, ImportKind, ImportFunc, ImportGlobal}
+use Rattle.init_meaning.proofs.Common.{ImportMemory, ImportTable, Limits, LimitsEntry, IsMaximum, LinkedSet, NamedModule, Begin}
+use Rattle.init_meaning.proofs.Common.{MakeGlobal, Take, Task, tasks_of, stays, Program, Pending, Progress, all_behind, all_front}
+use Rattle.init_meaning.proofs.Common.{CallsFollow, has_test, init_stmts, limits_label, make_memory, make_table, start_stmts, takes_from}
+use Rattle.init_meaning.proofs.Common.{tests_limits, trap_if, InitFollows, do_tasks}
+use Rattle.init_meaning.specs.InitFollows.{InitsFollow, IsKnown}
+use Rattle.init_meaning.specs.Parts.{PartsAreDefined}
+use Rattle.init_meaning.specs.Taken.{is_taken}
 use Rattle.init_meaning.proofs.InitStatements.{Seat, at, null_goes}
 use Rattle.init_meaning.proofs.InitRuns.{Stage, FollowsTasks, Instantiates, before}
-use Rattle.init_meaning.proofs.InitTests.{HasLocals, IsWide, IsTrapLabel}
+use Rattle.init_meaning.proofs.FirstVars.{begins, init_locals, init_vars}
 use Rattle.init_meaning.proofs.Surroundings.{Surroundings}
 use Rattle.init_meaning.proofs.LimitTests.{CanTest}
 use Rattle.init_meaning.proofs.TakeTasks.{IsLow, IsTaking}
-use Rattle.init_meaning.specs.Taken.{is_taken}
 use Rattle.init_meaning.proofs.AllTaken.{taking_follows}
-use Rattle.init_meaning.proofs.MakeTasks.{stmts_making, tasks_making, making_follows}
-use Rattle.init_meaning.proofs.StartTasks.{stmts_behind, tasks_behind, filled_follows}
-use Rattle.init_meaning.specs.InitFollows.{InitsFollow, IsKnown}
-
--- ---- the first variables
-
-abbrev vars_of : Bool → Bool → state.Vars
-vars_of sizes bytes =
-    (if sizes then (size_name, state.Number (I64 0)) ∷ [] else []) ++ (if bytes then (byte_name, state.Number (I64 0)) ∷ [] else [])
-
-locals_are : (sizes bytes : Bool) → locals_of (local_if sizes size_name ++ local_if bytes byte_name) ≡ Some (vars_of sizes bytes)
-locals_are true true = refl
-locals_are true false = refl
-locals_are false true = refl
-locals_are false false = refl
-
-size_there : (sizes bytes : Bool) → sizes ≡ true → IsWide size_name (vars_of sizes bytes)
-size_there true bytes e = refl
-size_there false bytes e = absurd cc
-
-byte_there : (sizes bytes : Bool) → bytes ≡ true → IsWide byte_name (vars_of sizes bytes)
-byte_there true true e = refl
-byte_there false true e = refl
-byte_there sizes false e = absurd cc
-
-no_global : (sizes bytes : Bool) (k : ℕ) → named (global_name k) (vars_of sizes bytes) ≡ None
-no_global true true k = refl
-no_global true false k = refl
-no_global false true k = refl
-no_global false false k = refl
-
-no_pointer : (sizes bytes : Bool) (object : state.Name) → named (pointer_name object) (vars_of sizes bytes) ≡ None
-no_pointer true true object = refl
-no_pointer true false object = refl
-no_pointer false true object = refl
-no_pointer false false object = refl
-
-abbrev init_vars : Module → state.Vars
-init_vars m = vars_of (tests_limits m || tests_bounds m) (list_any has_bytes m.segments)
-
-init_locals : (m : Module) → HasLocals m (init_vars m)
-init_locals m = record {
-  size = size_there (tests_limits m || tests_bounds m) (list_any has_bytes m.segments);
-  byte = byte_there (tests_limits m || tests_bounds m) (list_any has_bytes m.segments);
-  globals_seen = no_global (tests_limits m || tests_bounds m) (list_any has_bytes m.segments);
-  pointers_seen = no_pointer (tests_limits m || tests_bounds m) (list_any has_bytes m.segments);
-}
+use Rattle.init_meaning.proofs.MakeTasks.{IsMaking, making_follows, objects_follow, stmts_making, tasks_making}
+use Rattle.init_meaning.proofs.StartTasks.{filled_follows, stmts_behind, tasks_behind}
+use Rattle.init_meaning.proofs.PartRows.{calls, calls_are}
+use Rattle.init_meaning.proofs.CallingStmts.{parts_follow}
 
 -- ---- the call
 
-abbrev seat : Program → ℕ → ℕ → NamedModule → Pending → List state.Frame → Seat
-seat p u item m pending below = record { program = p; unit = u; item = item; stmts = init_stmts m; pending = pending; below = below }
-
-abbrev init_body : NamedModule → c.Body
-init_body m = record {
-  locals = local_if (tests_limits m.tree || tests_bounds m.tree) size_name ++ local_if (list_any has_bytes m.tree.segments) byte_name;
-  stmts = init_stmts m;
-}
-
-begins : (p : Program) (u : ℕ) (m : NamedModule) (mach : state.Machine) (pending : Pending) (below : List state.Frame)
-    (d : Defines p u (init_func m))
-    → called p pending (state.UnitFunc u (init_symbol_of m.name)) mach [] below
-    ≡ at (seat p u d.item m pending below) mach (init_stmts m) (init_vars m.tree)
-begins p u m mach pending below d =
-    ap (λ found. go_on p pending (begin found u mach [] below))
-    (d.defined ∙ ap (λ body. Some (record { item = d.item; func = init_func m; body = body })) (sym body_is))
-    ∙ ap (λ (vars : Option state.Vars). go_on p pending (begun (option_map (λ (locals : state.Vars). [] ++ locals) vars)))
-    (locals_are (tests_limits m.tree || tests_bounds m.tree) (list_any has_bytes m.tree.segments))
-  where
-    body_is : init_body m ≡ d.body
-    body_is = same_Some (init_body m) d.body d.has_body
-
-    begun : Option state.Vars → Step
-    begun vars = elim vars [
-      | None ↦ Stops mach state.Stuck
-      | Some vars ↦ Next (record {
-        machine = mach;
-        running =
-            record { unit = u; item = d.item; result = Void; stmts = init_stmts m; rest = init_stmts m; vars = vars };
-        below = below;
-      })
-    ]
+abbrev seat : Program → ℕ → ℕ → List c.Stmt → Pending → List state.Frame → Seat
+seat p u item stmts pending below =
+    record { program = p; unit = u; item = item; stmts = stmts; pending = pending; below = below; last = below }
 
 -- the beginning pays for the return and the start call
 begin_follows : (s : LinkedSet) (g : Seat) (stage : Stage) (rest : List c.Stmt) (tasks : List Task) → FollowsTasks s g 62 stage rest tasks
@@ -158,64 +89,108 @@ lows f (i ∷ imports) tables memories =
     go others low true = (low, others)
     go others low false = others
 
-all_tasks : (p : Program) (s : LinkedSet) (u : ℕ) (m : NamedModule) (pending : Pending) (below : List state.Frame)
-    → slice_get s.modules u ≡ Some m → (k : IsKnown p s u m) → IsInstantiable m.tree
-    → CallsFollow p s (suc u) 1024 (exec.call_within s 1024)
-    → FollowsTasks s (seat p u k.init.item m pending below) 0 (IsTaking s (seat p u k.init.item m pending below) m false false 0)
-    (init_stmts m) (tasks_of m.tree)
-all_tasks p s u m pending below module_is k instantiable calls =
-    begin_follows s g (IsTaking s g m false false 0) (takes_from m 0 imports ++ stmts_making m.tree (stmts_behind m (traps m)))
-    (map Take imports ++ tasks_making m.tree (tasks_behind m.tree))
-    (taking_follows s g m 62 (stmts_making m.tree (stmts_behind m (traps m))) (tasks_making m.tree (tasks_behind m.tree))
-    (omega (arith, instantiable.few_globals)) k.taken
-    (may_test is_taken m.tree.imports can) (lows is_taken m.tree.imports
-    (all_front Low (flat_map table_of_import m.tree.imports) (map (λ t. t.limits) m.tree.tables)
-    (all_front Low (table_space m.tree) (memory_space m.tree) instantiable.maxima))
-    (all_front Low (flat_map memory_of_import m.tree.imports) (map (λ t. t.limits) m.tree.memories)
-    (all_behind Low (table_space m.tree) (memory_space m.tree) instantiable.maxima)))
-    (making_follows s g m 62 (stmts_behind m (traps m)) (tasks_behind m.tree) around
-    (filled_follows s g m (traps m) around calls (data_placed m instantiable.few_segments))))
-  where
-    g : Seat
-    g = seat p u k.init.item m pending below
+module _ (p : Program) (s : LinkedSet) (u : ℕ) (m : NamedModule) (pending : Pending) (below : List state.Frame)
+    (module_is : slice_get s.modules u ≡ Some m) (k : IsKnown p s u m) (instantiable : IsInstantiable m.tree)
+    (calls_follow : CallsFollow p s (suc u) 1024 (exec.call_within s 1024)) where
+  -- where the init function has these statements
+  abbrev sits : List c.Stmt → Seat
+  sits stmts = seat p u k.init.item stmts pending below
 
-    imports : List Import
-    imports = filter is_taken m.tree.imports
+  around : (stmts : List c.Stmt) → Surroundings s (sits stmts) m
+  around stmts = record {
+    module_is = module_is;
+    table = k.table;
+    memory = k.memory;
+    global = k.global;
+    function = k.function;
+    array = k.array;
+    early_global = k.early_global;
+    instantiable = instantiable;
+  }
 
-    can : list_any has_test m.tree.imports ≡ true → CanTest g m.tree
-    can used = (used, limits_found m instantiable.few_segments used)
+  -- from its first statement on it does the tasks
+  abbrev DoesTasks : List c.Stmt → Type 0
+  DoesTasks stmts = FollowsTasks s (sits stmts) 0 (IsTaking s (sits stmts) m false false 0) stmts (tasks_of m.tree)
 
-    bounds : tests_bounds m.tree ≡ true → IsTrapLabel g bounds_label SegmentOut
-    bounds used = bounds_found m instantiable.few_segments used
+  abbrev imports : List Import
+  imports = filter is_taken m.tree.imports
 
-    around : Surroundings s g m
-    around = record {
-      module_is = module_is;
-      table = k.table;
-      memory = k.memory;
-      global = k.global;
-      function = k.function;
-      array = k.array;
-      bounds = bounds;
-      early_global = k.early_global;
-      instantiable = instantiable;
-    }
+  -- its beginning and the imports, before the tables
+  taken_first : (stmts rest : List c.Stmt) (tasks : List Task) → (tests_limits m.tree ≡ true → CanTest (sits stmts) m.tree)
+      → FollowsTasks s (sits stmts) 62 (IsMaking s (sits stmts) m false false []) rest tasks
+      → FollowsTasks s (sits stmts) 0 (IsTaking s (sits stmts) m false false 0) (c.Null ∷ (takes_from m 0 imports ++ rest))
+      (Begin ∷ (map Take imports ++ tasks))
+  taken_first stmts rest tasks can follows =
+      begin_follows s (sits stmts) (IsTaking s (sits stmts) m false false 0) (takes_from m 0 imports ++ rest) (map Take imports ++ tasks)
+      (taking_follows s (sits stmts) m 62 rest tasks
+      (omega (arith, instantiable.few_globals)) k.taken
+      (may_test is_taken m.tree.imports can) (lows is_taken m.tree.imports
+      (all_front Low (flat_map table_of_import m.tree.imports) (map (λ t. t.limits) m.tree.tables)
+      (all_front Low (table_space m.tree) (memory_space m.tree) instantiable.maxima))
+      (all_front Low (flat_map memory_of_import m.tree.imports) (map (λ t. t.limits) m.tree.memories)
+      (all_behind Low (table_space m.tree) (memory_space m.tree) instantiable.maxima)))
+      follows)
+
+  -- all in one function
+  whole_does : DoesTasks (whole_stmts m)
+  whole_does =
+      let g : Seat = sits (whole_stmts m) in
+      taken_first (whole_stmts m) (stmts_making m.tree (stmts_behind m (traps m))) (tasks_making m.tree (tasks_behind m.tree))
+      (λ used. (used, limits_found m instantiable.few_segments used))
+      (making_follows s g m 62 (stmts_behind m (traps m)) (tasks_behind m.tree) (around (whole_stmts m))
+      (filled_follows s g m (traps m) refl (around (whole_stmts m)) (λ used. bounds_found m instantiable.few_segments used) calls_follow
+      (data_placed m instantiable.few_segments)))
+
+  -- in parts
+  calling_does : (parts : List Part) → parts ≡ all_parts m.tree → PartsAreDefined p u m.tree 0 parts
+      → DoesTasks (calling_stmts m (length parts))
+  calling_does parts are defined =
+      let stmts : List c.Stmt = calling_stmts m (length parts) in
+      let g : Seat = sits stmts in
+      let trap : List c.Stmt = trap_if (tests_limits m.tree) limits_label (makers.trap ImportLimits) ++ [] in
+      let ends : List c.Stmt = start_stmts m m.tree.start ++ (c.ReturnNone ∷ trap) in
+      taken_first stmts
+      (map (λ (t : LimitsEntry). make_table t.limits) m.tree.tables
+      ++ (map (λ (t : LimitsEntry). make_memory t.limits) m.tree.memories
+      ++ (map call_part (range_with_len 0 (length parts)) ++ ends)))
+      (tasks_making m.tree (tasks_behind m.tree))
+      (λ used. (used, calling_limits_found m (length parts) used))
+      (objects_follow s g m 62 (map call_part (range_with_len 0 (length parts)) ++ ends)
+      (map (λ (e : GlobalEntry). MakeGlobal e.ty e.code) m.tree.globals ++ tasks_behind m.tree) (around stmts)
+      (subst (λ made. FollowsTasks s g 62 (IsMaking s g m true true []) (made ++ ends)
+      (map (λ (e : GlobalEntry). MakeGlobal e.ty e.code) m.tree.globals ++ tasks_behind m.tree))
+      (ap (calls 0) (sym are) ∙ sym (calls_are 0 parts))
+      (parts_follow s g m (around stmts) refl calls_follow trap (subst (PartsAreDefined p u m.tree 0) are defined))))
+
+  -- the module is large, or it has no parts
+  all_tasks : DoesTasks (init_stmts m)
+  all_tasks = by (is_large m.tree) k.parts
+    where
+      by : (large : Bool) → PartsAreDefined p u m.tree 0 (if large then all_parts m.tree else [])
+          → DoesTasks (stmts_with m (length (if large then all_parts m.tree else [])))
+      by false defined = whole_does
+      by true defined = some (all_parts m.tree) refl defined
+        where
+          some : (parts : List Part) → parts ≡ all_parts m.tree → PartsAreDefined p u m.tree 0 parts
+              → DoesTasks (stmts_with m (length parts))
+          some [] are defined = whole_does
+          some (x ∷ parts) are defined = calling_does (x ∷ parts) are defined
 
 follows_as : (s : LinkedSet) (g : Seat) (from : Progress) (n : ℕ) (result : exec.Called) → Instantiates s g 0 from n result
-    → InitFollows g.program s g.unit g.pending g.below from n result
+    → InitFollows g.program s g.unit g.pending g.last from n result
 follows_as s g from n (exec.Back left value made trail) h = record
     { machine = h.machine; together = h.together; statements = h.statements; way = h.way; paid = h.paid }
 follows_as s g from n (exec.CallStops why made trail) h = h
 
 pub inits_follow : InitsFollow
-inits_follow p s u m module_is k instantiable calls n made trail mach pending below together unmade =
+inits_follow p s u m module_is k instantiable calls_follow n made trail mach pending below together unmade =
     subst (λ from. InitFollows p s u pending below from n (do_tasks s u (tasks_of m.tree) n made trail))
-    (sym (begins p u m mach pending below k.init))
+    (sym (begins p u false (init_symbol_of m.name) m.tree (init_stmts m) mach pending below k.init))
     (follows_as s g (at g mach (init_stmts m) (init_vars m.tree)) n (do_tasks s u (tasks_of m.tree) n made trail)
-    (all_tasks p s u m pending below module_is k instantiable calls n made trail mach (init_vars m.tree) here))
+    (all_tasks p s u m pending below module_is k instantiable calls_follow n made trail mach (init_vars m.tree) here))
   where
     g : Seat
-    g = seat p u k.init.item m pending below
+    g = seat p u k.init.item (init_stmts m) pending below
 
     here : IsTaking s g m false false 0 mach made trail (init_vars m.tree)
     here = record {

@@ -17,18 +17,20 @@ use Rattle.c_meaning.specs.Reaches.{Reaches}
 use Rattle.alike.specs.CallsFollow.{CallsFollow, Together, Paid, StopsAlike}
 use Rattle.alike.specs.Passing.{called, given}
 use Rattle.alike.specs.Defines.{Defines}
-use Rattle.c_init.specs.Init.{data_name, init_func}
+use Rattle.c_init.specs.Init.{data_name, init_func, parts_of}
 use Rattle.init_meaning.specs.Tasks.{do_tasks}
 use Rattle.init_meaning.specs.Owners.{TableOwner, MemoryOwner, GlobalOwner}
 use Rattle.init_meaning.specs.ReachedFuncs.{FuncIsReached}
 use Rattle.c_init.specs.Instantiable.{IsInstantiable}
 use Rattle.init_meaning.specs.Declared.{IsDeclared}
+use Rattle.init_meaning.specs.Parts.{PartsAreDefined}
 use Rattle.init_meaning.specs.Taken.{AreTaken, is_taken}
 
 -- what is known of a module of the set and of its unit's functions
 pub record IsKnown (p : Program) (s : LinkedSet) (u : ℕ) (m : NamedModule) : Type 0 where
   -- of the unit's items
   pub init : Defines p u (init_func m)
+  pub parts : PartsAreDefined p u m.tree 0 (parts_of m.tree)
   pub array : (k : ℕ) (d : SegmentEntry) → slice_get m.tree.segments k ≡ Some d → 0 < length d.bytes
       → array_named p u (data_name k) ≡ Some d.bytes
   -- of indexes, and of names that stand for them

@@ -5,4 +5,5 @@ pub mod Owners
 pub mod ReachedFuncs
 pub mod Taken
 pub mod Declared
+pub mod Parts
 pub mod InitFollows

@@ -6,6 +6,7 @@ pub mod ShortestLemmas
 -- What the crate's own proofs cite.
 mod Common
 mod Fits
+mod OneByte
 mod Shifts
 mod Windows
 mod Worked

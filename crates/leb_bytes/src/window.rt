@@ -1,5 +1,5 @@
 // Numbers at the front of a window of bytes, which is all that a call may read.
-ghost use Rattle.std.specs.Prelude.{◌≡◌, ℕ, ◌+◌, ◌*◌, ◌^◌, ◌<◌, ◌≤◌};
+ghost use Rattle.std.specs.Prelude.{◌≡◌, ℕ, ◌+◌, ◌*◌, ◌^◌, ◌<◌, ◌≤◌, IfSome, length, get_or};
 ghost use Rattle.w2c_base.specs.SpelledNumber.{signed_sum};
 ghost use Rattle.leb_bytes.specs.Computed.{s32_of, s64_of, u32_of};
 ghost use Rattle.leb_bytes.specs.Reading.{Answers, AnswersSigned, AnswersUnsigned};
@@ -10,6 +10,52 @@ use crate::LebFault;
 /// The 32-bit number without sign at the front, and how many bytes it takes (WebAssembly Core 1.0,
 /// 5.2.2). Its errors are those of `read_u32`.
 pub fn front_u32(window: &[u8]) -> Result<(u32, usize), LebFault>
+    ensures exact { AnswersUnsigned 32 window.now result }
+    ensures computed { result ≡ u32_of window.now }
+{
+    match only_byte(window, 0x80) {
+        Some(byte) => Ok((u32::from(byte), 1)),
+        None => any_u32(window),
+    }
+}
+
+/// The signed 32-bit number at the front, and how many bytes it takes (WebAssembly Core 1.0, 5.2.2).
+/// Its errors are those of `read_s32`.
+pub fn front_s32(window: &[u8]) -> Result<(i32, usize), LebFault>
+    ensures exact { AnswersSigned 32 window.now result }
+    ensures computed { result ≡ s32_of window.now }
+{
+    match only_byte(window, 0x40) {
+        Some(byte) => Ok((i32::from(byte), 1)),
+        None => any_s32(window),
+    }
+}
+
+/// The signed 64-bit number at the front, and how many bytes it takes (WebAssembly Core 1.0, 5.2.2).
+/// Its errors are those of `read_s64`.
+pub fn front_s64(window: &[u8]) -> Result<(i64, usize), LebFault>
+    ensures exact { AnswersSigned 64 window.now result }
+    ensures computed { result ≡ s64_of window.now }
+{
+    match only_byte(window, 0x40) {
+        Some(byte) => Ok((i64::from(byte), 1)),
+        None => any_s64(window),
+    }
+}
+
+// The byte at the front, where it is below a bound. Most numbers of a module are of one byte.
+fn only_byte(window: &[u8], below: u8) -> Option<u8>
+    ensures { IfSome result (λ byte. (byte < below) × (0 < length window.now) × (byte ≡ get_or window.now 0 0)) }
+{
+    if window.is_empty() {
+        return None;
+    }
+    let byte = window[0];
+    if byte < below { Some(byte) } else { None }
+}
+
+// A 32-bit number without sign, of any bytes.
+fn any_u32(window: &[u8]) -> Result<(u32, usize), LebFault>
     ensures exact { AnswersUnsigned 32 window.now result }
     ensures computed { result ≡ u32_of window.now }
 {
@@ -24,9 +70,8 @@ pub fn front_u32(window: &[u8]) -> Result<(u32, usize), LebFault>
     }
 }
 
-/// The signed 32-bit number at the front, and how many bytes it takes (WebAssembly Core 1.0, 5.2.2).
-/// Its errors are those of `read_s32`.
-pub fn front_s32(window: &[u8]) -> Result<(i32, usize), LebFault>
+// A signed 32-bit number, of any bytes.
+fn any_s32(window: &[u8]) -> Result<(i32, usize), LebFault>
     ensures exact { AnswersSigned 32 window.now result }
     ensures computed { result ≡ s32_of window.now }
 {
@@ -36,9 +81,8 @@ pub fn front_s32(window: &[u8]) -> Result<(i32, usize), LebFault>
     }
 }
 
-/// The signed 64-bit number at the front, and how many bytes it takes (WebAssembly Core 1.0, 5.2.2).
-/// Its errors are those of `read_s64`.
-pub fn front_s64(window: &[u8]) -> Result<(i64, usize), LebFault>
+// A signed 64-bit number, of any bytes.
+fn any_s64(window: &[u8]) -> Result<(i64, usize), LebFault>
     ensures exact { AnswersSigned 64 window.now result }
     ensures computed { result ≡ s64_of window.now }
 {

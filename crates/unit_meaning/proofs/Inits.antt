@@ -13,7 +13,9 @@ use Rattle.c_meaning.proofs.InitSymbols.{init_symbols_found, found_are_init_symb
 use Rattle.unit_meaning.proofs.Listed.{InitsAreInOrder}
 use Rattle.c_unit.proofs.Found.{Test, Misses, from_number, find_none, none_among}
 use Rattle.c_unit.proofs.Defined.{NoHelper, NoBody, NoExport, objects_miss, data_miss, declared_miss, prototypes_miss, no_body, body_is}
-use Rattle.c_unit.proofs.Defined.{export_external, init_defined, kind_of, symbol_is}
+use Rattle.c_unit.proofs.Defined.{export_external, init_defined, kind_of, no_part, symbol_is}
+use Rattle.c_init.specs.Init.{part_func, parts_of}
+use Rattle.w2c_base.specs.Lookup.{numbered}
 
 -- ---- no export has an init function's symbol
 
@@ -108,7 +110,9 @@ one_init m accepted =
     (skip_all init_test _ _ _ (prototypes_miss init_test (bodies m))
     (skip_all init_test _ _ _ (none_among init_test helper_of (helpers_of m.tree) helpers)
     (skip_all init_test _ _ _ (none_among init_test (λ (g : tree.Func). g) (bodies m) own)
-    (skip_all init_test _ _ _ (none_among init_test (export_func m) m.tree.exports exports) last))))))
+    (skip_all init_test _ _ _ (none_among init_test (export_func m) m.tree.exports exports)
+    (skip_all init_test _ _ _ (none_among init_test (part_func m.tree) (numbered (parts_of m.tree)) (no_part init_test m (λ p. refl)))
+    last)))))))
   where
     small : All (λ b. b < 256) m.name
     small = accepted.bytes

@@ -22,12 +22,18 @@ use Rattle.unit_meaning.proofs.Instantiated.{UnitsAreKnown, instantiated_alike}
 use Rattle.c_init.proofs.Small.{is_func, is_table, is_memory, is_global}
 use Rattle.unit_meaning.proofs.Pointers.{target_of}
 use Rattle.init_meaning.specs.InitFollows.{InitsFollow}
+use Rattle.init_meaning.specs.Parts.{PartsAreDefined}
+use Rattle.c_init.specs.Init.{parts_of}
 
 -- ---- what is shown of functions
 
 abbrev pub InitsAreDefined : Type 0
 InitsAreDefined = (s : LinkedSet) → IsAcceptedSet s → (u : ℕ) (m : NamedModule) → slice_get s.modules u ≡ Some m
     → Defines (program_of s) u (init_func m)
+
+abbrev pub PartsAreThere : Type 0
+PartsAreThere = (s : LinkedSet) → IsAcceptedSet s → (u : ℕ) (m : NamedModule) → slice_get s.modules u ≡ Some m
+    → PartsAreDefined (program_of s) u m.tree 0 (parts_of m.tree)
 
 abbrev pub FuncsAreReached : Type 0
 FuncsAreReached = (s : LinkedSet) → IsAcceptedSet s → (u : ℕ) (m : NamedModule) → slice_get s.modules u ≡ Some m
@@ -191,12 +197,13 @@ accepted_at : (modules : List NamedModule) (u : ℕ) (m : NamedModule) → AllBy
     → IsAccepted m
 accepted_at modules u m all is = all_at IsAccepted modules u m all is
 
-pub units_are_known : InitsAreDefined → FuncsAreReached → ImportsGivePointers → UnitsAreKnown
-units_are_known inits functions gives s accepted u m is =
+pub units_are_known : InitsAreDefined → PartsAreThere → FuncsAreReached → ImportsGivePointers → UnitsAreKnown
+units_are_known inits parts functions gives s accepted u m is =
     let a : IsAccepted m = accepted_at s.modules u m accepted.accepted is in
     let instantiable : IsInstantiable m.tree = modules_are_instantiable m.tree a.valid (accepted_limits a) in (
       record {
         init = inits s accepted u m is;
+        parts = parts s accepted u m is;
         array = arrays_are_found s u m is (let few : length m.tree.segments + 2 < 2 ^ 32 = instantiable.few_segments in omega (arith, few));
         table = table_owned s u m is accepted.linked;
         memory = memory_owned s u m is accepted.linked;
@@ -209,7 +216,7 @@ units_are_known inits functions gives s accepted u m is =
     )
 
 -- The units of an accepted set are instantiated as its modules are.
-pub units_are_instantiated_alike : InitsFollow → BodiesFollow → UnitsServe → InitsAreDefined → FuncsAreReached → ImportsGivePointers
-    → UnitsAreInstantiatedAlike
-units_are_instantiated_alike follow bodies serve inits functions gives =
-    instantiated_alike follow bodies serve (units_are_known inits functions gives)
+pub units_are_instantiated_alike : InitsFollow → BodiesFollow → UnitsServe → InitsAreDefined → PartsAreThere → FuncsAreReached
+    → ImportsGivePointers → UnitsAreInstantiatedAlike
+units_are_instantiated_alike follow bodies serve inits parts functions gives =
+    instantiated_alike follow bodies serve (units_are_known inits parts functions gives)

@@ -6,6 +6,7 @@ use Rattle.c_meaning.proofs.Links.{program_twice, program_unresolved, refusal_st
 use Rattle.c_unit.proofs.Found.{position_at, find_none, find_join}
 use Rattle.c_unit.proofs.Defined.{FirstExport, body_is, export_external, init_defined, symbol_undefined, typed_outside, kind_of, symbol_is}
 use Rattle.c_init.proofs.NoFaults.{rows_of}
+use Rattle.c_init.specs.Init.{part_func, parts_of}
 use Rattle.unit_meaning.proofs.Common.{◌≡◌, ℕ, zero, suc, ◌+◌, ◌<◌, Bool, true, false, ◌&&◌, ◌||◌, ◌≢◌, List, [], ◌∷◌, ◌++◌, map, length}
 use Rattle.unit_meaning.proofs.Common.{take, is_some, if◌then◌else◌, slice_get, Some, None, All, Option, find, zip, flat_map, filter_map}
 use Rattle.unit_meaning.proofs.Common.{bytes_eq, sym, refl, ap, ◌∙◌, arith, bytes_eq-Decides, AllByRecursion, cons_option, list_any}
@@ -383,7 +384,10 @@ unit_links s accepted u m is = all_external (Links s u) (items m)
     (λ j f at. static_item (Links s u) f (body_static m j f at)))
     (all_append (OfItem (Links s u)) _ _ (all_map_at (OfItem (Links s u)) (λ e. tree.Function (export_func m e)) m.tree.exports
     (λ j e at. external_item (Links s u) (export_func m e) (export_external m e).external (export_links s accepted u m is j e at)))
-    (init_links s accepted u m is, tt))))))))
+    (all_append (OfItem (Links s u)) _ _ (all_map_at (OfItem (Links s u)) (λ p. tree.Function (part_func m.tree p))
+    (numbered (parts_of m.tree))
+    (λ j p at. static_item (Links s u) (part_func m.tree p) refl))
+    (init_links s accepted u m is, tt)))))))))
 
 -- ---- all units
 

@@ -3,8 +3,16 @@
 use Rattle.wasm_tree.proofs.ImportCounts.{func_count}
 use Rattle.wasm_meaning.specs.LinkedSet.{FuncAddress}
 use Rattle.c_tree.specs.Tree as tree
-use Rattle.c_unit.proofs.Defined.{init_defined, typed_outside}
-use Rattle.unit_meaning.proofs.Common.{◌≡◌, ℕ, ◌+◌, ◌-◌, ◌*◌, ◌<◌, ◌≤◌, Bool, true, false, List, ◌++◌, map, length, if◌then◌else◌}
+use Rattle.c_unit.proofs.Defined.{init_defined, part_body, part_defined, part_typed, typed_outside}
+use Rattle.c_tree.specs.DefinedNames.{part_name}
+use Rattle.c_init.specs.Init.{Part, part_func, parts_of}
+use Rattle.c_init.proofs.FewParts.{few_parts}
+use Rattle.wasm_tree.specs.declared.tree.Module.{Module}
+use Rattle.c_meaning.specs.Linking.{Program}
+use Rattle.alike.specs.Defines.{Defines}
+use Rattle.init_meaning.specs.Parts.{PartsAreDefined}
+use Rattle.unit_meaning.proofs.Common.{◌≡◌, ℕ, suc, ◌+◌, ◌-◌, ◌*◌, ◌<◌, ◌≤◌, Bool, true, false, List, [], ◌∷◌, ◌++◌, map, length}
+use Rattle.unit_meaning.proofs.Common.{if◌then◌else◌}
 use Rattle.unit_meaning.proofs.Common.{slice_get, Some, None, Option, flat_map, sym, refl, ap, ◌∙◌, subst, inl, inr, arith, length-append}
 use Rattle.unit_meaning.proofs.Common.{length-map, slice_get_within, range_with_len, get_within, at_index, if_found, init_symbol_of}
 use Rattle.unit_meaning.proofs.Common.{func_of_import, func_space, imported_funcs, Import, ImportFunc, Name, External, IsFunc, LinkedSet}
@@ -20,7 +28,7 @@ use Rattle.unit_meaning.proofs.Stands.{FuncStands, func_stands, stands_for}
 use Rattle.unit_meaning.proofs.Program.{import_index, few_modules}
 use Rattle.unit_meaning.proofs.Pointers.{target_of}
 use Rattle.unit_meaning.proofs.Accessors.{ImportGives, imports_give}
-use Rattle.unit_meaning.proofs.Known.{InitsAreDefined, FuncsAreReached, ImportsGivePointers}
+use Rattle.unit_meaning.proofs.Known.{InitsAreDefined, PartsAreThere, FuncsAreReached, ImportsGivePointers}
 
 pub inits_are_defined : InitsAreDefined
 inits_are_defined s accepted u m is =
@@ -35,6 +43,35 @@ inits_are_defined s accepted u m is =
           (typed_outside (items m) (init_symbol_of m.name) (init_func m) d.0 d.3);
       is_no_primitive = refl;
     }
+
+-- the parts of the init function, one after the other
+part_is_defined : (s : LinkedSet) → IsAcceptedSet s → (u : ℕ) (m : NamedModule) → slice_get s.modules u ≡ Some m → (k : ℕ) (x : Part)
+    → slice_get (parts_of m.tree) k ≡ Some x → Defines (program_of s) u (part_func m.tree (k, x))
+part_is_defined s accepted u m is k x at =
+    let d = part_defined m k x (few_parts m.tree (accepted_at s accepted u m is).within) at in
+    record {
+      item = d.0;
+      body = part_body m x;
+      has_body = refl;
+      defined = ap (λ (unit : Option (List tree.Item)). if_found unit (λ items. defined items (part_name k))) (unit_at s u m is) ∙ d.1;
+      typed = type_found s u m is (part_name k) (part_func m.tree (k, x)) (part_body m x)
+          (part_typed m k (part_func m.tree (k, x)) (part_body m x) d);
+      is_no_primitive = refl;
+    }
+
+parts_from : (p : Program) (u : ℕ) (m : Module) (k : ℕ) (xs : List Part)
+    → ((j : ℕ) (x : Part) → slice_get xs j ≡ Some x → Defines p u (part_func m (k + j, x))) → PartsAreDefined p u m k xs
+parts_from p u m k [] h = tt
+parts_from p u m k (x ∷ xs) h = (
+  (let e : k + 0 ≡ k = omega arith in subst (λ n. Defines p u (part_func m (n, x))) e (h 0 x refl)),
+  parts_from p u m (k + 1) xs (λ j y at.
+      let e : k + suc j ≡ k + 1 + j = omega arith in subst (λ n. Defines p u (part_func m (n, y))) e (h (suc j) y at)),
+)
+
+pub parts_are_there : PartsAreThere
+parts_are_there s accepted u m is = parts_from (program_of s) u m.tree 0 (parts_of m.tree)
+    (λ j x at. let e : j ≡ 0 + j = omega arith in
+    subst (λ n. Defines (program_of s) u (part_func m.tree (n, x))) e (part_is_defined s accepted u m is j x at))
 
 same_target : (s : LinkedSet) (x : External) (object : ObjectAddress) → target_of s x ≡ Some object → target_of s x ≡ Some object
 same_target s (IsFunc f) object e = e

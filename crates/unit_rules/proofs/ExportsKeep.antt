@@ -3,14 +3,15 @@ use Rattle.c_symbols.specs.Symbols.{declared_type}
 use Rattle.c_tree.specs.declared.tree.CType.TheVariants as type
 use Rattle.c_tree.specs.Tree as tree
 use Rattle.c_unit.proofs.SectionLists.{before_declarations, before_exports, before_helpers, before_prototypes, declarations, exports}
-use Rattle.c_unit.proofs.SectionLists.{functions_of, helpers, objects, prototypes}
+use Rattle.c_unit.proofs.SectionLists.{functions_of, helpers, init, objects, parts, prototypes}
+use Rattle.c_unit.proofs.Sections.{parts_class}
 use Rattle.c_unit.proofs.Pairs.{AllPairs}
 use Rattle.c_unit.proofs.Sections.{AllClass, bodies_class, exports_class, export_name, symbol_class, of_import, of_export, init_class}
 use Rattle.c_unit.proofs.Sections.{six_not_nine}
 use Rattle.c_unit.proofs.KnownNames.{in_vars, in_funcs}
 use Rattle.wasm_typing.specs.declared.fault.ValidCause.TheVariants as cause
 use Rattle.c_init.proofs.NoFaults.{rows_of}
-use Rattle.unit_rules.proofs.Common.{◌≡◌, ◌≤◌, Bool, true, false, not, ◌||◌, ◌≢◌, List, [], ◌∷◌, ◌++◌, map, is_none, slice_get, Some, None}
+use Rattle.unit_rules.proofs.Common.{◌≡◌, Bool, true, false, not, ◌||◌, ◌≢◌, List, [], ◌∷◌, ◌++◌, map, is_none, slice_get, Some, None}
 use Rattle.unit_rules.proofs.Common.{Option, bytes_eq, sym, refl, ap, ◌∙◌, subst, append_assoc, arith, bytes_eq-Decides, AllByRecursion}
 use Rattle.unit_rules.proofs.Common.{all_append, all_map, ValType, func_space, func_type_in, global_space, global_type_in, memory_space}
 use Rattle.unit_rules.proofs.Common.{table_space, Export, ExportKind, ExportFunc, ExportGlobal, ExportMemory, ExportTable, Import, Module}
@@ -22,7 +23,7 @@ use Rattle.unit_rules.proofs.Common.{export_func, named_params, passes_on, usabl
 use Rattle.body_rules.proofs.RulesOfFunctions.{all_at}
 use Rattle.unit_rules.proofs.ItemRules.{pairs_at, Keeps, Apart, apart_joined, apart_names, defined_func, own_of, names_of_vars, IsFunction}
 use Rattle.unit_rules.proofs.ItemRules.{function_keeps, hidden_by_class}
-use Rattle.unit_rules.proofs.PlainItems.{NotSame, other_class}
+use Rattle.unit_rules.proofs.PlainItems.{NoClass, NotSame, other_class}
 use Rattle.unit_rules.proofs.BodySections.{all_before}
 use Rattle.unit_rules.proofs.NeedsDeclared.{callee_known, past_objects, past_data}
 use Rattle.unit_rules.proofs.ExportRules.{IsExternal}
@@ -216,10 +217,19 @@ module _ (m : NamedModule) (a : IsAccepted m) where
   all_behind P [] x behind h = h.1
   all_behind P (y ∷ before) x behind h = all_behind P before x behind h.1
 
+  -- no name of those behind is a variable's
+  abbrev last : List tree.Item
+  last = parts m ++ init m
+
+  last_none : NoClass 9 last
+  last_none = all_append (λ o. class (name_of o) ≢ 9) (parts m) (init m)
+      (other_class 10 9 (parts m) (λ e. absurd (grind (arith, e))) (parts_class m a))
+      (six_not_nine (class (name_of (tree.Function (init_func m)))) (init_class m.name), tt)
+
   -- one of them, at its place
   export_keeps : (e : Export) (before behind : List tree.Item) → unknown_export t e ≡ []
       → symbol_type m (export_symbol m e) ≡ Some (export_type t e)
-      → AllClass 6 before → AllClass 6 behind → AllByRecursion (λ o. NotSame o (tree.Function (export_func m e))) before
+      → AllClass 6 before → NoClass 9 behind → AllByRecursion (λ o. NotSame o (tree.Function (export_func m e))) before
       → Keeps (front ++ before) (tree.Function (export_func m e)) behind
   export_keeps e before behind valid typed before_class behind_class apart =
       let f : tree.Func = export_func m e in
@@ -241,7 +251,7 @@ module _ (m : NamedModule) (a : IsAccepted m) where
       (all_append (λ o. class (name_of o) ≢ 9) (front ++ before) (tree.Function full ∷ behind)
       (all_append (λ o. class (name_of o) ≢ 9) front before (none_before_exports m a 9 (omega arith))
       (other_class 6 9 before (λ e. absurd (grind (arith, e))) before_class))
-      (six_not_nine (class f.name) own, other_class 6 9 behind (λ e. absurd (grind (arith, e))) behind_class)))))
+      (six_not_nine (class f.name) own, behind_class)))))
 
   pub exports_keep : ExportsKeep m a
   exports_keep before x behind e = one (all_at IsExport before x behind (subst (AllByRecursion IsExport) e each_export))
@@ -249,11 +259,13 @@ module _ (m : NamedModule) (a : IsAccepted m) where
       classes : AllClass 6 (before ++ x ∷ behind)
       classes = subst (AllClass 6) e (exports_class m a)
 
-      one : IsExport x → Keeps (front ++ before) x (behind ++ (tree.Function (init_func m) ∷ [] ++ []))
-      one i = subst (λ y. Keeps (front ++ before) y (behind ++ (tree.Function (init_func m) ∷ [] ++ []))) (sym i.x_is)
-          (export_keeps i.e before (behind ++ tree.Function (init_func m) ∷ []) i.valid i.typed
+      one : IsExport x → Keeps (front ++ before) x (behind ++ (last ++ []))
+      one i = subst (λ y. Keeps (front ++ before) y (behind ++ (last ++ []))) (sym i.x_is)
+          (export_keeps i.e before (behind ++ (last ++ [])) i.valid i.typed
           (all_before m a (λ o. class (name_of o) ≡ 6) before x behind classes)
-          (all_append (λ o. class (name_of o) ≡ 6) behind (tree.Function (init_func m) ∷ [])
-          (all_behind (λ o. class (name_of o) ≡ 6) before x behind classes) (init_class m.name, tt))
+          (all_append (λ o. class (name_of o) ≢ 9) behind (last ++ [])
+          (other_class 6 9 behind (λ e. absurd (grind (arith, e)))
+          (all_behind (λ o. class (name_of o) ≡ 6) before x behind classes))
+          (all_append (λ o. class (name_of o) ≢ 9) last [] last_none tt))
           (pairs_at NotSame before (tree.Function (export_func m i.e)) behind
           (subst (λ y. AllPairs NotSame (before ++ y ∷ behind)) i.x_is (subst (AllPairs NotSame) e pairs))))

@@ -1,18 +1,18 @@
 -- The numbers of the init function's statements fit their types.
 use Rattle.unit_rules.proofs.Common.{◌≡◌, ℕ, zero, suc, ◌+◌, ◌^◌, ◌<◌, ◌≤◌, Bool, true, false, not, List, [], ◌∷◌, ◌++◌, map, length, ℤ}
 use Rattle.unit_rules.proofs.Common.{pos, negsuc, is_some, if◌then◌else◌, slice_get, Some, None, codes, filter, Option, zip, flat_map, refl}
-use Rattle.unit_rules.proofs.Common.{arith, AllByRecursion, range_with_len, all_append, all_flat, if_found, numbered, code_of, FuncType}
-use Rattle.unit_rules.proofs.Common.{TrapKind, func_space, func_type_in, is_func_import, is_global_import, memory_of_import, memory_space}
-use Rattle.unit_rules.proofs.Common.{table_of_import, table_space, type_in, Code, GlobalGet, I32Const, I64Const, end_code, then_code}
-use Rattle.unit_rules.proofs.Common.{ElementEntry, FuncRef, Import, ImportKind, ImportFunc, ImportGlobal, ImportMemory, ImportTable, Limits}
-use Rattle.unit_rules.proofs.Common.{LimitsEntry, SegmentEntry, Start, Module, IsMaximum, Name, FitsArg, FitsExpr, FitsStmt, depth_limit}
-use Rattle.unit_rules.proofs.Common.{NamedModule, pattern_of, global_name, memory_name, table_name, global_imports, import_symbol}
-use Rattle.unit_rules.proofs.Common.{is_usable, memory_imports, table_imports, all_filtered, all_behind, all_front, all_weaker}
-use Rattle.unit_rules.proofs.Common.{pointer_name, callee, memory_arg, table_arg, bounds_label, byte_name, call_start, constant_expr}
-use Rattle.unit_rules.proofs.Common.{init_stmts, limits_label, make_global, make_memory, make_table, max_number, n64, place_expr}
-use Rattle.unit_rules.proofs.Common.{set_pointer, signature, start_stmts, take_stmts, takes_from, test_bounds, test_data, test_elements}
-use Rattle.unit_rules.proofs.Common.{test_max, test_min, tests_bounds, tests_limits, trap_if, write_data, write_element, write_elements}
-use Rattle.unit_rules.proofs.Common.{IsAccepted}
+use Rattle.unit_rules.proofs.Common.{ap, subst, arith, AllByRecursion, range_with_len, all_append, all_flat, if_found, numbered, code_of}
+use Rattle.unit_rules.proofs.Common.{FuncType, TrapKind, func_space, func_type_in, is_func_import, is_global_import, memory_of_import}
+use Rattle.unit_rules.proofs.Common.{memory_space, table_of_import, table_space, type_in, Code, GlobalGet, I32Const, I64Const, end_code}
+use Rattle.unit_rules.proofs.Common.{then_code, ElementEntry, FuncRef, Import, ImportKind, ImportFunc, ImportGlobal, ImportMemory}
+use Rattle.unit_rules.proofs.Common.{ImportTable, Limits, LimitsEntry, SegmentEntry, Start, Module, IsMaximum, Name, FitsArg, FitsExpr}
+use Rattle.unit_rules.proofs.Common.{FitsStmt, depth_limit, NamedModule, pattern_of, global_name, memory_name, table_name, global_imports}
+use Rattle.unit_rules.proofs.Common.{import_symbol, is_usable, memory_imports, table_imports, all_filtered, all_behind, all_front}
+use Rattle.unit_rules.proofs.Common.{all_weaker, pointer_name, callee, memory_arg, table_arg, bounds_label, byte_name, call_start}
+use Rattle.unit_rules.proofs.Common.{constant_expr, init_stmts, limits_label, make_global, make_memory, make_table, max_number, n64}
+use Rattle.unit_rules.proofs.Common.{place_expr, set_pointer, signature, start_stmts, take_stmts, takes_from, test_bounds, test_data}
+use Rattle.unit_rules.proofs.Common.{test_elements, test_max, test_min, tests_bounds, tests_limits, trap_if, write_data, write_element}
+use Rattle.unit_rules.proofs.Common.{write_elements, IsAccepted}
 use Rattle.w2c_base.specs.declared.trap.TrapKind.TheVariants as trap
 use Rattle.c_tree.specs.Tree as tree
 use Rattle.c_tree.specs.Makers as makers
@@ -20,6 +20,11 @@ use Rattle.body_rules.proofs.FormedCode.{Fits, signature_below}
 use Rattle.c_unit.proofs.BodiesAt.{few_params}
 use Rattle.c_init.proofs.Small.{all_images}
 use Rattle.c_unit.proofs.AcceptedLimits.{accepted_limits}
+use Rattle.std.proofs.Common.{inl, inr, sym, ◌∙◌}
+use Rattle.w2c_base.proofs.OfEach.{always}
+use Rattle.c_init.proofs.PartsOf.{Kind, parts_are}
+use Rattle.c_init.specs.Init.{Element, Part, begun, call_part, elements_in, ended, part_end, part_stmts, parts_of, stmts_with, whole_stmts}
+use Rattle.c_init.specs.Init.{write_one}
 
 abbrev FitsHere : tree.Stmt → Type 0
 FitsHere stmt = FitsStmt depth_limit stmt
@@ -265,8 +270,9 @@ module _ (m : NamedModule) (a : IsAccepted m) where
   trap_fits false n kind = tt
   trap_fits true n kind = (tt, ((tt, (code_fits kind, tt)), tt))
 
-  pub init_fits : Fits (init_stmts m)
-  init_fits = (
+  -- the beginning, and the end
+  begun_fits : (rest : List tree.Stmt) → Fits rest → Fits (begun m rest)
+  begun_fits rest fits = (
     tt,
     all_append FitsHere (takes_from m 0 (filter (λ i. not (is_func_import i)) t.imports)) _
         (takes_fit 0 (filter (λ i. not (is_func_import i)) t.imports) (kept TakesLimits (λ i. not (is_func_import i)) t.imports
@@ -276,19 +282,85 @@ module _ (m : NamedModule) (a : IsAccepted m) where
         (all_append FitsHere (map (λ x. make_table x.limits) t.tables) _
         (tables_fit t.tables (all_behind AreLimits (flat_map table_of_import t.imports)
         (map (λ (x : LimitsEntry). x.limits) t.tables) tables_limits))
-        (all_append FitsHere (map (λ x. make_memory x.limits) t.memories) _
+        (all_append FitsHere (map (λ x. make_memory x.limits) t.memories) rest
         (memories_fit t.memories (all_behind AreLimits (flat_map memory_of_import t.imports)
         (map (λ (x : LimitsEntry). x.limits) t.memories) memories_limits))
-        (all_append FitsHere (map (make_global t) (numbered t.globals)) _
-        (all_images FitsHere (make_global t) (numbered t.globals) (λ g. constant_fits 99 g.1.code))
-        (all_append FitsHere (flat_map (test_elements t) t.elements) _ (element_tests_fit t.elements (accepted_limits a).elements)
-        (all_append FitsHere (flat_map (test_data t) t.segments) _ (data_tests_fit t.segments (accepted_limits a).bytes)
-        (all_append FitsHere (flat_map (write_elements t) t.elements) _ (elements_fit t.elements (accepted_limits a).elements)
-        (all_append FitsHere (flat_map (write_data t) (numbered t.segments)) _ (all_data_fit 0 t.segments (accepted_limits a).bytes)
-        (all_append FitsHere (start_stmts m t.start) _ (start_fits t.start) (
-          tt,
-          all_append FitsHere (trap_if (tests_limits t) limits_label (makers.trap trap.ImportLimits)) _
-              (trap_fits (tests_limits t) limits_label trap.ImportLimits)
-              (trap_fits (tests_bounds t) bounds_label trap.SegmentOut),
-        ))))))))),
+        fits)),
   )
+
+  ended_fits : (bounds : Bool) → Fits (ended m bounds)
+  ended_fits bounds = all_append FitsHere (start_stmts m t.start) _ (start_fits t.start) (
+    tt,
+    all_append FitsHere (trap_if (tests_limits t) limits_label (makers.trap trap.ImportLimits)) _
+        (trap_fits (tests_limits t) limits_label trap.ImportLimits)
+        (trap_fits bounds bounds_label trap.SegmentOut),
+  )
+
+  whole_fits : Fits (whole_stmts m)
+  whole_fits =
+      begun_fits _
+      (all_append FitsHere (map (make_global t) (numbered t.globals)) _
+      (all_images FitsHere (make_global t) (numbered t.globals) (λ g. constant_fits 99 g.1.code))
+      (all_append FitsHere (flat_map (test_elements t) t.elements) _ (element_tests_fit t.elements (accepted_limits a).elements)
+      (all_append FitsHere (flat_map (test_data t) t.segments) _ (data_tests_fit t.segments (accepted_limits a).bytes)
+      (all_append FitsHere (flat_map (write_elements t) t.elements) _ (elements_fit t.elements (accepted_limits a).elements)
+      (all_append FitsHere (flat_map (write_data t) (numbered t.segments)) _ (all_data_fit 0 t.segments (accepted_limits a).bytes)
+      (ended_fits (tests_bounds t)))))))
+
+  pub init_fits : Fits (init_stmts m)
+  init_fits = by (length (parts_of t))
+    where
+      by : (parts : ℕ) → Fits (stmts_with m parts)
+      by zero = whole_fits
+      by (suc parts) = begun_fits _
+          (all_append FitsHere (map call_part (range_with_len 0 (suc parts))) _
+          (all_images FitsHere call_part (range_with_len 0 (suc parts)) (λ k. (tt, tt)))
+          (ended_fits false))
+
+  -- ---- parts
+
+  write_fits : (x : Element) → x.1.0 < 2 ^ 32 → FitsHere (write_one t x)
+  write_fits x small = (
+    tt,
+    (table_fits 99, (place_fits 97 x.0.offset (n64 x.1.0) (omega (arith, small)), (tt, (signature_fits x.1.1.index, tt)))),
+  )
+
+  -- an element whose number is one of 32 bits
+  abbrev IsSmall : Element → Type 0
+  IsSmall x = x.1.0 < 2 ^ 32
+
+  funcs_small : (e : ElementEntry) (k : ℕ) (fs : List FuncRef) → k + length fs < 2 ^ 32
+      → AllByRecursion IsSmall (map (λ f. (e, f)) (zip (range_with_len k (length fs)) fs))
+  funcs_small e k [] few = tt
+  funcs_small e k (f ∷ fs) few = (omega (arith, few), funcs_small e (k + 1) fs (omega (arith, few)))
+
+  all_small : (es : List ElementEntry) → AllByRecursion (λ (e : ElementEntry). length e.funcs < 2 ^ 32) es
+      → AllByRecursion IsSmall (flat_map elements_in es)
+  all_small [] h = tt
+  all_small (e ∷ es) h = all_append IsSmall (elements_in e) (flat_map elements_in es) (funcs_small e 0 e.funcs (omega (arith, h.0)))
+      (all_small es h.1)
+
+  images_fit : {A : Type 0} (P : A → Type 0) (f : A → tree.Stmt) → ((x : A) → P x → FitsHere (f x)) → (xs : List A)
+      → AllByRecursion P xs → Fits (map f xs)
+  images_fit P f g [] h = tt
+  images_fit P f g (x ∷ xs) h = (g x h.0, images_fit P f g xs h.1)
+
+  abbrev IsShort : SegmentEntry → Type 0
+  IsShort d = length d.bytes < 2 ^ 32
+
+  kind_fits : (x : Part) → Kind t (λ g. Unit {0}) (λ (e : ElementEntry). length e.funcs < 2 ^ 32) IsShort IsSmall x → Fits x.stmts
+  kind_fits x (inl h) = subst (λ y. Fits y.stmts) (sym h.is)
+      (all_images FitsHere (make_global t) h.entries (λ g. constant_fits 99 g.1.code))
+  kind_fits x (inr (inl h)) = subst (λ y. Fits y.stmts) (sym h.is) (element_tests_fit h.entries h.all)
+  kind_fits x (inr (inr (inl h))) = subst (λ y. Fits y.stmts) (sym h.is) (data_tests_fit h.entries h.all)
+  kind_fits x (inr (inr (inr (inl h)))) = subst (λ y. Fits y.stmts) (sym h.is) (images_fit IsSmall (write_one t) write_fits h.entries h.all)
+  kind_fits x (inr (inr (inr (inr h)))) =
+      subst (λ stmts. Fits stmts)
+      (sym (ap (λ (y : Part). y.stmts) h.is ∙ ap (flat_map (write_data t)) h.segments.is))
+      (all_data_fit h.segments.number h.segments.segments h.segments.all)
+
+  pub parts_fit : AllByRecursion (λ x. Fits (part_stmts x)) (parts_of t)
+  parts_fit = all_weaker _ (λ x. Fits (part_stmts x)) (parts_of t)
+      (λ x h. all_append FitsHere x.stmts (part_end x) (kind_fits x h) (tt, trap_fits x.tests bounds_label trap.SegmentOut))
+      (parts_are t (λ g. Unit {0}) (λ (e : ElementEntry). length e.funcs < 2 ^ 32) IsShort IsSmall (always (numbered t.globals))
+      (accepted_limits a).elements (accepted_limits a).bytes (all_small t.elements (accepted_limits a).elements))

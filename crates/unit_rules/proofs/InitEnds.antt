@@ -1,6 +1,9 @@
--- The init function ends by a return or by a trap.
+-- The init function ends by a return or by a trap, and so do its parts.
 use Rattle.unit_rules.proofs.Common.{◌≡◌, Bool, true, false, not, List, [], ◌∷◌, ◌++◌, map, filter, flat_map, refl, numbered}
 use Rattle.unit_rules.proofs.Common.{is_func_import, NamedModule, ends_well, bounds_label, init_stmts, limits_label, make_global}
+use Rattle.std.proofs.Common.{ℕ, zero, suc, length}
+use Rattle.std.specs.List.{range_with_len}
+use Rattle.c_init.specs.Init.{Part, call_part, calling_stmts, part_stmts, parts_of, stmts_with, whole_stmts}
 use Rattle.unit_rules.proofs.Common.{make_memory, make_table, start_stmts, takes_from, test_data, test_elements, tests_bounds, tests_limits}
 use Rattle.unit_rules.proofs.Common.{trap_if, write_data, write_elements}
 use Rattle.w2c_base.specs.declared.trap.TrapKind.TheVariants as trap
@@ -29,8 +32,8 @@ traps_end true false = refl
 traps_end false true = refl
 traps_end false false = refl
 
-pub init_ends : (m : NamedModule) → ends_well (init_stmts m) ≡ true
-init_ends m = whole (init_stmts m)
+whole_ends : (m : NamedModule) → ends_well (whole_stmts m) ≡ true
+whole_ends m = whole (whole_stmts m)
     (behind (tree.Null ∷ []) _
     (behind (takes_from m 0 (filter (λ i. not (is_func_import i)) m.tree.imports)) _
     (behind (map (λ t. make_table t.limits) m.tree.tables) _
@@ -41,3 +44,22 @@ init_ends m = whole (init_stmts m)
     (behind (flat_map (write_elements m.tree) m.tree.elements) _
     (behind (flat_map (write_data m.tree) (numbered m.tree.segments)) _
     (behind (start_stmts m m.tree.start) _ (traps_end (tests_limits m.tree) (tests_bounds m.tree))))))))))))
+
+calling_ends : (m : NamedModule) (parts : ℕ) → ends_well (calling_stmts m parts) ≡ true
+calling_ends m parts = whole (calling_stmts m parts)
+    (behind (tree.Null ∷ []) _
+    (behind (takes_from m 0 (filter (λ i. not (is_func_import i)) m.tree.imports)) _
+    (behind (map (λ t. make_table t.limits) m.tree.tables) _
+    (behind (map (λ t. make_memory t.limits) m.tree.memories) _
+    (behind (map call_part (range_with_len 0 parts)) _
+    (behind (start_stmts m m.tree.start) _ (traps_end (tests_limits m.tree) false)))))))
+
+pub init_ends : (m : NamedModule) → ends_well (init_stmts m) ≡ true
+init_ends m = by (length (parts_of m.tree))
+  where
+    by : (parts : ℕ) → ends_well (stmts_with m parts) ≡ true
+    by zero = whole_ends m
+    by (suc parts) = calling_ends m (suc parts)
+
+pub part_ends : (x : Part) → ends_well (part_stmts x) ≡ true
+part_ends x = whole (part_stmts x) (behind x.stmts _ (traps_end false x.tests))

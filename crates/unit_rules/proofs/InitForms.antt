@@ -19,9 +19,9 @@ use Rattle.unit_rules.proofs.Common.{array_of, arrays, functions, is_among, is_o
 use Rattle.unit_rules.proofs.Common.{global_name, memory_name, table_name, accessor_type, c_func_type, global_imports, import_symbol}
 use Rattle.unit_rules.proofs.Common.{import_type, is_usable, memory_imports, pointer_type, table_imports, get_front, IsArg, IsTyped, Passes}
 use Rattle.unit_rules.proofs.Common.{call_passes, call_passes_as, if_passes, n32_typed, n64_typed, name_typed, null_passes, op_typed}
-use Rattle.unit_rules.proofs.Common.{set_passes, star_typed, value_arg, wide_typed, Present, no_object, label_name, pointer_name, callee}
+use Rattle.unit_rules.proofs.Common.{set_passes, star_typed, value_arg, wide_typed, no_object, label_name, pointer_name, callee}
 use Rattle.unit_rules.proofs.Common.{function_name, global_value, memory_arg, table_arg, byte_name, constant_expr, has_bytes, has_test}
-use Rattle.unit_rules.proofs.Common.{init_stmts, limits_label, make_global, make_memory, make_table, max_number, n32, n64, place_expr}
+use Rattle.unit_rules.proofs.Common.{limits_label, make_global, make_memory, make_table, max_number, n32, n64, place_expr}
 use Rattle.unit_rules.proofs.Common.{set_pointer, size_name, take_stmts, takes_from, test_max, test_min, tests_bounds, tests_limits}
 use Rattle.unit_rules.proofs.Common.{data_of, pointer_points}
 use Rattle.c_init.specs.Init.{primitive}
@@ -54,7 +54,6 @@ pub record InitKnows (m : NamedModule) (s : Scope) : Type 0 where
   pub size : tests_limits m.tree || tests_bounds m.tree ≡ true → named size_name (variables s) ≡ Some type.U64
   pub byte : list_any has_bytes m.tree.segments ≡ true → named byte_name (variables s) ≡ Some type.U64
   pub bytes : AllByRecursion (λ n. is_among n (arrays s) ≡ true) (filter_map array_of (data_of m.tree))
-  pub present : Present s.body.stmts (init_stmts m)
   pub returns : is_void s.func.result ≡ true
 
 module _ (m : NamedModule) (s : Scope) (k : InitKnows m s) where

@@ -1,5 +1,5 @@
--- The statements of the init function keep the rules in their unit: what they name is declared before them, or is a
--- local variable where it is used.
+-- The statements of the init function, and of its parts, keep the rules in their unit: what they name is declared before
+-- them, or is a local variable where it is used.
 use Rattle.unit_rules.proofs.Common.{all_at, all_from, slice_get_within, ◌<◌, ◌≡◌, ℕ, zero, suc, ◌+◌, ◌-◌, ◌≤◌, Bool, true, false, not}
 use Rattle.unit_rules.proofs.Common.{◌||◌, List, [], ◌∷◌, ◌++◌, map, length, is_some, is_none, if◌then◌else◌, slice_get, Some, None, codes}
 use Rattle.unit_rules.proofs.Common.{filter, Option, flat_map, filter_map, bytes_eq, sym, refl, ap, ◌∙◌, subst, append_assoc, arith}
@@ -30,7 +30,21 @@ use Rattle.c_unit.proofs.Instantiable.{modules_are_instantiable}
 use Rattle.c_init.specs.Instantiable.{ElementIsValid, DataIsValid, IsInstantiable}
 use Rattle.c_init.proofs.NoFaults.{used_by_elements, used_by_segments, rows_of}
 use Rattle.c_unit.proofs.SectionLists.{before_declarations, before_exports, before_functions, before_helpers, before_prototypes}
-use Rattle.c_unit.proofs.SectionLists.{declarations, exports, functions_of, helpers, init, objects, prototypes}
+use Rattle.c_unit.proofs.SectionLists.{declarations, exports, functions_of, helpers, init, objects, parts, prototypes}
+use Rattle.c_unit.proofs.KnownNames.{past_funcs}
+use Rattle.c_unit.proofs.Sections.{exports_class, parts_class}
+use Rattle.c_tree.specs.DefinedNames.{part_name}
+use Rattle.c_tree.proofs.NameClasses.{classes_differ, part_names}
+use Rattle.c_init.specs.Init.{Part, begun, call_part, calling_stmts, ended, own_func, own_locals, part_func, parts_of, stmts_with}
+use Rattle.c_init.specs.Init.{whole_stmts}
+use Rattle.c_init.proofs.FewParts.{few_parts}
+use Rattle.std.proofs.Common.{zip, inl, inr, ◌^◌, ◌≢◌}
+use Rattle.std.specs.List.{range_with_len}
+use Rattle.w2c_base.proofs.Numbers.{same_or_more}
+use Rattle.w2c_mangle.specs.Symbols.{init_symbol_of}
+use Rattle.unit_rules.proofs.Common.{call_passes_as}
+use Rattle.unit_rules.proofs.PlainItems.{NoClass, other_class}
+use Rattle.unit_rules.proofs.BeforeSections.{none_before_exports}
 use Rattle.unit_rules.proofs.KnownFuncs.{symbol_named, firsts_have}
 use Rattle.unit_rules.proofs.NeedsDeclared.{NoRuntime, other_classes, not_named, past_objects, past_data}
 use Rattle.unit_rules.proofs.ExportFacts.{func_typed}
@@ -47,7 +61,7 @@ use Rattle.unit_rules.proofs.BeforeSections.{no_runtime_before_helpers}
 
 -- ---- lists
 
-each_any : {A : Type 0} (test : A → Bool) (xs : List A) → AllByRecursion (λ x. test x ≡ true → list_any test xs ≡ true) xs
+pub each_any : {A : Type 0} (test : A → Bool) (xs : List A) → AllByRecursion (λ x. test x ≡ true → list_any test xs ≡ true) xs
 each_any test [] = tt
 each_any test (x ∷ xs) = (
   (λ e. or_left (test x) (list_any test xs) e),
@@ -77,7 +91,7 @@ each_among f (x ∷ xs) = (
       (λ y. is_among (f y) (map f (x ∷ xs)) ≡ true) xs (λ y e. or_right (bytes_eq (f y) (f x)) _ e) (each_among f xs),
 )
 
-get_out : {A : Type 0} (xs : List A) (k : ℕ) → length xs ≤ k → is_some (slice_get xs k) ≡ false
+pub get_out : {A : Type 0} (xs : List A) (k : ℕ) → length xs ≤ k → is_some (slice_get xs k) ≡ false
 get_out [] k le = refl
 get_out (x ∷ xs) zero le = absurd (omega (arith, le))
 get_out (x ∷ xs) (suc k) le = get_out xs k (omega (arith, le))
@@ -127,27 +141,32 @@ past_locals true false q rest e f = rw e refl
 past_locals false true q rest e f = rw f refl
 past_locals false false q rest e f = refl
 
--- ---- the scope of the init function
+-- ---- the scope of a function that has the init function's variables, behind all exports
 
-module _ (m : NamedModule) (a : IsAccepted m) where
+abbrev pub own_scope : List tree.Item → Bool → Name → Module → List tree.Stmt → Scope
+own_scope declared static name m stmts =
+    record { declared = declared; func = own_func static name m stmts; body = record { locals = own_locals m; stmts = stmts } }
+
+module _ (m : NamedModule) (a : IsAccepted m) (more : List tree.Item) (none : NoRuntime more) (static : Bool) (own_name : Name)
+    (stmts : List tree.Stmt) where
   abbrev t : Module
   t = m.tree
-
-  abbrev s : Scope
-  s = init_scope m a
 
   abbrev front : List tree.Item
   front = before_exports m
 
   abbrev declared : List tree.Item
-  declared = (front ++ exports m) ++ init m
+  declared = (front ++ exports m) ++ more
+
+  abbrev s : Scope
+  s = own_scope declared static own_name t stmts
 
   sees : Sees m declared
-  sees = sees_more m a (front ++ exports m) (init m) (sees_more m a front (exports m) (front_sees m a))
+  sees = sees_more m a (front ++ exports m) more (sees_more m a front (exports m) (front_sees m a))
 
   no_runtime : NoRuntime declared
   no_runtime =
-      all_append (λ o. is_runtime_name (name_of o) ≡ false) (front ++ exports m) (init m)
+      all_append (λ o. is_runtime_name (name_of o) ≡ false) (front ++ exports m) more
       (all_append (λ o. is_runtime_name (name_of o) ≡ false) front (exports m)
       (all_append (λ o. is_runtime_name (name_of o) ≡ false) (before_functions m) (functions_of m)
       (all_append (λ o. is_runtime_name (name_of o) ≡ false) (before_helpers m) (helpers m) (no_runtime_before_helpers m a)
@@ -156,7 +175,7 @@ module _ (m : NamedModule) (a : IsAccepted m) where
       (all_images (λ o. is_runtime_name (name_of o) ≡ false) (λ e. tree.Function (export_func m e)) t.exports
       (λ e. ap is_runtime_name (export_name m e) ∙ of_export (λ n. is_runtime_name n ≡ false) m
       (λ k n. ap is_runtime_name (export_symbol_of-parts m.name k n)) e)))
-      (ap is_runtime_name (init_symbol_of-parts m.name), tt)
+      none
 
   runtime_known : (q : Name) → is_runtime_name q ≡ true → named q (functions s) ≡ named q primitives
   runtime_known q r = past_none q (funcs_in declared) primitives (not_named q declared r no_runtime).0
@@ -227,7 +246,7 @@ module _ (m : NamedModule) (a : IsAccepted m) where
           let first = subst (λ items. named q (funcs_in items) ≡ Some (type_declared q))
           (sym (append_assoc (objects m) (data_of t) (declarations m))) whole in
           let ty : tree.FuncType = type_declared q in
-          ap is_some (in_funcs q (front ++ exports m) (init m) ty
+          ap is_some (in_funcs q (front ++ exports m) more ty
           (in_funcs q front (exports m) ty (in_funcs q (before_functions m) (functions_of m) ty
           (in_funcs q (before_helpers m) (helpers m) ty
           (in_funcs q (before_prototypes m) (prototypes m) ty first)))))
@@ -235,13 +254,13 @@ module _ (m : NamedModule) (a : IsAccepted m) where
   arrays_known : AllByRecursion (λ n. is_among n (names_in declared) ≡ true) (names_in (data_of t))
   arrays_known =
       let ns : List Name = names_in (data_of t) in
-      more_arrays (front ++ exports m) (init m) ns (more_arrays front (exports m) ns
+      more_arrays (front ++ exports m) more ns (more_arrays front (exports m) ns
       (more_arrays (before_functions m) (functions_of m) ns
       (more_arrays (before_helpers m) (helpers m) ns
       (more_arrays (before_prototypes m) (prototypes m) ns
       (more_arrays (before_declarations m) (declarations m) ns (behind_arrays (objects m) (data_of t) ns (self_among ns)))))))
 
-  knows : InitKnows m s
+  pub knows : InitKnows m s
   knows = record {
     own_globals = λ k g e i. in_scope (global_name k) _ refl refl (own_global m a k g e i);
     pointed = λ k g e i. in_scope (pointer_name (global_name k)) _ refl refl (imported_global_is m a k g e i);
@@ -266,7 +285,6 @@ module _ (m : NamedModule) (a : IsAccepted m) where
     size = λ e. size_named (tests_limits t || tests_bounds t) (list_any has_bytes t.segments) _ e;
     byte = λ e. byte_named (tests_limits t || tests_bounds t) (list_any has_bytes t.segments) _ e;
     bytes = arrays_known;
-    present = λ name e. e;
     returns = refl;
   }
     where
@@ -279,133 +297,262 @@ module _ (m : NamedModule) (a : IsAccepted m) where
           let found = some_there (named n (funcs_in declared)) e in
           function_arg s n (ap is_some (named_in n (funcs_in declared) primitives found.0 found.1)) e
 
-  -- ---- all of its statements
+-- ---- what is known of entries
 
-  instantiable : IsInstantiable t
-  instantiable = modules_are_instantiable t a.valid (accepted_limits a)
+module _ (m : NamedModule) (a : IsAccepted m) where
+  pub instantiable : IsInstantiable m.tree
+  instantiable = modules_are_instantiable m.tree a.valid (accepted_limits a)
 
-  valid_elements : AllByRecursion (ElementIs t) t.elements
-  valid_elements = all_from (ElementIs t) t.elements (λ i e at.
-      let is : ElementIsValid t e = all_at (ElementIsValid t) t.elements i e instantiable.elements at in
+  pub valid_elements : AllByRecursion (ElementIs m.tree) m.tree.elements
+  valid_elements = all_from (ElementIs m.tree) m.tree.elements (λ i e at.
+      let is : ElementIsValid m.tree e = all_at (ElementIsValid m.tree) m.tree.elements i e instantiable.elements at in
       record {
         fits = is.offset;
         has = is.there;
-        funcs = all_weaker (λ (f : FuncRef). f.index < length (func_space t))
-            (λ (f : FuncRef). is_none (slice_get (func_space t) f.index) ≡ false) e.funcs
-            (λ f less. ap is_none (get_within (func_space t) f.index less).1) is.funcs;
-        tested = used_by_elements t t.elements (omega (arith, slice_get_within t.elements i e at));
+        funcs = all_weaker (λ (f : FuncRef). f.index < length (func_space m.tree))
+            (λ (f : FuncRef). is_none (slice_get (func_space m.tree) f.index) ≡ false) e.funcs
+            (λ f less. ap is_none (get_within (func_space m.tree) f.index less).1) is.funcs;
+        tested = used_by_elements m.tree m.tree.elements (omega (arith, slice_get_within m.tree.elements i e at));
       })
 
-  valid_segments : AllByRecursion (SegmentIs t) t.segments
-  valid_segments = all_from (SegmentIs t) t.segments (λ i d at.
-      let is : DataIsValid t d = all_at (DataIsValid t) t.segments i d instantiable.segments at in
+  pub valid_segments : AllByRecursion (SegmentIs m.tree) m.tree.segments
+  valid_segments = all_from (SegmentIs m.tree) m.tree.segments (λ i d at.
+      let is : DataIsValid m.tree d = all_at (DataIsValid m.tree) m.tree.segments i d instantiable.segments at in
       record {
         fits = is.offset;
         has = is.there;
-        listed = all_at (λ d. has_bytes d ≡ true → list_any has_bytes t.segments ≡ true) t.segments i d (each_any has_bytes t.segments) at;
-        tested = used_by_segments t t.segments (omega (arith, slice_get_within t.segments i d at));
+        listed = all_at (λ d. has_bytes d ≡ true → list_any has_bytes m.tree.segments ≡ true) m.tree.segments i d
+            (each_any has_bytes m.tree.segments) at;
+        tested = used_by_segments m.tree m.tree.segments (omega (arith, slice_get_within m.tree.segments i d at));
       })
 
-  globals_at : (j : ℕ) (g : GlobalEntry) → slice_get t.globals j ≡ Some g
-      → slice_get (global_space t) (imported_globals t + (0 + j)) ≡ Some (g.ty, g.mutable)
+  pub globals_at : (j : ℕ) (g : GlobalEntry) → slice_get m.tree.globals j ≡ Some g
+      → slice_get (global_space m.tree) (imported_globals m.tree + (0 + j)) ≡ Some (g.ty, g.mutable)
   globals_at j g e =
-      let counted = global_count t.imports in
-      let back : imported_globals t + (0 + j) - length (imported_global_space t) ≡ j = omega (arith, counted) in
-      get_late (imported_global_space t) (map (λ (g : GlobalEntry). (g.ty, g.mutable)) t.globals) (imported_globals t + (0 + j))
-      (omega (arith, counted))
-      ∙ (ap (slice_get (map (λ (g : GlobalEntry). (g.ty, g.mutable)) t.globals)) back
-      ∙ get_mapped (λ (g : GlobalEntry). (g.ty, g.mutable)) t.globals j g e)
+      let counted = global_count m.tree.imports in
+      let back : imported_globals m.tree + (0 + j) - length (imported_global_space m.tree) ≡ j = omega (arith, counted) in
+      get_late (imported_global_space m.tree) (map (λ (g : GlobalEntry). (g.ty, g.mutable)) m.tree.globals)
+      (imported_globals m.tree + (0 + j)) (omega (arith, counted))
+      ∙ (ap (slice_get (map (λ (g : GlobalEntry). (g.ty, g.mutable)) m.tree.globals)) back
+      ∙ get_mapped (λ (g : GlobalEntry). (g.ty, g.mutable)) m.tree.globals j g e)
+
+-- ---- all statements of an init function without parts, and of one that calls parts
+
+module _ (m : NamedModule) (a : IsAccepted m) (more : List tree.Item) (none : NoRuntime more) (static : Bool) (own_name : Name) where
+  abbrev t' : Module
+  t' = m.tree
+
+  -- a scope for these statements, and what it knows
+  abbrev pub scope_of : List tree.Stmt → Scope
+  scope_of stmts = own_scope ((before_exports m ++ exports m) ++ more) static own_name t' stmts
+
+  known : (stmts : List tree.Stmt) → InitKnows m (scope_of stmts)
+  known stmts = knows m a more none static own_name stmts
 
   abbrev own_takes : List tree.Stmt
-  own_takes = takes_from m 0 (filter (λ i. not (is_func_import i)) t.imports)
+  own_takes = takes_from m 0 (filter (λ i. not (is_func_import i)) t'.imports)
 
-  abbrev ending : List tree.Stmt
-  ending = trap_if (tests_limits t) limits_label (makers.trap trap.ImportLimits) ++ trap_if (tests_bounds t) bounds_label
+  trap_present : (stmts : List tree.Stmt) (b : Bool) (n : ℕ) (trap : tree.Stmt) → b ≡ true → Present stmts (trap_if b n trap)
+      → is_among (label_name n) (labels_of stmts) ≡ true
+  trap_present stmts true n trap e p = first_present stmts (label_name n) (trap ∷ []) p
+  trap_present stmts false n trap e p = absurd cc
+
+  -- the end, where it stands
+  abbrev traps : Bool → List tree.Stmt
+  traps bounds = trap_if (tests_limits t') limits_label (makers.trap trap.ImportLimits) ++ trap_if bounds bounds_label
       (makers.trap trap.SegmentOut)
 
+  traps_present : (stmts : List tree.Stmt) (bounds : Bool) → Present stmts (ended m bounds) → Present stmts (traps bounds)
+  traps_present stmts bounds p =
+      right_present stmts (tree.ReturnNone ∷ []) (traps bounds)
+      (right_present stmts (start_stmts m t'.start) (tree.ReturnNone ∷ [] ++ traps bounds) p)
+
+  limits_there : (stmts : List tree.Stmt) (bounds : Bool) → Present stmts (ended m bounds) → tests_limits t' ≡ true
+      → is_among (label_name limits_label) (labels_of stmts) ≡ true
+  limits_there stmts bounds p e = trap_present stmts (tests_limits t') limits_label (makers.trap trap.ImportLimits) e
+      (left_present stmts (trap_if (tests_limits t') limits_label (makers.trap trap.ImportLimits))
+      (trap_if bounds bounds_label (makers.trap trap.SegmentOut)) (traps_present stmts bounds p))
+
+  bounds_there : (stmts : List tree.Stmt) (bounds : Bool) → Present stmts (ended m bounds) → bounds ≡ true
+      → is_among (label_name bounds_label) (labels_of stmts) ≡ true
+  bounds_there stmts bounds p e = trap_present stmts bounds bounds_label (makers.trap trap.SegmentOut) e
+      (right_present stmts (trap_if (tests_limits t') limits_label (makers.trap trap.ImportLimits))
+      (trap_if bounds bounds_label (makers.trap trap.SegmentOut)) (traps_present stmts bounds p))
+
+  -- the beginning, before others
+  begun_passes : (stmts rest : List tree.Stmt)
+      → (tests_limits t' ≡ true → is_among (label_name limits_label) (labels_of stmts) ≡ true)
+      → AllByRecursion (Passes (scope_of stmts)) rest → AllByRecursion (Passes (scope_of stmts)) (begun m rest)
+  begun_passes stmts rest label others =
+      let s : Scope = scope_of stmts in
+      let k : InitKnows m s = known stmts in (
+        null_passes s,
+        all_append (Passes s) own_takes _
+            (takes_pass m s k t'.imports 0 label (each_among import_symbol t'.imports) (each_any has_test t'.imports)
+            (each_first is_memory_import t'.imports) (each_first is_table_import t'.imports)
+            (λ j i e. ap (slice_get (global_imports t')) (zero-add j) ∙ e))
+            (all_append (Passes s) (map (λ x. make_table x.limits) t'.tables) _ (tables_pass m s k t'.tables k.made_table)
+            (all_append (Passes s) (map (λ x. make_memory x.limits) t'.memories) rest (memories_pass m s k t'.memories k.made_memory)
+            others)),
+      )
+
+  -- the end
+  ended_passes : (stmts : List tree.Stmt) (bounds : Bool) → AllByRecursion (Passes (scope_of stmts)) (ended m bounds)
+  ended_passes stmts bounds =
+      let s : Scope = scope_of stmts in
+      let k : InitKnows m s = known stmts in
+      all_append (Passes s) (start_stmts m t'.start) _
+      (start_passes m s k a.valid.no_faults t'.start (rows_of t' a.valid.no_faults).start) (
+        return_none_passes s refl,
+        all_append (Passes s) (trap_if (tests_limits t') limits_label (makers.trap trap.ImportLimits)) _
+            (trap_passes m s k (tests_limits t') limits_label trap.ImportLimits)
+            (trap_passes m s k bounds bounds_label trap.SegmentOut),
+      )
+
+  -- ---- without parts
+
+  abbrev whole : List tree.Stmt
+  whole = whole_stmts m
+
   abbrev behind_data : List tree.Stmt
-  behind_data = start_stmts m t.start ++ (tree.ReturnNone ∷ [] ++ ending)
+  behind_data = ended m (tests_bounds t')
 
   abbrev from_data : List tree.Stmt
-  from_data = flat_map (write_data t) (numbered t.segments) ++ behind_data
+  from_data = flat_map (write_data t') (numbered t'.segments) ++ behind_data
 
   abbrev from_tables : List tree.Stmt
   from_tables =
-      map (λ x. make_table x.limits) t.tables
-      ++ (map (λ x. make_memory x.limits) t.memories
-      ++ (map (make_global t) (numbered t.globals)
-      ++ (flat_map (test_elements t) t.elements
-      ++ (flat_map (test_data t) t.segments
-      ++ (flat_map (write_elements t) t.elements
+      map (λ x. make_table x.limits) t'.tables
+      ++ (map (λ x. make_memory x.limits) t'.memories
+      ++ (map (make_global t') (numbered t'.globals)
+      ++ (flat_map (test_elements t') t'.elements
+      ++ (flat_map (test_data t') t'.segments
+      ++ (flat_map (write_elements t') t'.elements
       ++ from_data)))))
 
-  data_present : Present s.body.stmts from_data
+  data_present : Present whole from_data
   data_present =
-      right_present s.body.stmts (flat_map (write_elements t) t.elements) from_data
-      (right_present s.body.stmts (flat_map (test_data t) t.segments) (flat_map (write_elements t) t.elements ++ from_data)
-      (right_present s.body.stmts (flat_map (test_elements t) t.elements)
-      (flat_map (test_data t) t.segments ++ (flat_map (write_elements t) t.elements ++ from_data))
-      (right_present s.body.stmts (map (make_global t) (numbered t.globals))
-      (flat_map (test_elements t) t.elements ++ (flat_map (test_data t) t.segments ++
-      (flat_map (write_elements t) t.elements ++ from_data)))
-      (right_present s.body.stmts (map (λ x. make_memory x.limits) t.memories)
-      (map (make_global t) (numbered t.globals) ++
-      (flat_map (test_elements t) t.elements ++ (flat_map (test_data t) t.segments ++
-      (flat_map (write_elements t) t.elements ++ from_data))))
-      (right_present s.body.stmts (map (λ x. make_table x.limits) t.tables)
-      (map (λ x. make_memory x.limits) t.memories ++
-      (map (make_global t) (numbered t.globals) ++
-      (flat_map (test_elements t) t.elements ++ (flat_map (test_data t) t.segments ++
-      (flat_map (write_elements t) t.elements ++ from_data)))))
-      (right_present s.body.stmts own_takes from_tables
-      (right_present s.body.stmts (tree.Null ∷ []) (own_takes ++ from_tables) (λ name e. e))))))))
+      right_present whole (flat_map (write_elements t') t'.elements) from_data
+      (right_present whole (flat_map (test_data t') t'.segments) (flat_map (write_elements t') t'.elements ++ from_data)
+      (right_present whole (flat_map (test_elements t') t'.elements)
+      (flat_map (test_data t') t'.segments ++ (flat_map (write_elements t') t'.elements ++ from_data))
+      (right_present whole (map (make_global t') (numbered t'.globals))
+      (flat_map (test_elements t') t'.elements ++ (flat_map (test_data t') t'.segments ++
+      (flat_map (write_elements t') t'.elements ++ from_data)))
+      (right_present whole (map (λ x. make_memory x.limits) t'.memories)
+      (map (make_global t') (numbered t'.globals) ++
+      (flat_map (test_elements t') t'.elements ++ (flat_map (test_data t') t'.segments ++
+      (flat_map (write_elements t') t'.elements ++ from_data))))
+      (right_present whole (map (λ x. make_table x.limits) t'.tables)
+      (map (λ x. make_memory x.limits) t'.memories ++
+      (map (make_global t') (numbered t'.globals) ++
+      (flat_map (test_elements t') t'.elements ++ (flat_map (test_data t') t'.segments ++
+      (flat_map (write_elements t') t'.elements ++ from_data)))))
+      (right_present whole own_takes from_tables
+      (right_present whole (tree.Null ∷ []) (own_takes ++ from_tables) (λ name e. e))))))))
 
-  end_present : Present s.body.stmts ending
-  end_present =
-      right_present s.body.stmts (tree.ReturnNone ∷ []) ending
-      (right_present s.body.stmts (start_stmts m t.start) (tree.ReturnNone ∷ [] ++ ending)
-      (right_present s.body.stmts (flat_map (write_data t) (numbered t.segments)) behind_data data_present))
+  end_present : Present whole behind_data
+  end_present = right_present whole (flat_map (write_data t') (numbered t'.segments)) behind_data data_present
 
-  trap_present : (b : Bool) (n : ℕ) (trap : tree.Stmt) → b ≡ true → Present s.body.stmts (trap_if b n trap)
-      → is_among (label_name n) (labels_of s.body.stmts) ≡ true
-  trap_present true n trap e p = first_present s.body.stmts (label_name n) (trap ∷ []) p
-  trap_present false n trap e p = absurd cc
+  pub whole_passes : AllByRecursion (Passes (scope_of whole)) whole
+  whole_passes =
+      let s : Scope = scope_of whole in
+      let k : InitKnows m s = known whole in
+      let label = bounds_there whole (tests_bounds t') end_present in
+      begun_passes whole _ (limits_there whole (tests_bounds t') end_present)
+      (all_append (Passes s) (map (make_global t') (numbered t'.globals)) _
+      (globals_pass m s k 0 t'.globals (instantiable m a).globals (globals_at m a)
+      (λ j. get_out (global_imports t') (imported_globals t' + j) (omega arith)))
+      (all_append (Passes s) (flat_map (test_elements t') t'.elements) _
+      (element_tests_pass m s k label t'.elements (valid_elements m a))
+      (all_append (Passes s) (flat_map (test_data t') t'.segments) _
+      (data_tests_pass m s k label t'.segments (valid_segments m a))
+      (all_append (Passes s) (flat_map (write_elements t') t'.elements) _ (elements_pass m s k t'.elements (valid_elements m a))
+      (all_append (Passes s) (flat_map (write_data t') (numbered t'.segments)) behind_data
+      (data_pass m s k 0 t'.segments (valid_segments m a) k.bytes
+      (left_present whole (flat_map (write_data t') (numbered t'.segments)) behind_data data_present))
+      (ended_passes whole (tests_bounds t')))))))
 
-  limits_label_there : tests_limits t ≡ true → is_among (label_name limits_label) (labels_of s.body.stmts) ≡ true
-  limits_label_there e = trap_present (tests_limits t) limits_label (makers.trap trap.ImportLimits) e
-      (left_present s.body.stmts (trap_if (tests_limits t) limits_label (makers.trap trap.ImportLimits))
-      (trap_if (tests_bounds t) bounds_label (makers.trap trap.SegmentOut)) end_present)
+  -- ---- with parts, which are declared
 
-  bounds_label_there : tests_bounds t ≡ true → is_among (label_name bounds_label) (labels_of s.body.stmts) ≡ true
-  bounds_label_there e = trap_present (tests_bounds t) bounds_label (makers.trap trap.SegmentOut) e
-      (right_present s.body.stmts (trap_if (tests_limits t) limits_label (makers.trap trap.ImportLimits))
-      (trap_if (tests_bounds t) bounds_label (makers.trap trap.SegmentOut)) end_present)
+  abbrev pub part_type : tree.FuncType
+  part_type = record { params = type.Void ∷ []; result = type.Void }
 
-  pub init_passes : AllByRecursion (Passes s) (init_stmts m)
-  init_passes = (
-    null_passes s,
-    all_append (Passes s) own_takes from_tables
-        (takes_pass m s knows t.imports 0 limits_label_there (each_among import_symbol t.imports) (each_any has_test t.imports)
-        (each_first is_memory_import t.imports) (each_first is_table_import t.imports)
-        (λ j i e. ap (slice_get (global_imports t)) (zero-add j) ∙ e))
-        (all_append (Passes s) (map (λ x. make_table x.limits) t.tables) _ (tables_pass m s knows t.tables knows.made_table)
-        (all_append (Passes s) (map (λ x. make_memory x.limits) t.memories) _ (memories_pass m s knows t.memories knows.made_memory)
-        (all_append (Passes s) (map (make_global t) (numbered t.globals)) _
-        (globals_pass m s knows 0 t.globals instantiable.globals globals_at
-        (λ j. get_out (global_imports t) (imported_globals t + j) (omega arith)))
-        (all_append (Passes s) (flat_map (test_elements t) t.elements) _
-        (element_tests_pass m s knows bounds_label_there t.elements valid_elements)
-        (all_append (Passes s) (flat_map (test_data t) t.segments) _
-        (data_tests_pass m s knows bounds_label_there t.segments valid_segments)
-        (all_append (Passes s) (flat_map (write_elements t) t.elements) _ (elements_pass m s knows t.elements valid_elements)
-        (all_append (Passes s) (flat_map (write_data t) (numbered t.segments)) behind_data
-        (data_pass m s knows 0 t.segments valid_segments knows.bytes
-        (left_present s.body.stmts (flat_map (write_data t) (numbered t.segments)) behind_data data_present))
-        (all_append (Passes s) (start_stmts m t.start) _
-        (start_passes m s knows a.valid.no_faults t.start (rows_of t a.valid.no_faults).start) (
-          return_none_passes s refl,
-          all_append (Passes s) (trap_if (tests_limits t) limits_label (makers.trap trap.ImportLimits)) _
-              (trap_passes m s knows (tests_limits t) limits_label trap.ImportLimits)
-              (trap_passes m s knows (tests_bounds t) bounds_label trap.SegmentOut),
-        ))))))))),
+  abbrev pub PartsKnown : ℕ → Type 0
+  PartsKnown parts = (k : ℕ) → k < parts → named (part_name k) (funcs_in ((before_exports m ++ exports m) ++ more)) ≡ Some part_type
+
+  calls_pass : (stmts : List tree.Stmt) (parts k n : ℕ) → PartsKnown parts → k + n ≤ parts
+      → AllByRecursion (Passes (scope_of stmts)) (map call_part (range_with_len k n))
+  calls_pass stmts parts k zero there le = tt
+  calls_pass stmts parts k (suc n) there le = (
+    call_passes_as (scope_of stmts) None (part_name k) [] part_type []
+        (named_in (part_name k) (funcs_in ((before_exports m ++ exports m) ++ more)) primitives part_type (there k (omega (arith, le))))
+        refl tt tt,
+    calls_pass stmts parts (k + 1) n there (omega (arith, le)),
   )
+
+  pub calling_passes : (parts : ℕ) → PartsKnown parts → AllByRecursion (Passes (scope_of (calling_stmts m parts))) (calling_stmts m parts)
+  calling_passes parts there =
+      let stmts : List tree.Stmt = calling_stmts m parts in
+      let calls : List tree.Stmt = map call_part (range_with_len 0 parts) in
+      let end : List tree.Stmt = ended m false in
+      let p : Present stmts end =
+      right_present stmts calls end
+      (right_present stmts (map (λ x. make_memory x.limits) t'.memories) (calls ++ end)
+      (right_present stmts (map (λ x. make_table x.limits) t'.tables) (map (λ x. make_memory x.limits) t'.memories ++ (calls ++ end))
+      (right_present stmts own_takes
+      (map (λ x. make_table x.limits) t'.tables ++ (map (λ x. make_memory x.limits) t'.memories ++ (calls ++ end)))
+      (right_present stmts (tree.Null ∷ [])
+      (own_takes ++ (map (λ x. make_table x.limits) t'.tables ++ (map (λ x. make_memory x.limits) t'.memories ++ (calls ++ end))))
+      (λ name e. e))))) in
+      begun_passes stmts (calls ++ end) (limits_there stmts false p)
+      (all_append (Passes (scope_of stmts)) calls end (calls_pass stmts parts 0 parts there (omega arith)) (ended_passes stmts false))
+
+-- ---- the parts are declared before the init function
+
+none_of_class : (k : ℕ) (items : List tree.Item) → NoClass 10 items → named (part_name k) (funcs_in items) ≡ None
+none_of_class k [] h = refl
+none_of_class k (tree.Array name count bytes ∷ items) h = none_of_class k items h.1
+none_of_class k (tree.Var ty name number ∷ items) h = none_of_class k items h.1
+none_of_class k (tree.Function f ∷ items) h = rw (classes_differ f.name (part_name k) h.0) (none_of_class k items h.1)
+
+module _ (m : NamedModule) (a : IsAccepted m) where
+  -- the function with a number, among those from one on
+  among_parts : (j k : ℕ) (xs : List Part) (rest : List tree.Item) → j ≤ k → k < j + length xs → j + length xs ≤ 2 ^ 64
+      → named (part_name k) (funcs_in (map (λ p. tree.Function (part_func m.tree p)) (zip (range_with_len j (length xs)) xs) ++ rest))
+      ≡ Some (record { params = type.Void ∷ []; result = type.Void })
+  among_parts j k [] rest low high few = absurd (omega (arith, low, high))
+  among_parts j k (x ∷ xs) rest low high few = elim (same_or_more j k low) [
+    | inl same ↦ rw (ap (λ n. bytes_eq (part_name n) (part_name k)) same ∙ bytes_equal (part_name k)) refl
+    | inr above ↦ rw (part_names j k (omega (arith, few, above, high)) (omega (arith, few, high)) (λ e. absurd (omega (arith, e, above))))
+        (among_parts (j + 1) k xs rest above (omega (arith, high)) (omega (arith, few)))
+  ]
+
+  parts_known : (k : ℕ) → k < length (parts_of m.tree)
+      → named (part_name k) (funcs_in ((before_exports m ++ exports m) ++ (parts m ++ init m)))
+      ≡ Some (record { params = type.Void ∷ []; result = type.Void })
+  parts_known k less =
+      past_funcs (part_name k) (before_exports m ++ exports m) (parts m ++ init m)
+      (none_of_class k (before_exports m ++ exports m)
+      (all_append (λ o. class (name_of o) ≢ 10) (before_exports m) (exports m) (none_before_exports m a 10 (omega arith))
+      (other_class 6 10 (exports m) (λ e. absurd (grind (arith, e))) (exports_class m a))))
+      ∙ among_parts 0 k (parts_of m.tree) (init m) (omega arith) (omega (arith, less))
+      (let few = few_parts m.tree a.within in omega (arith, few))
+
+  last_none : NoRuntime (parts m ++ init m)
+  last_none = all_append (λ o. is_runtime_name (name_of o) ≡ false) (parts m) (init m)
+      (other_classes 10 (parts m) (λ e. absurd (grind (arith, e))) (parts_class m a))
+      (ap is_runtime_name (init_symbol_of-parts m.name), tt)
+
+  pub init_passes : AllByRecursion (Passes (init_scope m a)) (init_stmts m)
+  init_passes =
+      subst (λ d. AllByRecursion (Passes (own_scope d false (init_symbol_of m.name) m.tree (init_stmts m))) (init_stmts m))
+      (sym (append_assoc (before_exports m ++ exports m) (parts m) (init m)))
+      (by (length (parts_of m.tree)) (λ k less. parts_known k less))
+    where
+      by : (n : ℕ) → ((k : ℕ) → k < n → named (part_name k) (funcs_in ((before_exports m ++ exports m) ++ (parts m ++ init m)))
+          ≡ Some (record { params = type.Void ∷ []; result = type.Void }))
+          → AllByRecursion (Passes (own_scope ((before_exports m ++ exports m) ++ (parts m ++ init m)) false (init_symbol_of m.name) m.tree
+          (stmts_with m n))) (stmts_with m n)
+      by zero there = whole_passes m a (parts m ++ init m) last_none false (init_symbol_of m.name)
+      by (suc n) there = calling_passes m a (parts m ++ init m) last_none false (init_symbol_of m.name) (suc n) there

@@ -1,5 +1,6 @@
 -- The init function keeps the rules in its unit, where its statements pass them, its labels differ and it ends well.
-use Rattle.unit_rules.proofs.Common.{◌≡◌, ℕ, ◌<◌, Bool, true, false, ◌||◌, ◌≢◌, List, [], ◌∷◌, ◌++◌, map, length, drop, nat_le, All}
+use Rattle.unit_rules.proofs.Common.{◌≡◌, ℕ, zero, suc, ◌<◌, Bool, true, false, ◌||◌, ◌≢◌, List, [], ◌∷◌, ◌++◌, map, length, drop, nat_le}
+use Rattle.unit_rules.proofs.Common.{All}
 use Rattle.unit_rules.proofs.Common.{bytes_eq, sym, refl, ap, ◌∙◌, subst, arith, nat_tests, All-from_recursion, bytes_eq-Decides}
 use Rattle.unit_rules.proofs.Common.{AllByRecursion, list_all, list_any, all_append, all_map, init_symbol_of-not_export, export_symbol_of}
 use Rattle.unit_rules.proofs.Common.{init_symbol_of, SymbolKind, Import, ImportKind, ImportFunc, ImportGlobal, ImportMemory, ImportTable}
@@ -9,10 +10,12 @@ use Rattle.unit_rules.proofs.Common.{export_func, byte_name, has_bytes, init_fun
 use Rattle.unit_rules.proofs.Common.{tests_limits, declaration, IsAccepted, append-nil}
 use Rattle.w2c_mangle.specs.declared.symbol.SymbolKind.TheVariants as symbol
 use Rattle.c_tree.specs.Tree as tree
-use Rattle.c_unit.proofs.SectionLists.{before_exports, before_init, declarations, exports}
+use Rattle.c_unit.proofs.SectionLists.{before_exports, before_init, before_parts, declarations, exports, parts}
+use Rattle.c_init.specs.Init.{calling_stmts, own_locals, parts_of, stmts_with, whole_stmts}
 use Rattle.c_unit.proofs.Pairs.{firsts_all}
-use Rattle.unit_rules.proofs.ItemRules.{Keeps, Apart, apart_joined, apart_names, own_of, names_of_vars, function_keeps, hidden_by_class}
-use Rattle.c_unit.proofs.Sections.{exports_class, export_name, of_export, init_class, init_is, six_not_nine}
+use Rattle.unit_rules.proofs.ItemRules.{Keeps, Apart, apart_classes, apart_joined, apart_names, own_of, names_of_vars, function_keeps}
+use Rattle.unit_rules.proofs.ItemRules.{hidden_by_class}
+use Rattle.c_unit.proofs.Sections.{exports_class, export_name, of_export, init_class, init_is, parts_class, six_not_nine}
 use Rattle.unit_rules.proofs.PlainItems.{NotSame, NoClass, other_class}
 use Rattle.unit_rules.proofs.UnitRules.{InitKeeps}
 use Rattle.c_init.proofs.Small.{all_images}
@@ -24,32 +27,32 @@ use Rattle.unit_rules.proofs.BeforeSections.{none_before_exports, apart_before_e
 abbrev vars : List tree.Local → List (Name × CType)
 vars locals = map (λ (l : tree.Local). (l.1, l.0)) locals
 
-locals_values : (b c : Bool) → list_all (λ (v : Name × CType). is_value_type v.1)
+pub locals_values : (b c : Bool) → list_all (λ (v : Name × CType). is_value_type v.1)
     (vars (local_if b size_name ++ local_if c byte_name)) ≡ true
 locals_values true true = refl
 locals_values true false = refl
 locals_values false true = refl
 locals_values false false = refl
 
-locals_suit : (b c : Bool) → list_all (λ (l : tree.Local). number_suits l.0 l.2) (local_if b size_name ++ local_if c byte_name) ≡ true
+pub locals_suit : (b c : Bool) → list_all (λ (l : tree.Local). number_suits l.0 l.2) (local_if b size_name ++ local_if c byte_name) ≡ true
 locals_suit true true = refl
 locals_suit true false = refl
 locals_suit false true = refl
 locals_suit false false = refl
 
-locals_free : (b c : Bool) → list_all is_own_name (names_of_vars (vars (local_if b size_name ++ local_if c byte_name))) ≡ true
+pub locals_free : (b c : Bool) → list_all is_own_name (names_of_vars (vars (local_if b size_name ++ local_if c byte_name))) ≡ true
 locals_free true true = refl
 locals_free true false = refl
 locals_free false true = refl
 locals_free false false = refl
 
-locals_distinct : (b c : Bool) → are_distinct (names_of_vars (vars (local_if b size_name ++ local_if c byte_name))) ≡ true
+pub locals_distinct : (b c : Bool) → are_distinct (names_of_vars (vars (local_if b size_name ++ local_if c byte_name))) ≡ true
 locals_distinct true true = refl
 locals_distinct true false = refl
 locals_distinct false true = refl
 locals_distinct false false = refl
 
-locals_class : (b c : Bool) → AllByRecursion (λ n. class n ≡ 9) (names_of_vars (vars (local_if b size_name ++ local_if c byte_name)))
+pub locals_class : (b c : Bool) → AllByRecursion (λ n. class n ≡ 9) (names_of_vars (vars (local_if b size_name ++ local_if c byte_name)))
 locals_class true true = (refl, (refl, tt))
 locals_class true false = (refl, tt)
 locals_class false true = (refl, tt)
@@ -63,10 +66,7 @@ module _ (m : NamedModule) (a : IsAccepted m) where
   front = before_init m
 
   abbrev pub init_body : tree.Body
-  init_body = record {
-    locals = local_if (tests_limits t || tests_bounds t) size_name ++ local_if (list_any has_bytes t.segments) byte_name;
-    stmts = init_stmts m;
-  }
+  init_body = record { locals = own_locals t; stmts = init_stmts m }
 
   -- ---- its symbol is no other
 
@@ -100,7 +100,8 @@ module _ (m : NamedModule) (a : IsAccepted m) where
 
   apart_front : Apart (tree.Function (init_func m)) front
   apart_front =
-      apart_joined (tree.Function (init_func m)) (before_exports m) (exports m)
+      apart_joined (tree.Function (init_func m)) (before_parts m) (parts m)
+      (apart_joined (tree.Function (init_func m)) (before_exports m) (exports m)
       (apart_before_exports m a (init_func m) (init_class m.name)
       (apart_names (tree.Function (init_func m)) (declarations m)
       (all_map (λ o. NotSame o (tree.Function (init_func m))) declaration (declared_symbols m)
@@ -110,16 +111,24 @@ module _ (m : NamedModule) (a : IsAccepted m) where
       (apart_names (tree.Function (init_func m)) (exports m)
       (all_images (λ o. NotSame o (tree.Function (init_func m))) (λ e. tree.Function (export_func m e)) t.exports
       (λ e. ap (λ n. bytes_eq n (init_symbol_of m.name)) (export_name m e)
-      ∙ of_export (λ n. bytes_eq n (init_symbol_of m.name) ≡ false) m (λ k n. other_symbol m.name k n a.bytes) e)))
+      ∙ of_export (λ n. bytes_eq n (init_symbol_of m.name) ≡ false) m (λ k n. other_symbol m.name k n a.bytes) e))))
+      (apart_classes (tree.Function (init_func m)) (parts m) (subst (λ j. NoClass j (parts m)) (sym (init_class m.name))
+      (other_class 10 6 (parts m) (λ e. absurd (grind (arith, e))) (parts_class m a))))
 
   front_none : NoClass 9 front
   front_none =
-      all_append (λ o. class (name_of o) ≢ 9) (before_exports m) (exports m)
+      all_append (λ o. class (name_of o) ≢ 9) (before_parts m) (parts m)
+      (all_append (λ o. class (name_of o) ≢ 9) (before_exports m) (exports m)
       (none_before_exports m a 9 (omega arith))
-      (other_class 6 9 (exports m) (λ e. absurd (grind (arith, e))) (exports_class m a))
+      (other_class 6 9 (exports m) (λ e. absurd (grind (arith, e))) (exports_class m a)))
+      (other_class 10 9 (parts m) (λ e. absurd (grind (arith, e))) (parts_class m a))
 
-  not_empty : (first : tree.Stmt) (rest : List tree.Stmt) → nat_le 1 (length (first ∷ rest)) ≡ true
+  pub not_empty : (first : tree.Stmt) (rest : List tree.Stmt) → nat_le 1 (length (first ∷ rest)) ≡ true
   not_empty first rest = grind (arith, nat_tests)
+
+  init_some : (parts : ℕ) → nat_le 1 (length (stmts_with m parts)) ≡ true
+  init_some zero = not_empty tree.Null (drop 1 (whole_stmts m))
+  init_some (suc parts) = not_empty tree.Null (drop 1 (calling_stmts m (suc parts)))
 
   -- the scope of its statements
   abbrev pub init_scope : Scope
@@ -145,7 +154,7 @@ module _ (m : NamedModule) (a : IsAccepted m) where
         free = init_is m.name;
         own_free = locals_free b c;
         own_distinct = locals_distinct b c;
-        some = not_empty tree.Null (drop 1 (init_stmts m));
+        some = init_some (length (parts_of t));
         passes = p.passes;
         labels = p.labels;
         ends = p.ends;

@@ -87,7 +87,7 @@ module _ (m : NamedModule) (s : Scope) (k : InitKnows m s) where
       (k.runtime (codes "w2c_mem_len") refl) refl (k.memory h.has)
       (place_typed m s k d.offset (n64 (length d.bytes)) h.fits (n64_typed s (length d.bytes)))) all)
 
-  element_passes : (e : ElementEntry) → ElementIs t e → (n : ℕ) (f : FuncRef) → is_none (slice_get (func_space t) f.index) ≡ false
+  pub element_passes : (e : ElementEntry) → ElementIs t e → (n : ℕ) (f : FuncRef) → is_none (slice_get (func_space t) f.index) ≡ false
       → Passes s (write_element t e.offset n f.index)
   element_passes e h n f known =
       call_passes s None (codes "w2c_tab_set") (table_arg t ∷ tree.Value (place_expr t e.offset (n64 n)) ∷ tree.OfFunction

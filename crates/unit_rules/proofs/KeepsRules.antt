@@ -13,11 +13,12 @@ use Rattle.c_unit.proofs.AcceptedLimits.{accepted_limits}
 use Rattle.c_tree.proofs.NumberedLabels.{labels_differ}
 use Rattle.unit_rules.proofs.InitEnds.{init_ends}
 use Rattle.unit_rules.proofs.InitPasses.{init_passes}
+use Rattle.unit_rules.proofs.PartSection.{parts_keep}
 
 init_labels : (m : NamedModule) → IsAccepted m → are_distinct (labels_of (init_stmts m)) ≡ true
 init_labels m a = labels_differ 0 (length m.tree.segments + 2) (init_stmts m) (omega (arith, (accepted_limits a).segments)) (init_within m)
 
 pub units_keep_rules : (m : NamedModule) → IsAccepted m → BodiesKeepTheRules → KeepsRules (items m)
 units_keep_rules m a bodies =
-    unit_keeps_rules m a bodies (helpers_keep m a) (exports_keep m a)
+    unit_keeps_rules m a bodies (helpers_keep m a) (exports_keep m a) (parts_keep m a)
     (init_keeps m a (record { passes = init_passes m a; labels = init_labels m a; ends = init_ends m }))

@@ -18,6 +18,8 @@ mod InitSegments
 mod InitPasses
 mod InitSection
 mod InitEnds
+mod PartEntries
+mod PartSection
 mod UnitRules
 mod KeepsRules
 mod UnitNames

@@ -4,7 +4,8 @@ use Rattle.std.proofs.lemmas.Map.Views.{Contains-from_any}
 use Rattle.w2c_base.specs.declared.value.ValType.TheVariants.{I32, I64}
 use Rattle.c_tree.specs.declared.tree.CType.TheVariants as type
 use Rattle.c_tree.specs.Tree as tree
-use Rattle.c_unit.proofs.SectionLists.{declarations, exports, functions_of, helpers, init, objects, prototypes}
+use Rattle.c_unit.proofs.SectionLists.{declarations, exports, functions_of, helpers, init, objects, parts, prototypes}
+use Rattle.c_init.specs.Init.{part_func, parts_of}
 use Rattle.c_unit.proofs.Defined.{body_is, export_external}
 use Rattle.c_unit.proofs.Pairs.{firsts_all}
 use Rattle.c_unit.proofs.Sections.{pointers_are}
@@ -174,6 +175,10 @@ module _ (m : NamedModule) (a : IsAccepted m) where
       (range_with_len (imported_funcs t) (length t.funcs))
       (λ k. static_hidden (body_of t m.name k) (body_is t m.name k).1)))
 
+  parts_hidden : filter_map external_of (parts m) ≡ []
+  parts_hidden = none_kept external_of (parts m) (all_images (λ o. external_of o ≡ None) (λ p. tree.Function (part_func t p))
+      (numbered (parts_of t)) (λ p. refl))
+
   exports_seen : (es : List Export) → filter_map external_of (map (λ e. tree.Function (export_func m e)) es) ≡ map (export_func m) es
   exports_seen [] = refl
   exports_seen (e ∷ es) = rw ((export_external m e).external) (ap (λ fs. export_func m e ∷ fs) (exports_seen es))
@@ -189,7 +194,8 @@ module _ (m : NamedModule) (a : IsAccepted m) where
       (joined external_of (prototypes m) _ [] _ prototypes_hidden
       (joined external_of (helpers m) _ [] _ helpers_hidden
       (joined external_of (functions_of m) _ [] _ bodies_hidden
-      (joined external_of (exports m) (init m) (map (export_func m) t.exports) (init_func m ∷ []) (exports_seen t.exports) refl))))))
+      (joined external_of (exports m) (parts m ++ init m) (map (export_func m) t.exports) (init_func m ∷ []) (exports_seen t.exports)
+      (joined external_of (parts m) (init m) [] (init_func m ∷ []) parts_hidden refl)))))))
 
   abbrev symbols : List Name
   symbols = map (export_symbol m) t.exports
@@ -356,7 +362,7 @@ module _ (m : NamedModule) (a : IsAccepted m) where
       ∙ nothing_more _ [] refl))
 
   rest_none : filter_map object_of
-      (data_of t ++ (declarations m ++ (prototypes m ++ (helpers m ++ (functions_of m ++ (exports m ++ init m)))))) ≡ []
+      (data_of t ++ (declarations m ++ (prototypes m ++ (helpers m ++ (functions_of m ++ (exports m ++ (parts m ++ init m))))))) ≡ []
   rest_none =
       joined object_of (data_of t) _ [] [] (data_none object_of (λ n count bytes. refl))
       (joined object_of (declarations m) _ [] [] (none_kept object_of (declarations m)
@@ -365,13 +371,15 @@ module _ (m : NamedModule) (a : IsAccepted m) where
       (joined object_of (helpers m) _ [] [] (none_kept object_of (helpers m)
       (all_images NoObject (λ which. tree.Function (helper_of which)) (helpers_of t) (λ which. refl)))
       (joined object_of (functions_of m) _ [] [] (functions_none object_of (bodies m) (λ f. refl))
-      (joined object_of (exports m) (init m) [] [] (none_kept object_of (exports m)
-      (all_images NoObject (λ e. tree.Function (export_func m e)) t.exports (λ e. refl))) refl)))))
+      (joined object_of (exports m) (parts m ++ init m) [] [] (none_kept object_of (exports m)
+      (all_images NoObject (λ e. tree.Function (export_func m e)) t.exports (λ e. refl)))
+      (joined object_of (parts m) (init m) [] [] (none_kept object_of (parts m)
+      (all_images NoObject (λ p. tree.Function (part_func t p)) (numbered (parts_of t)) (λ p. refl))) refl))))))
 
   objects_are : unit_objects (items m) ≡ module_objects t
   objects_are = filter_map-append object_of (objects m) _ ∙
       (ap (λ os. os ++ filter_map object_of (data_of t ++
-      (declarations m ++ (prototypes m ++ (helpers m ++ (functions_of m ++ (exports m ++ init m))))))) objects_seen
+      (declarations m ++ (prototypes m ++ (helpers m ++ (functions_of m ++ (exports m ++ (parts m ++ init m)))))))) objects_seen
       ∙ nothing_more (module_objects t) _ rest_none)
 
   pub objects_same : HaveSame (unit_objects (items m)) (module_objects t)

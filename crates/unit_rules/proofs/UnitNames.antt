@@ -24,7 +24,11 @@ use Rattle.unit_rules.proofs.ExportFacts.{each_of}
 use Rattle.c_unit.proofs.Pairs.{all_zip, all_flat, all_range, firsts_all}
 use Rattle.c_unit.proofs.Sections.{export_name, few_globals, few_funcs, few_imports, pointers_are}
 use Rattle.unit_rules.proofs.InitSegments.{data_item}
+use Rattle.c_init.proofs.FewParts.{few_parts}
 use Rattle.c_init.proofs.Small.{all_images}
+use Rattle.c_init.specs.Init.{Part, part_func, parts_of}
+use Rattle.c_tree.specs.DefinedNames.{part_name}
+use Rattle.std.specs.Prelude.{codes}
 use Rattle.c_unit.proofs.AcceptedLimits.{accepted_limits}
 
 -- ---- words
@@ -93,6 +97,13 @@ pointer_words rest all = rw all refl
 
 pointer_named : (k : ℕ) → k < 2 ^ 64 → IsName (pointer_name (global_name k))
 pointer_named k less = pointer_words (decimal k) (digits_words (decimal k) (all_digits (decimal k) (decimal_digits k less)))
+
+-- no key word begins with init_
+part_words : (rest : List ℕ) → list_all is_word_byte rest ≡ true → IsName (codes "init_" ++ rest)
+part_words rest all = rw all refl
+
+pub part_named : (k : ℕ) → k < 2 ^ 64 → IsName (part_name k)
+part_named k less = part_words (decimal k) (digits_words (decimal k) (all_digits (decimal k) (decimal_digits k less)))
 
 pub helper_formed : (which : Helper) → NamedItem (tree.Function (helper_of which)) × FitsItem depth_limit (tree.Function (helper_of which))
 helper_formed which =
@@ -183,3 +194,7 @@ module _ (m : NamedModule) (a : IsAccepted m) where
             (export_named m e (each_of (λ b. b < 256) m.name a.bytes) h.0),
         each exports h.1,
       )
+
+  pub parts_named : NamedItems (map (λ p. tree.Function (part_func t p)) (numbered (parts_of t)))
+  parts_named = all_zip Named (λ (p : ℕ × Part). tree.Function (part_func t p)) 0 (length (parts_of t)) (parts_of t) (omega arith)
+      (λ j x low high. let few = few_parts t a.within in part_named j (omega (arith, high, few)))

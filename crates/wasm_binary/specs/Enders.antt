@@ -1,7 +1,7 @@
 -- What closes instructions, and what opens them, as the reader returns them.
 use Rattle.std.specs.Prelude.{ℕ, Bool, true, false, Option, Result, Ok, Some, None, ◌==◌, if◌then◌else◌}
 use Rattle.w2c_base.specs.declared.value.ValType.{ValType}
-use Rattle.wasm_tree.specs.declared.code.Kind.{Kind as RustKind}
+use Rattle.wasm_tree.specs.declared.operators.Kind.{Kind as RustKind}
 use Rattle.wasm_tree.specs.Instructions.{Code, Kind, Block, Loop, If, no_else, else_code}
 use Rattle.wasm_tree.specs.Views.{kind_tree}
 use Rattle.wasm_spelling.specs.At.{At}

@@ -356,7 +356,10 @@ pub fn instructions(
     loop {
         let (item, after) = next_item(alloc, room, may_else, ahead)?;
         match item {
-            Item::Closed(ender) => return Ok(((code, ender), after)),
+            Item::Closed(ender) => {
+                code.fit();
+                return Ok(((code, ender), after));
+            }
             Item::One(instr) => code.push(instr)?,
         }
         ahead = after;

@@ -6,7 +6,7 @@ ghost use Rattle.w2c_base.specs.declared.value.Value.TheVariants.{I32, I64};
 ghost use Rattle.w2c_base.specs.Run.{Gave, HostTrapped, Asked, CallEnded, Init, values_in, Call as CallPhase};
 ghost use Rattle.wasm_tree.specs.Instructions.{Return, Select, If, BrIf, Call, LocalGet, LocalSet, Load, Store, I64Const, else_code, Unreachable, Drop, Nop, Block, Loop, Br, I32Const, Binary, MemoryCopy, MemoryFill, Extend};
 ghost use Rattle.wasm_tree.specs.declared.operators.UnaryOp.TheVariants.{Clz, Ctz, Popcnt};
-ghost use Rattle.wasm_tree.specs.declared.operators.BinaryOp.TheVariants.{Add, Sub, DivS, RemS, Shl, ShrS, Rotl, Rotr};
+ghost use Rattle.wasm_tree.specs.declared.operators.BinaryOp.TheVariants.{Add, Sub, DivS, RemS, And, Shl, ShrS, Rotl, Rotr};
 ghost use Rattle.wasm_tree.specs.declared.operators.CompareOp.TheVariants.{LtS, LtU};
 ghost use Rattle.wasm_tree.specs.declared.operators.LoadOp.TheVariants.{I32Load8U, I32Load, I32Load8S, I64Load32S};
 ghost use Rattle.wasm_tree.specs.declared.operators.StoreOp.TheVariants.{I32Store, I32Store8, I64Store16};
@@ -27,6 +27,7 @@ pub fn operator_cases()
     ensures quotient_by_0 { binary DivS 32 1 0 ≡ Traps trap.DivByZero }
     ensures remainder_has_the_dividends_sign { binary RemS 32 4294967289 2 ≡ Gives 4294967295 }
     ensures remainder_of_the_least_by_minus_1 { binary RemS 32 2147483648 4294967295 ≡ Gives 0 }
+    ensures common_bits { binary And 32 12 10 ≡ Gives 8 }
     ensures shift_by_the_width { binary Shl 32 1 32 ≡ Gives 1 }
     ensures signed_shift_past_the_width { binary ShrS 32 4294967288 33 ≡ Gives 4294967292 }
     ensures rotation_past_the_width { binary Rotl 32 2147483649 33 ≡ Gives 3 }

@@ -4,11 +4,11 @@ ghost use Rattle.wasm_set.specs.Tables.{Tells};
 
 use crate::offer::OfferTable;
 use crate::spaces::offer;
+use body_check::Spaces;
 use name_table::{NameTable, Salted};
 use std::alloc::Global;
 use w2c_base::Memory;
 use wasm_tree::Module;
-use wasm_valid::Spaces;
 
 // The key of the names that a module exports.
 fn salt_of_exports(m: &Module) -> Salted {

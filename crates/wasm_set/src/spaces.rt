@@ -1,13 +1,13 @@
 // What an export is of, by the index spaces of its module.
 ghost use Rattle.std.specs.Prelude.{◌≡◌, option_map, slice_get};
 ghost use Rattle.wasm_tree.specs.declared.tree.Module.{Module as Tree};
-ghost use Rattle.wasm_valid.specs.Seen.{AreSpacesOf};
+ghost use Rattle.body_check.specs.Seen.{AreSpacesOf};
 ghost use Rattle.wasm_set.specs.declared.offer.Offer.TheVariants.{Func, Global as OfGlobal};
 ghost use Rattle.wasm_set.specs.Offers.{offer_of};
 
 use crate::offer::Offer;
+use body_check::Spaces;
 use wasm_tree::{Export, ExportKind, Limits};
-use wasm_valid::Spaces;
 
 /// What an export of the module of these index spaces is of. None where its index is out of range.
 pub(crate) fn offer(spaces: &Spaces<'_>, export: &Export) -> Option<Offer>

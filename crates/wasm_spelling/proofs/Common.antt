@@ -12,7 +12,7 @@ pub use Rattle.std.specs.Str.{is_utf8}
 pub use Rattle.w2c_base.proofs.OfEach.{all_append, all_flat, all_map, all_split, of_each}
 pub use Rattle.w2c_base.specs.SpelledNumber.{SpellsSigned, SpellsUnsigned}
 pub use Rattle.w2c_base.specs.declared.value.ValType.{ValType}
-pub use Rattle.wasm_tree.proofs.ExactTable.{has_row, ◌&◌}
+pub use Rattle.wasm_tree.proofs.ExactTable.{has_row, of_class, ◌&◌}
 pub use Rattle.wasm_tree.specs.Bytes.{AreBytes}
 pub use Rattle.wasm_tree.specs.Forms.{form_in, form_of}
 pub use Rattle.wasm_tree.specs.IndexSpaces.{declared_locals, memory_of_import, memory_space, table_of_import, table_space}

@@ -1,13 +1,16 @@
 -- The fields behind an opcode that is no block's, by the table of instructions.
 use Rattle.wasm_spelling.proofs.Common.{◌≡◌, ℕ, zero, suc, eqb, List, [], ◌∷◌, length, replicate, ℤ, Some, None, Ok, Option, sym, refl, ap}
-use Rattle.wasm_spelling.proofs.Common.{◌∙◌, subst, eqb-true, length-replicate, AllByRecursion, ◌&◌, form_in, form_of, Form, Prefixed, Row}
+use Rattle.wasm_spelling.proofs.Common.{◌∙◌, subst, eqb-true, length-replicate, AllByRecursion, all_flat, ◌&◌, form_in, form_of, Form}
 use Rattle.wasm_spelling.proofs.Common.{a_mem_arg, a_sub_opcode, a_type, a_zero, an_i32, an_i64, an_index, labels, nothing, opcode_of}
 use Rattle.wasm_spelling.proofs.Common.{prefixed, prefixed_of, row_of, rows, Block, Br, BrIf, BrTable, Call, CallIndirect, GlobalGet}
 use Rattle.wasm_spelling.proofs.Common.{GlobalSet, I32Const, I64Const, If, Kind, Load, LocalGet, LocalSet, LocalTee, Loop, MemoryCopy}
 use Rattle.wasm_spelling.proofs.Common.{MemoryFill, MemoryGrow, MemorySize, Store, At, Fields, byte, number, signed, each, immediates}
 use Rattle.wasm_spelling.proofs.Common.{instr_fields, vector, checked, number_at, sub_opcode_in, sub_opcode_of, form_fields, index}
-use Rattle.wasm_spelling.proofs.Common.{of_indexes, times}
+use Rattle.wasm_spelling.proofs.Common.{of_indexes, of_class, times, Prefixed, Row}
 use Rattle.wasm_tree.specs.declared.code.MemArg.{MemArg}
+use Rattle.w2c_base.specs.declared.value.ValType.TheVariants.{I32, I64}
+use Rattle.wasm_tree.specs.InstructionTable.{groups, load_row, store_row, extend_row, compare_row, unary_row, binary_row, loads, stores}
+use Rattle.wasm_tree.specs.InstructionTable.{extensions, comparisons, unaries, binaries}
 use Rattle.wasm_spelling.specs.declared.fault.Cause.TheVariants as cause
 use Rattle.wasm_spelling.specs.Table as table
 use Rattle.wasm_spelling.specs.Reading.{exactly_at, times_at, vector_at, mem_arg_at, form_at}
@@ -75,29 +78,20 @@ abbrev RowSpells : Row → Type 0
 RowSpells r = SpellsRow r.opcode r.form
 
 all_spell : AllByRecursion RowSpells rows
-all_spell =
+all_spell = all_flat RowSpells (λ group. group) groups
+    (((λ v room rest. refl) & (λ v room rest. refl) & (λ v room rest. refl) & (λ v room rest. refl) & (λ v room rest. refl) &
     (λ v room rest. refl) & (λ v room rest. refl) & (λ v room rest. refl) & (λ v room rest. refl) & (λ v room rest. refl) &
     (λ v room rest. refl) & (λ v room rest. refl) & (λ v room rest. refl) & (λ v room rest. refl) & (λ v room rest. refl) &
     (λ v room rest. refl) & (λ v room rest. refl) & (λ v room rest. refl) & (λ v room rest. refl) & (λ v room rest. refl) &
-    (λ v room rest. refl) & (λ v room rest. refl) & (λ v room rest. refl) & (λ v room rest. refl) & (λ v room rest. refl) &
-    (λ v room rest. refl) & (λ v room rest. refl) & (λ v room rest. refl) & (λ v room rest. refl) & (λ v room rest. refl) &
-    (λ v room rest. refl) & (λ v room rest. refl) & (λ v room rest. refl) & (λ v room rest. refl) & (λ v room rest. refl) &
-    (λ v room rest. refl) & (λ v room rest. refl) & (λ v room rest. refl) & (λ v room rest. refl) & (λ v room rest. refl) &
-    (λ v room rest. refl) & (λ v room rest. refl) & (λ v room rest. refl) & (λ v room rest. refl) & (λ v room rest. refl) &
-    (λ v room rest. refl) & (λ v room rest. refl) & (λ v room rest. refl) & (λ v room rest. refl) & (λ v room rest. refl) &
-    (λ v room rest. refl) & (λ v room rest. refl) & (λ v room rest. refl) & (λ v room rest. refl) & (λ v room rest. refl) &
-    (λ v room rest. refl) & (λ v room rest. refl) & (λ v room rest. refl) & (λ v room rest. refl) & (λ v room rest. refl) &
-    (λ v room rest. refl) & (λ v room rest. refl) & (λ v room rest. refl) & (λ v room rest. refl) & (λ v room rest. refl) &
-    (λ v room rest. refl) & (λ v room rest. refl) & (λ v room rest. refl) & (λ v room rest. refl) & (λ v room rest. refl) &
-    (λ v room rest. refl) & (λ v room rest. refl) & (λ v room rest. refl) & (λ v room rest. refl) & (λ v room rest. refl) &
-    (λ v room rest. refl) & (λ v room rest. refl) & (λ v room rest. refl) & (λ v room rest. refl) & (λ v room rest. refl) &
-    (λ v room rest. refl) & (λ v room rest. refl) & (λ v room rest. refl) & (λ v room rest. refl) & (λ v room rest. refl) &
-    (λ v room rest. refl) & (λ v room rest. refl) & (λ v room rest. refl) & (λ v room rest. refl) & (λ v room rest. refl) &
-    (λ v room rest. refl) & (λ v room rest. refl) & (λ v room rest. refl) & (λ v room rest. refl) & (λ v room rest. refl) &
-    (λ v room rest. refl) & (λ v room rest. refl) & (λ v room rest. refl) & (λ v room rest. refl) & (λ v room rest. refl) &
-    (λ v room rest. refl) & (λ v room rest. refl) & (λ v room rest. refl) & (λ v room rest. refl) & (λ v room rest. refl) &
-    (λ v room rest. refl) & (λ v room rest. refl) & (λ v room rest. refl) & (λ v room rest. refl) &
-    prefixed_spells 0xFC ((λ room rest. refl) & (λ room rest. refl) & tt) & tt
+    (λ v room rest. refl) & (λ v room rest. refl) & prefixed_spells 0xFC ((λ room rest. refl) & (λ room rest. refl) & tt) & tt) &
+    of_class RowSpells load_row (λ o v room rest. refl) loads & of_class RowSpells store_row (λ o v room rest. refl) stores &
+    of_class RowSpells extend_row (λ o v room rest. refl) extensions &
+    ((λ v room rest. refl) & of_class RowSpells (compare_row I32) (λ o v room rest. refl) comparisons) &
+    ((λ v room rest. refl) & of_class RowSpells (compare_row I64) (λ o v room rest. refl) comparisons) &
+    of_class RowSpells (unary_row I32) (λ o v room rest. refl) unaries &
+    of_class RowSpells (unary_row I64) (λ o v room rest. refl) unaries &
+    of_class RowSpells (binary_row I32) (λ o v room rest. refl) binaries &
+    of_class RowSpells (binary_row I64) (λ o v room rest. refl) binaries & tt)
 
 pub row_spells : (op : ℕ) (f : Form) → form_in (row_of op) ≡ Some f → SpellsRow op f
 row_spells op f is = of_row (row_of op) refl is

@@ -190,7 +190,8 @@ differ_in_places t u e h = record {
   memories = same_all bare_limits_entry _ memories_aside t.memories u.memories (ap (λ (m : Module). m.memories) e) h.memories;
   globals = same_count bare_global most_module_bytes t.globals u.globals (ap (λ (m : Module). m.globals) e) h.globals;
   exports = same_within bare_export most_module_bytes _ exports_aside t.exports u.exports (ap (λ (m : Module). m.exports) e) h.exports;
-  elements = same_all bare_element _ elements_aside t.elements u.elements (ap (λ (m : Module). m.elements) e) h.elements;
+  elements = same_within bare_element most_module_bytes _ elements_aside t.elements u.elements (ap (λ (m : Module). m.elements) e)
+      h.elements;
   code = same_all bare_body BodyIsWithin bodies_aside t.bodies u.bodies bodies h.code;
   segments = same_within bare_segment most_module_bytes _ segments_aside t.segments u.segments (ap (λ (m : Module). m.segments) e)
       h.segments;
@@ -223,7 +224,8 @@ parts_within m h =
           (of_each (LimitsAreWithin most_memory_pages) (λ l. IsMaximum l.max) (λ l k. k.1) (memory_space m) memories);
       import_names = of_each ImportIsWithin (λ i. IsName i.«module» × IsName i.field) (λ i k. k.names) m.imports h.imports.1;
       export_names = h.exports.1;
-      elements = h.elements;
+      few_elements = h.elements.0;
+      elements = h.elements.1;
       are_bytes = of_each SegmentIsWithin _ (λ s k. k.are_bytes) m.segments h.segments.1;
       bytes = of_each SegmentIsWithin _ (λ s k. k.long) m.segments h.segments.1;
       bodies = h.code;

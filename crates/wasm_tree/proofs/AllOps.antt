@@ -1,14 +1,7 @@
--- Every operator stands in the list of all of them, where opcodes rise, and is found there by its opcode.
-use Rattle.wasm_tree.proofs.Common.{◌≡◌, ℕ, zero, suc, ◌+◌, ◌<◌, ◌≤◌, Bool, true, ◌&&◌, leb, ◌≢◌, List, [], ◌∷◌, length, get_or, IfNone}
-use Rattle.wasm_tree.proofs.Common.{◌==◌, slice_get, Some, None, Err, All, Option, HoldsAt, nat_cmp, Equal, sym, refl, subst, inl, inr}
-use Rattle.wasm_tree.proofs.Common.{arith, leb-true, nat_tests, IsNonDecreasingBy-from_all_adjacent, get_or_from_slice_get}
-use Rattle.wasm_tree.proofs.Common.{slice_get_within, HasOp, op_opcode}
-use Rattle.std.specs.List.{position_from}
-use Rattle.std.specs.List.Sorted.{IsBinarySearchResult, IsNonDecreasingBy}
-use Rattle.std.specs.Ordering.{ordering_index}
-use Rattle.std.proofs.lemmas.Bool.{cases_lt}
-use Rattle.std.proofs.lemmas.Cmp.{ranked}
-use Rattle.std.proofs.lemmas.List.Elements.{All-from_get_or, All-get_or}
+-- The table of operators: what stands at an opcode has that opcode, and each operator stands at its own.
+use Rattle.wasm_tree.proofs.Common.{◌≡◌, ℕ, zero, suc, ◌<◌, Bool, true, ◌&&◌, eqb, List, get_or, IfNone, IfSome, Some, None, Option}
+use Rattle.wasm_tree.proofs.Common.{sym, refl, subst, inl, inr, arith, eqb-true, HasOp, op_opcode}
+use Rattle.std.proofs.lemmas.Bool.{cases_eq}
 use Rattle.w2c_base.proofs.Conjunctions.{left_holds, right_holds}
 use Rattle.w2c_base.specs.declared.value.ValType.TheVariants as type
 use Rattle.wasm_tree.specs.declared.operators.UnaryOp.TheVariants as unary
@@ -23,81 +16,65 @@ use Rattle.wasm_tree.specs.declared.operators.AccessOp.TheVariants as access
 use Rattle.wasm_tree.specs.declared.operators.Numeric.TheVariants as numeric
 use Rattle.wasm_tree.specs.declared.opcodes.Op.{Op}
 use Rattle.wasm_tree.specs.declared.opcodes.Op.TheVariants as op
-use Rattle.wasm_tree.specs.declared.opcodes.TheConstants.{OPS}
+use Rattle.wasm_tree.specs.declared.opcodes.TheConstants.{BY_OPCODE}
 
--- the place of an operator in the list: the first with its opcode
-abbrev place : Op → ℕ
-place o = elim (position_from (λ p. op_opcode p == op_opcode o) 0 OPS) [ None ↦ 0 | Some i ↦ i ]
+-- ---- what stands at an opcode has it
 
--- the list has every operator
-pub listed : (o : Op) → slice_get OPS (place o) ≡ Some o
-listed (op.Simple simple.Unreachable) = refl
-listed (op.Index index.Br) = refl
-listed (op.Access (access.Load load.I32Load)) = refl
-listed (op.Access (access.Store store.I32Store)) = refl
-listed (op.Numeric (numeric.Eqz type.I32)) = refl
-listed (op.Numeric (numeric.Compare type.I32 comparison.Eq)) = refl
-listed (op.Numeric (numeric.Compare type.I64 comparison.Eq)) = refl
-listed (op.Numeric (numeric.Unary type.I32 unary.Clz)) = refl
-listed (op.Numeric (numeric.Unary type.I64 unary.Clz)) = refl
-listed (op.Numeric (numeric.Binary type.I32 binary.Add)) = refl
-listed (op.Numeric (numeric.Binary type.I64 binary.Add)) = refl
-listed (op.Numeric (numeric.Extend extension.I32Extend8S)) = refl
-listed _ = refl
+stands_at : Option Op → ℕ → Bool
+stands_at None n = true
+stands_at (Some o) n = eqb (op_opcode o) n
 
--- ---- found by halves, as opcodes rise along the list
+-- so at all places below n; what a place past the end would have is open
+all_stand : List (Option Op) → Option Op → ℕ → Bool
+all_stand ops d zero = true
+all_stand ops d (suc n) = stands_at (get_or ops n d) n && all_stand ops d n
 
-rises : List Op → Bool
-rises [] = true
-rises (o ∷ []) = true
-rises (o ∷ p ∷ ops) = leb (op_opcode o) (op_opcode p) && rises (p ∷ ops)
-
-no_lower : (ops : List Op) → rises ops ≡ true → (d : Op) (k j : ℕ) → j ≡ k + 1 → j < length ops
-    → op_opcode (get_or ops k d) ≤ op_opcode (get_or ops j d)
-unfolding rises
-no_lower [] e d k j next below = absurd (omega (arith, below))
-no_lower (o ∷ ops) e d k zero next below = absurd (omega (arith, next))
-no_lower (o ∷ []) e d k (suc j) next below = absurd (omega (arith, below))
-no_lower (o ∷ p ∷ ops) e d zero (suc zero) next below =
-    leb-true (op_opcode o) (op_opcode p) (left_holds (leb (op_opcode o) (op_opcode p)) (rises (p ∷ ops)) e)
-no_lower (o ∷ p ∷ ops) e d zero (suc (suc j)) next below = absurd (omega (arith, next))
-no_lower (o ∷ p ∷ ops) e d (suc k) (suc j) next below =
-    no_lower (p ∷ ops) (right_holds (leb (op_opcode o) (op_opcode p)) (rises (p ∷ ops)) e) d k j
-    (omega (arith, next)) (omega (arith, below))
-
-pub opcodes_rise : IsNonDecreasingBy op_opcode OPS
-unfolding rises
-opcodes_rise = IsNonDecreasingBy-from_all_adjacent op_opcode OPS (λ k d below. no_lower OPS refl d k (k + 1) refl below)
-
-comparisons_rise : (n : ℕ) (ops : List Op) → IsNonDecreasingBy op_opcode ops
-    → IsNonDecreasingBy (λ o. ordering_index (nat_cmp (op_opcode o) n)) ops
-comparisons_rise n ops rise i j d le in_range = grind (arith, nat_tests, rise i j d le in_range)
-
-pub has_it : (opcode : ℕ) (ops : List Op) (i : ℕ) → HoldsAt (λ o. nat_cmp (op_opcode o) opcode ≡ Equal) ops i → (d : Op)
-    → op_opcode (get_or ops i d) ≡ opcode
-has_it opcode ops i equal d = ranked _ opcode _ (sym (equal d))
-
-pub has_none : (opcode : ℕ) (ops : List Op) (i : ℕ) → IsNonDecreasingBy op_opcode ops
-    → IsBinarySearchResult (λ o. nat_cmp (op_opcode o) opcode) ops (Err i) → All (λ o. op_opcode o ≢ opcode) ops
-has_none opcode ops i rise parted = All-from_get_or (λ (o : Op). op_opcode o ≢ opcode) ops other differs
-  where
-    other : Op
-    other = op.Simple simple.Nop
-
-    differs : (k : ℕ) → k < length ops → op_opcode (get_or ops k other) ≢ opcode
-    differs k below same = elim (cases_lt k i) [
-      | inl before ↦
-          let less = ranked _ opcode _ (sym ((parted (comparisons_rise opcode ops rise)).0 k other (omega arith) before)) in
-          absurd (omega (arith, less, same))
-      | inr from ↦
-          let greater = ranked _ opcode _ (sym ((parted (comparisons_rise opcode ops rise)).1 k other from below)) in
-          absurd (omega (arith, greater, same))
+each_stands : (ops : List (Option Op)) (d : Option Op) (n : ℕ) → all_stand ops d n ≡ true → (b : ℕ) → b < n
+    → stands_at (get_or ops b d) b ≡ true
+unfolding all_stand
+each_stands ops d zero all b less = absurd (omega (arith, less))
+each_stands ops d (suc n) all b less =
+    let last : stands_at (get_or ops n d) n ≡ true = left_holds (stands_at (get_or ops n d) n) (all_stand ops d n) all in
+    let before : all_stand ops d n ≡ true = right_holds (stands_at (get_or ops n d) n) (all_stand ops d n) all in
+    elim (cases_eq b n) [
+      | inl same ↦ subst (λ (k : ℕ). stands_at (get_or ops k d) k ≡ true) (sym same) last
+      | inr other ↦ each_stands ops d n before b (omega arith)
     ]
 
-pub not_found : (opcode : ℕ) (r : Option Op) → IfNone r (All (λ o. op_opcode o ≢ opcode) OPS) → IfNone r (HasOp opcode → ⊥)
-not_found opcode (Some o) none = tt
-not_found opcode None none = λ has.
-    let it : get_or OPS (place has.0) has.0 ≡ has.0 = get_or_from_slice_get OPS (place has.0) has.0 has.0 (listed has.0) in
-    subst (λ (o : Op). op_opcode o ≢ opcode) it
-    (All-get_or (λ (o : Op). op_opcode o ≢ opcode) OPS (place has.0) has.0
-    (slice_get_within OPS (place has.0) has.0 (listed has.0)) none) has.1
+has_it : (r : Option Op) (opcode : ℕ) → stands_at r opcode ≡ true → IfSome r (λ o. op_opcode o ≡ opcode)
+unfolding stands_at
+has_it None opcode is = tt
+has_it (Some o) opcode is = eqb-true (op_opcode o) opcode is
+
+pub found : (opcode : ℕ) (d : Option Op) → opcode < 256 → IfSome (get_or BY_OPCODE opcode d) (λ o. op_opcode o ≡ opcode)
+unfolding all_stand stands_at
+found opcode d less = has_it (get_or BY_OPCODE opcode d) opcode (each_stands BY_OPCODE d 256 refl opcode less)
+
+-- ---- each operator stands at its opcode
+
+listed : (o : Op) (d : Option Op) → get_or BY_OPCODE (op_opcode o) d ≡ Some o
+listed (op.Simple simple.Unreachable) d = refl
+listed (op.Index index.Br) d = refl
+listed (op.Access (access.Load load.I32Load)) d = refl
+listed (op.Access (access.Store store.I32Store)) d = refl
+listed (op.Numeric (numeric.Eqz type.I32)) d = refl
+listed (op.Numeric (numeric.Compare type.I32 comparison.Eq)) d = refl
+listed (op.Numeric (numeric.Compare type.I64 comparison.Eq)) d = refl
+listed (op.Numeric (numeric.Unary type.I32 unary.Clz)) d = refl
+listed (op.Numeric (numeric.Unary type.I64 unary.Clz)) d = refl
+listed (op.Numeric (numeric.Binary type.I32 binary.Add)) d = refl
+listed (op.Numeric (numeric.Binary type.I64 binary.Add)) d = refl
+listed (op.Numeric (numeric.Extend extension.I32Extend8S)) d = refl
+listed _ d = refl
+
+apart : (r : Option Op) (o : Op) → r ≡ Some o → r ≡ None → ⊥
+apart r o some none = absurd cc
+
+if_none : (r : Option Op) (opcode : ℕ) (d : Option Op) → get_or BY_OPCODE opcode d ≡ r → IfNone r (HasOp opcode → ⊥)
+if_none (Some o) opcode d is = tt
+if_none None opcode d is =
+    λ has. apart (get_or BY_OPCODE opcode d) has.0
+    (subst (λ (n : ℕ). get_or BY_OPCODE n d ≡ Some has.0) has.1 (listed has.0 d)) is
+
+pub not_found : (opcode : ℕ) (d : Option Op) → IfNone (get_or BY_OPCODE opcode d) (HasOp opcode → ⊥)
+not_found opcode d = if_none (get_or BY_OPCODE opcode d) opcode d refl

@@ -1,6 +1,6 @@
 -- Opcodes, and the table of instructions but for blocks (WebAssembly Core 1.0, 5.4 and 3.3): a row has the opcode,
 -- what stands behind it with the instruction that this makes, and the instruction's type.
-use Rattle.std.specs.Prelude.{ℕ, ℤ, ◌+◌, List, [], ◌∷◌, ◌++◌, map, find, Option, ◌==◌}
+use Rattle.std.specs.Prelude.{ℕ, ℤ, ◌+◌, List, [], ◌∷◌, map, find, flat_map, Option, ◌==◌}
 use Rattle.w2c_base.specs.declared.value.ValType.{ValType}
 use Rattle.w2c_base.specs.declared.value.ValType.TheVariants as type
 use Rattle.wasm_tree.specs.declared.code.MemArg.{MemArg}
@@ -178,47 +178,53 @@ row opcode form typing = record { opcode = opcode; form = form; typing = typing 
 
 -- ---- rows of instructions with an operator, by their opcodes and types
 
-abbrev load_row : LoadOp → Row
+abbrev pub load_row : LoadOp → Row
 load_row op = row (load_opcode op) (a_mem_arg (Load op)) (of_types (type.I32 ∷ []) ((load_access op).ty ∷ []))
 
-abbrev store_row : StoreOp → Row
+abbrev pub store_row : StoreOp → Row
 store_row op = row (store_opcode op) (a_mem_arg (Store op)) (of_types (type.I32 ∷ (store_access op).ty ∷ []) [])
 
-abbrev compare_row : ValType → CompareOp → Row
+abbrev eqz_row : ValType → Row
+eqz_row ty = row (eqz_opcode ty) (nothing (Eqz ty)) (of_types (ty ∷ []) (type.I32 ∷ []))
+
+abbrev pub compare_row : ValType → CompareOp → Row
 compare_row ty op = row (compare_opcode ty op) (nothing (Compare ty op)) (of_types (ty ∷ ty ∷ []) (type.I32 ∷ []))
 
-abbrev unary_row : ValType → UnaryOp → Row
+abbrev pub unary_row : ValType → UnaryOp → Row
 unary_row ty op = row (unary_opcode ty op) (nothing (Unary ty op)) (of_types (ty ∷ []) (ty ∷ []))
 
-abbrev binary_row : ValType → BinaryOp → Row
+abbrev pub binary_row : ValType → BinaryOp → Row
 binary_row ty op = row (binary_opcode ty op) (nothing (Binary ty op)) (of_types (ty ∷ ty ∷ []) (ty ∷ []))
 
-abbrev extend_row : ExtendOp → Row
+abbrev pub extend_row : ExtendOp → Row
 extend_row op = row (extend_opcode op) (nothing (Extend op)) (of_types (extend_type op ∷ []) (extend_type op ∷ []))
 
-abbrev access_rows : List Row
-access_rows =
-    map load_row (I32Load ∷ I64Load ∷ I32Load8S ∷ I32Load8U ∷ I32Load16S ∷ I32Load16U ∷ I64Load8S ∷ I64Load8U ∷ I64Load16S ∷ I64Load16U
-    ∷ I64Load32S ∷ I64Load32U ∷ [])
-    ++ map store_row (I32Store ∷ I64Store ∷ I32Store8 ∷ I32Store16 ∷ I64Store8 ∷ I64Store16 ∷ I64Store32 ∷ [])
+-- the operators of each class, by rising opcodes
+abbrev pub loads : List LoadOp
+loads =
+    I32Load ∷ I64Load ∷ I32Load8S ∷ I32Load8U ∷ I32Load16S ∷ I32Load16U ∷ I64Load8S ∷ I64Load8U ∷ I64Load16S ∷ I64Load16U ∷ I64Load32S
+    ∷ I64Load32U ∷ []
 
-abbrev comparison_rows : ValType → List Row
-comparison_rows ty =
-    row (eqz_opcode ty) (nothing (Eqz ty)) (of_types (ty ∷ []) (type.I32 ∷ []))
-    ∷ map (compare_row ty) (Eq ∷ Ne ∷ LtS ∷ LtU ∷ GtS ∷ GtU ∷ LeS ∷ LeU ∷ GeS ∷ GeU ∷ [])
+abbrev pub stores : List StoreOp
+stores = I32Store ∷ I64Store ∷ I32Store8 ∷ I32Store16 ∷ I64Store8 ∷ I64Store16 ∷ I64Store32 ∷ []
 
-abbrev operator_rows : ValType → List Row
-operator_rows ty =
-    map (unary_row ty) (Clz ∷ Ctz ∷ Popcnt ∷ [])
-    ++ map (binary_row ty) (Add ∷ Sub ∷ Mul ∷ DivS ∷ DivU ∷ RemS ∷ RemU ∷ And ∷ Or ∷ Xor ∷ Shl ∷ ShrS ∷ ShrU ∷ Rotl ∷ Rotr ∷ [])
+abbrev pub comparisons : List CompareOp
+comparisons = Eq ∷ Ne ∷ LtS ∷ LtU ∷ GtS ∷ GtU ∷ LeS ∷ LeU ∷ GeS ∷ GeU ∷ []
 
-abbrev extension_rows : List Row
-extension_rows = map extend_row (I32Extend8S ∷ I32Extend16S ∷ I64Extend8S ∷ I64Extend16S ∷ I64Extend32S ∷ [])
+abbrev pub unaries : List UnaryOp
+unaries = Clz ∷ Ctz ∷ Popcnt ∷ []
+
+abbrev pub binaries : List BinaryOp
+binaries = Add ∷ Sub ∷ Mul ∷ DivS ∷ DivU ∷ RemS ∷ RemU ∷ And ∷ Or ∷ Xor ∷ Shl ∷ ShrS ∷ ShrU ∷ Rotl ∷ Rotr ∷ []
+
+abbrev pub extensions : List ExtendOp
+extensions = I32Extend8S ∷ I32Extend16S ∷ I64Extend8S ∷ I64Extend16S ∷ I64Extend32S ∷ []
 
 -- ---- the table
 
-abbrev control_rows : List Row
-control_rows =
+-- the rows of instructions that are in no class
+abbrev own_rows : List Row
+own_rows =
     row 0x00 (nothing Unreachable) by_rule
     ∷ row 0x01 (nothing Nop) (of_types [] [])
     ∷ row 0x0C (an_index Br) by_rule
@@ -234,26 +240,25 @@ control_rows =
     ∷ row 0x22 (an_index LocalTee) by_rule
     ∷ row 0x23 (an_index GlobalGet) by_rule
     ∷ row 0x24 (an_index GlobalSet) by_rule
-    ∷ []
-
-abbrev pub rows : List Row
-rows =
-    control_rows
-    ++ access_rows
-    ++ row 0x3F (a_zero MemorySize) (of_types [] (type.I32 ∷ []))
+    ∷ row 0x3F (a_zero MemorySize) (of_types [] (type.I32 ∷ []))
     ∷ row 0x40 (a_zero MemoryGrow) (of_types (type.I32 ∷ []) (type.I32 ∷ []))
     ∷ row 0x41 (an_i32 I32Const) (of_types [] (type.I32 ∷ []))
     ∷ row 0x42 (an_i64 I64Const) (of_types [] (type.I64 ∷ []))
-    ∷ comparison_rows type.I32
-    ++ comparison_rows type.I64
-    ++ operator_rows type.I32
-    ++ operator_rows type.I64
-    ++ row 0xA7 (nothing I32WrapI64) (of_types (type.I64 ∷ []) (type.I32 ∷ []))
+    ∷ row 0xA7 (nothing I32WrapI64) (of_types (type.I64 ∷ []) (type.I32 ∷ []))
     ∷ row 0xAC (nothing I64ExtendI32S) (of_types (type.I32 ∷ []) (type.I64 ∷ []))
     ∷ row 0xAD (nothing I64ExtendI32U) (of_types (type.I32 ∷ []) (type.I64 ∷ []))
-    ∷ extension_rows
-    ++ row 0xFC a_sub_opcode (of_types (type.I32 ∷ type.I32 ∷ type.I32 ∷ []) [])
+    ∷ row 0xFC a_sub_opcode (of_types (type.I32 ∷ type.I32 ∷ type.I32 ∷ []) [])
     ∷ []
+
+abbrev pub groups : List (List Row)
+groups =
+    own_rows ∷ map load_row loads ∷ map store_row stores ∷ map extend_row extensions
+    ∷ (eqz_row type.I32 ∷ map (compare_row type.I32) comparisons) ∷ (eqz_row type.I64 ∷ map (compare_row type.I64) comparisons)
+    ∷ map (unary_row type.I32) unaries ∷ map (unary_row type.I64) unaries
+    ∷ map (binary_row type.I32) binaries ∷ map (binary_row type.I64) binaries ∷ []
+
+abbrev pub rows : List Row
+rows = flat_map (λ group. group) groups
 
 abbrev pub first_row : ℕ → List Row → Option Row
 first_row opcode table = find (λ r. r.opcode == opcode) table

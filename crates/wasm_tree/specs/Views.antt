@@ -2,8 +2,8 @@
 use Rattle.std.specs.Prelude.{List, [], ◌∷◌, Option, Some, None}
 use Rattle.w2c_base.specs.declared.value.ValType.TheVariants as type
 use Rattle.wasm_tree.specs.declared.code.Instr.{Instr}
-use Rattle.wasm_tree.specs.declared.code.Kind.{Kind as RustKind}
-use Rattle.wasm_tree.specs.declared.code.Kind.TheVariants as kind
+use Rattle.wasm_tree.specs.declared.operators.Kind.{Kind as RustKind}
+use Rattle.wasm_tree.specs.declared.operators.Kind.TheVariants as kind
 use Rattle.wasm_tree.specs.declared.code.ElsePart.{ElsePart}
 use Rattle.wasm_tree.specs.Instructions.{Code, end_code, then_code, Kind, Otherwise, no_else, else_code, Unreachable, Nop, Return, Drop}
 use Rattle.wasm_tree.specs.Instructions.{Select, MemorySize, MemoryGrow, MemoryCopy, MemoryFill, Block, Loop, If, Br, BrIf, BrTable, Call}

@@ -105,6 +105,7 @@ pub record WithinLimits (m : Module) : Type 0 where
   pub maxima : AllByRecursion (λ l. IsMaximum l.max) (table_space m ++ memory_space m)
   pub import_names : AllByRecursion (λ i. IsName i.«module» × IsName i.field) m.imports
   pub export_names : AllByRecursion (λ e. IsName e.name) m.exports
+  pub few_elements : length m.elements ≤ most_module_bytes
   pub elements : AllByRecursion (λ e. length e.funcs ≤ most_module_bytes) m.elements
   -- data are bytes
   pub are_bytes : AllByRecursion (λ d. AreBytes d.bytes) m.segments

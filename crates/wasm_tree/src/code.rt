@@ -4,9 +4,10 @@ ghost use Rattle.wasm_tree.specs.Instructions.{end_code};
 ghost use Rattle.wasm_tree.specs.Appended.{◌+>◌, code_length, instr_at};
 ghost use Rattle.wasm_tree.specs.Views.{instr_tree, code_tree};
 
+use crate::operators::Kind;
 use std::alloc::Global;
 use std::marker::Model;
-use w2c_base::{Memory, Sequence, ValType};
+use w2c_base::{Memory, Sequence};
 
 /// Indexes in order, as the labels of a `br_table`.
 pub type Indexes = Sequence<u32>;
@@ -31,134 +32,6 @@ pub struct Code {
 pub struct Instr {
     pub place: u32,
     pub kind: Kind,
-}
-
-/// What an instruction is, with its immediates.
-#[cycle(code)]
-#[derive(Drop)]
-pub enum Kind {
-    Unreachable,
-    Nop,
-    Br(u32),
-    BrIf(u32),
-    BrTable(Indexes, u32),
-    Return,
-    Call(u32),
-    CallIndirect(u32),
-    Drop,
-    Select,
-    LocalGet(u32),
-    LocalSet(u32),
-    LocalTee(u32),
-    GlobalGet(u32),
-    GlobalSet(u32),
-    I32Load(MemArg),
-    I64Load(MemArg),
-    I32Load8S(MemArg),
-    I32Load8U(MemArg),
-    I32Load16S(MemArg),
-    I32Load16U(MemArg),
-    I64Load8S(MemArg),
-    I64Load8U(MemArg),
-    I64Load16S(MemArg),
-    I64Load16U(MemArg),
-    I64Load32S(MemArg),
-    I64Load32U(MemArg),
-    I32Store(MemArg),
-    I64Store(MemArg),
-    I32Store8(MemArg),
-    I32Store16(MemArg),
-    I64Store8(MemArg),
-    I64Store16(MemArg),
-    I64Store32(MemArg),
-    MemorySize,
-    MemoryGrow,
-    MemoryCopy,
-    MemoryFill,
-    I32Const(i32),
-    I64Const(i64),
-    I32Eqz,
-    I32Eq,
-    I32Ne,
-    I32LtS,
-    I32LtU,
-    I32GtS,
-    I32GtU,
-    I32LeS,
-    I32LeU,
-    I32GeS,
-    I32GeU,
-    I64Eqz,
-    I64Eq,
-    I64Ne,
-    I64LtS,
-    I64LtU,
-    I64GtS,
-    I64GtU,
-    I64LeS,
-    I64LeU,
-    I64GeS,
-    I64GeU,
-    I32Clz,
-    I32Ctz,
-    I32Popcnt,
-    I32Add,
-    I32Sub,
-    I32Mul,
-    I32DivS,
-    I32DivU,
-    I32RemS,
-    I32RemU,
-    I32And,
-    I32Or,
-    I32Xor,
-    I32Shl,
-    I32ShrS,
-    I32ShrU,
-    I32Rotl,
-    I32Rotr,
-    I64Clz,
-    I64Ctz,
-    I64Popcnt,
-    I64Add,
-    I64Sub,
-    I64Mul,
-    I64DivS,
-    I64DivU,
-    I64RemS,
-    I64RemU,
-    I64And,
-    I64Or,
-    I64Xor,
-    I64Shl,
-    I64ShrS,
-    I64ShrU,
-    I64Rotl,
-    I64Rotr,
-    I32WrapI64,
-    I64ExtendI32S,
-    I64ExtendI32U,
-    I32Extend8S,
-    I32Extend16S,
-    I64Extend8S,
-    I64Extend16S,
-    I64Extend32S,
-    Block {
-        result: Option<ValType>,
-        code: Code,
-        end_place: u32,
-    },
-    Loop {
-        result: Option<ValType>,
-        code: Code,
-        end_place: u32,
-    },
-    If {
-        result: Option<ValType>,
-        code: Code,
-        otherwise: Option<ElsePart>,
-        end_place: u32,
-    },
 }
 
 /// The second branch of an `if`, with the place of its `else`.
@@ -212,6 +85,13 @@ impl Code {
         Ok(())
     }
 
+    /// Gives back the room that no instruction takes, unless there are many.
+    pub fn fit(&mut self)
+        ensures { self.new ≡ self.old }
+    {
+        fit_short(&mut self.list);
+    }
+
     /// The number of instructions, those inside others not counted.
     pub fn len(&self) -> usize
         ensures { result ≡ code_length self.now }
@@ -232,6 +112,15 @@ impl Code {
         ensures { code_tree result.now ≡ self.now }
     {
         self.list.as_slice()
+    }
+}
+
+// Gives back the room that no item takes. A long list would stand twice while it is moved, and most of its room was never touched.
+fn fit_short<T>(list: &mut Vec<T>)
+    ensures { list.new.items ≡ list.old.items }
+{
+    if list.len() <= 1024 {
+        list.shrink_to_fit();
     }
 }
 

@@ -10,7 +10,7 @@ mod opcodes;
 mod operators;
 mod tree;
 
-pub use code::{Code, ElsePart, Indexes, Instr, Kind, MemArg};
+pub use code::{Code, ElsePart, Indexes, Instr, MemArg};
 pub use defined::bodies_stand_behind_imports;
 pub use entries::{
     BodyEntries, BodyEntry, DataCount, ElementEntries, ElementEntry, Export, ExportKind, Exports,
@@ -25,7 +25,7 @@ pub use opcodes::{
     MEMORY_GROW, MEMORY_SIZE, Op, PREFIX,
 };
 pub use operators::{
-    Access, AccessOp, BinaryOp, CompareOp, ExtendOp, IndexOp, LoadOp, Numeric, Parts, Simple,
+    Access, AccessOp, BinaryOp, CompareOp, ExtendOp, IndexOp, Kind, LoadOp, Numeric, Parts, Simple,
     StoreOp, UnaryOp,
 };
 pub use tree::Module;

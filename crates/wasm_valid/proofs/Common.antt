@@ -1,66 +1,34 @@
 -- What proofs of this crate cite of std, of the crates below and of specs/, passed on from one place. Declares nothing.
-pub use Rattle.std.proofs.Common.{◌≡◌, ℕ, zero, suc, ◌+◌, ◌-◌, ◌*◌, ◌^◌, ◌<◌, ◌≤◌, Bool, true, false, not, ◌&&◌, ◌||◌, ◌⊎◌, List, [], ◌∷◌}
-pub use Rattle.std.proofs.Common.{◌++◌, map, reverse, length, get_or, take, drop, replicate, is_some, is_none, OnOk, nat_le, slice_get}
-pub use Rattle.std.proofs.Common.{Some, None, Ok, Err, Option, Result, option_map, zip, flat_map, option_copied, bytes_eq, nat_cmp, sym}
-pub use Rattle.std.proofs.Common.{refl, ap, ◌∙◌, subst, inl, inr, ⊎_elim, append_assoc, append-nil, add_assoc, add-one, arith}
-pub use Rattle.std.proofs.Common.{length-append, drop-cons, take-suc, pow_mono, Bor, rules, tests}
-pub use Rattle.std.proofs.lemmas.Bool.{cases_lt, lt-leb}
+pub use Rattle.std.proofs.Common.{◌≡◌, ℕ, suc, ◌+◌, ◌<◌, ◌≤◌, Bool, true, false, not, ◌||◌, ◌⊎◌, List, [], ◌∷◌, ◌++◌, map, length, get_or}
+pub use Rattle.std.proofs.Common.{take, drop, is_none, slice_get, Some, None, Ok, Err, Option, option_map, zip, flat_map, option_copied}
+pub use Rattle.std.proofs.Common.{bytes_eq, nat_cmp, sym, refl, ap, ◌∙◌, subst, inl, inr, append_assoc, append-nil, add-one, arith}
+pub use Rattle.std.proofs.Common.{drop-cons, take-suc, Bor}
 pub use Rattle.std.proofs.lemmas.Bool.Decides.{nat_tests}
 pub use Rattle.std.proofs.lemmas.Grind.{flat_map-append}
-pub use Rattle.std.proofs.lemmas.List.{drop_all, drop_more, replicate-append-replicate}
-pub use Rattle.std.proofs.lemmas.List.Folds.{flat_map-map, list_any-append, list_any_more}
-pub use Rattle.std.proofs.lemmas.Option.{slice_get-map, same_Some}
+pub use Rattle.std.proofs.lemmas.List.Folds.{flat_map-map, list_any_more}
 pub use Rattle.std.specs.Iterator.Adapters.{zip_first, zip_second}
-pub use Rattle.std.specs.List.{AllByRecursion, list_any}
+pub use Rattle.std.specs.List.{list_any}
 pub use Rattle.std.specs.Slice.Iter.{iter_rest}
-pub use Rattle.w2c_base.proofs.Places.{get_front, some_first}
 pub use Rattle.w2c_base.specs.declared.signature.FuncType.{FuncType}
 pub use Rattle.w2c_base.specs.declared.value.ValType.{ValType}
-pub use Rattle.w2c_base.specs.declared.value.ValType.TheVariants.{I32, I64}
-pub use Rattle.wasm_tree.specs.Accesses.{load_width, store_width}
-pub use Rattle.wasm_tree.specs.IndexSpaces.{declared_locals, func_of_import, func_space, global_of_import, global_space, memory_of_import}
-pub use Rattle.wasm_tree.specs.IndexSpaces.{memory_space, table_of_import, table_space, type_in}
-pub use Rattle.wasm_tree.specs.InstructionTable.{Typing, by_rule, of_types}
-pub use Rattle.wasm_tree.specs.Instructions.{Block, Br, BrIf, BrTable, Call, CallIndirect, Code, Drop, GlobalGet, GlobalSet, I32Const}
-pub use Rattle.wasm_tree.specs.Instructions.{I64Const, If, Kind, Load, LocalGet, LocalSet, LocalTee, Loop, MemoryCopy, MemoryFill}
-pub use Rattle.wasm_tree.specs.Instructions.{MemoryGrow, MemorySize, Otherwise, Return, Select, Store, Unreachable, else_code, end_code}
-pub use Rattle.wasm_tree.specs.Instructions.{no_else, then_code}
-pub use Rattle.wasm_tree.specs.Parts.{access_tree, index_tree, numeric_tree, parts_of, simple_tree}
-pub use Rattle.wasm_tree.specs.Size.{code_size, kind_size, otherwise_size}
-pub use Rattle.wasm_tree.specs.Views.{code_tree, kind_tree, otherwise_tree}
-pub use Rattle.wasm_tree.specs.declared.code.ElsePart.{ElsePart}
+pub use Rattle.wasm_tree.specs.IndexSpaces.{declared_locals, func_space, global_space, memory_space, table_space, type_in}
+pub use Rattle.wasm_tree.specs.Instructions.{Code, GlobalGet, I32Const, I64Const, Kind, then_code}
+pub use Rattle.wasm_tree.specs.Views.{code_tree, kind_tree}
 pub use Rattle.wasm_tree.specs.declared.code.Instr.{Instr}
-pub use Rattle.wasm_tree.specs.declared.code.Kind.{Kind as RustKind}
 pub use Rattle.wasm_tree.specs.declared.entries.BodyEntry.{BodyEntry}
-pub use Rattle.wasm_tree.specs.declared.operators.IndexOp.{IndexOp}
 pub use Rattle.wasm_tree.specs.declared.tree.Module.{Module}
-pub use Rattle.wasm_typing.specs.BodyFault.{FirstBodyFault, body_tokens, cause_of, else_tokens, first_cause, kind_tokens, misaligned}
-pub use Rattle.wasm_typing.specs.BodyFault.{plain_token, tokens}
-pub use Rattle.wasm_typing.specs.Completion.{closing, completed, completed_else, completed_kind, else_token_count, kind_token_count}
-pub use Rattle.wasm_typing.specs.Completion.{token_count}
-pub use Rattle.wasm_typing.specs.Context.{Context, Labels, body_context, context_of}
+pub use Rattle.wasm_typing.specs.BodyFault.{FirstBodyFault}
+pub use Rattle.wasm_typing.specs.Context.{Context, body_context, context_of}
 pub use Rattle.wasm_typing.specs.ModuleFaults.{duplicate_exports, fault_if, is_no_first, is_out, min_above_max, module_faults, neither}
 pub use Rattle.wasm_typing.specs.ModuleFaults.{shape_of, too_many_pages, unknown_export, unknown_import_type}
-pub use Rattle.wasm_typing.specs.Typing.{BodyHasType, ElseHasType, HasMemory, HasTable, HasType, KindHasType, Leaves, Stack, Turns}
-pub use Rattle.wasm_typing.specs.Typing.{TurnsAsTabled, table_type, values}
+pub use Rattle.wasm_typing.specs.Typing.{BodyHasType}
 pub use Rattle.wasm_typing.specs.Verdict.{Accepted, AreTyped, Bodies, FaultOfBody, FaultsOfBodies, Invalid, IsTyped, IsValid, Outcome}
 pub use Rattle.wasm_typing.specs.Verdict.{Verdict, bodies_of, first_fault, outcome_of, sooner}
 pub use Rattle.wasm_typing.specs.declared.fault.Fault.{Fault}
 pub use Rattle.wasm_typing.specs.declared.fault.ValidCause.{ValidCause}
 pub use Rattle.wasm_typing.specs.declared.fault.ValidRefusal.{ValidRefusal}
-pub use Rattle.wasm_valid.specs.Checker.{Operands, Ran, Refusal, all_labels, and_then, anything, at_end, check, chosen, closes, common}
-pub use Rattle.wasm_valid.specs.Checker.{empties, first_end, give, has_memory, has_table, is_label, jump, later, no_result, nothing, on}
-pub use Rattle.wasm_valid.specs.Checker.{on_some, or_refuse, pop_any, pop_type, pop_types, push_types, refusal, run, run_else, run_kind}
-pub use Rattle.wasm_valid.specs.Checker.{step, turn, turn_tabled, when}
+pub use Rattle.body_check.specs.Checker.{Operands, check, refusal}
 pub use Rattle.wasm_valid.specs.Entered.{entered, kept}
-pub use Rattle.wasm_valid.specs.EnteredBodies.{EntersBodies, EntersBody, body_context_seen, typed_context_seen}
+pub use Rattle.wasm_valid.specs.EnteredBodies.{EntersBodies, EntersBody, body_context_seen}
+pub use Rattle.body_check.specs.Seen.{typed_context_seen, AreSpacesOf, type_seen}
 pub use Rattle.wasm_valid.specs.Expressions.{element_offset, expression_fault, initial_of, segment_offset}
-pub use Rattle.wasm_valid.specs.Needs.{needs_of, row_cause, row_step, unmet, where_met}
-pub use Rattle.wasm_valid.specs.Plain.{Does, Plain}
-pub use Rattle.wasm_valid.specs.PlainParts.{any_missing}
-pub use Rattle.wasm_valid.specs.RanTo.{RanTo, Stays, all_placed, labels_of, run_block, run_nested, seen}
-pub use Rattle.wasm_valid.specs.Seen.{AreSpacesOf, type_seen}
-pub use Rattle.wasm_valid.specs.Shown.{Keeps, Steps, bottom, pile, popped, shown}
-pub use Rattle.wasm_valid.specs.declared.numeric.Needs.TheVariants.{Access, Nothing}
-pub use Rattle.wasm_valid.specs.declared.operand.Operand.{Operand}
-pub use Rattle.wasm_valid.specs.declared.stop.Stop.{Stop}

@@ -5,9 +5,9 @@ use Rattle.wasm_valid.proofs.Common.{global_space, memory_space, table_space, Bo
 use Rattle.wasm_valid.proofs.Common.{context_of, entered, EntersBodies, EntersBody, body_context_seen, typed_context_seen, module_faults}
 use Rattle.wasm_valid.proofs.Common.{AreSpacesOf, type_seen, Bodies, FaultsOfBodies, Verdict, bodies_of, outcome_of, Fault}
 use Rattle.wasm_tree.specs.declared.entries.FuncEntry.{FuncEntry}
-use Rattle.wasm_valid.specs.declared.context.Spaces.{Spaces}
+use Rattle.body_check.specs.declared.context.Spaces.{Spaces}
 use Rattle.wasm_valid.proofs.Entered.{entered-append, entered-first}
-use Rattle.wasm_valid.proofs.FirstFaults.{Tells, check_tells}
+use Rattle.body_check.proofs.FirstFaults.{Tells, check_tells}
 
 -- what is seen is the context
 same_context : (s : Spaces) (m : Module) (body : BodyEntry) (ty : FuncType) → AreSpacesOf s m

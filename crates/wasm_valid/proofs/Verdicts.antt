@@ -3,7 +3,7 @@ use Rattle.wasm_valid.proofs.Common.{◌≡◌, ◌⊎◌, List, [], ◌∷◌, 
 use Rattle.wasm_valid.proofs.Common.{FirstBodyFault, Context, body_context, module_faults, BodyHasType, Accepted, AreTyped, Bodies}
 use Rattle.wasm_valid.proofs.Common.{FaultOfBody, FaultsOfBodies, Invalid, IsTyped, IsValid, Outcome, Verdict, bodies_of, first_fault}
 use Rattle.wasm_valid.proofs.Common.{outcome_of, Fault}
-use Rattle.wasm_valid.proofs.FirstFaults.{one_or_other, exclusive, one_fault}
+use Rattle.body_check.proofs.FirstFaults.{one_or_other, exclusive, one_fault}
 
 faults_of_body : (o : Option Context) (body : BodyEntry) → (faults : List Fault) × FaultOfBody o body faults
 faults_of_body None body = ([], refl)

@@ -1,20 +1,14 @@
 -- What is entered of bodies: the faults that they have.
-use Rattle.std.specs.Prelude.{◌≡◌, List, ◌++◌, Option, option_map}
-use Rattle.w2c_base.specs.declared.signature.FuncType.{FuncType}
+use Rattle.std.specs.Prelude.{◌≡◌, List, Option, option_map}
 use Rattle.wasm_tree.specs.declared.tree.Module.{Module}
 use Rattle.wasm_tree.specs.declared.entries.FuncEntry.{FuncEntry}
 use Rattle.wasm_tree.specs.declared.entries.BodyEntry.{BodyEntry}
-use Rattle.wasm_tree.specs.IndexSpaces.{declared_locals}
 use Rattle.wasm_typing.specs.declared.fault.Fault.{Fault}
 use Rattle.wasm_typing.specs.Context.{Context}
 use Rattle.wasm_typing.specs.Verdict.{Bodies, FaultOfBody, FaultsOfBodies}
-use Rattle.wasm_valid.specs.declared.context.Spaces.{Spaces}
+use Rattle.body_check.specs.declared.context.Spaces.{Spaces}
 use Rattle.wasm_valid.specs.Entered.{entered}
-use Rattle.wasm_valid.specs.Seen.{type_seen, context_seen}
-
--- the context of a body of a function of this type
-abbrev pub typed_context_seen : Spaces → BodyEntry → FuncType → Context
-typed_context_seen s body ty = context_seen s (ty.params ++ declared_locals body.runs) ty.result
+use Rattle.body_check.specs.Seen.{type_seen, typed_context_seen}
 
 -- the context of a function's body. None where the function has no type
 abbrev pub body_context_seen : Spaces → FuncEntry → BodyEntry → Option Context

@@ -11,7 +11,7 @@ use Rattle.wasm_typing.specs.declared.fault.Fault.{Fault}
 use Rattle.wasm_typing.specs.declared.fault.ValidCause.TheVariants as cause
 use Rattle.wasm_typing.specs.ModuleFaults.{fault_if, Expression, Shape, constant, got, got_unknown, neither, shape_of, is_no_constant}
 use Rattle.wasm_typing.specs.ModuleFaults.{is_got_unknown, has_other_type}
-use Rattle.wasm_valid.specs.declared.context.Spaces.{Spaces}
+use Rattle.body_check.specs.declared.context.Spaces.{Spaces}
 use Rattle.wasm_valid.specs.declared.expressions.Reach.{Reach}
 use Rattle.wasm_valid.specs.declared.expressions.Reach.TheVariants.{Imported, All}
 use Rattle.wasm_valid.specs.declared.expressions.Shape.{Shape as RustShape}

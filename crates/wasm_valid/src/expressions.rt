@@ -1,12 +1,12 @@
 // The faults of initial and offset expressions (WebAssembly Core 1.0, 3.3.7).
 ghost use Rattle.std.specs.Prelude.{◌≡◌, flat_map, slice_get};
 ghost use Rattle.wasm_typing.specs.ModuleFaults.{expressions, shape_of, shape_of_global, is_no_constant, is_got_unknown, has_other_type};
-ghost use Rattle.wasm_valid.specs.Seen.{AreSpacesOf};
+ghost use Rattle.body_check.specs.Seen.{AreSpacesOf};
 ghost use Rattle.wasm_valid.specs.Entered.{entered};
 ghost use Rattle.wasm_valid.specs.Expressions.{shape_seen, globals_reached, shape_fault, expression_fault, initial_of, element_offset, segment_offset};
 
-use crate::context::Spaces;
 use crate::first::FirstFault;
+use body_check::Spaces;
 use w2c_base::ValType;
 use wasm_tree::{Code, Kind, Module};
 use wasm_typing::ValidCause;

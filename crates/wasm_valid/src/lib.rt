@@ -1,20 +1,12 @@
 //! Validation of modules: whether a module keeps the typing rules, and the first fault of one that breaks them.
 #![tactic(auto)]
 
-mod body;
-mod context;
 mod expressions;
 mod first;
 mod laws;
-mod numeric;
-mod operand;
-mod operands;
-mod plain;
 mod rows;
-mod stop;
 mod valid;
 
-pub use context::Spaces;
 pub use laws::{
     each_body_has_a_typing_or_one_first_fault, each_file_has_one_verdict,
     each_module_has_one_verdict,

@@ -4,12 +4,12 @@ ghost use Rattle.wasm_tree.specs.declared.tree.Module.{Module as Tree};
 ghost use Rattle.wasm_tree.specs.IndexSpaces.{type_in, table_space, memory_space, func_space};
 ghost use Rattle.wasm_typing.specs.declared.fault.ValidCause.TheVariants as causes;
 ghost use Rattle.wasm_typing.specs.ModuleFaults.{fault_if, is_out, is_no_first, module_faults, unknown_import_type, too_many, min_above_max, too_many_pages, unknown_export, duplicate_exports, start_faults, unknown_elements};
-ghost use Rattle.wasm_valid.specs.Seen.{type_seen, AreSpacesOf};
+ghost use Rattle.body_check.specs.Seen.{type_seen, AreSpacesOf};
 ghost use Rattle.wasm_valid.specs.Entered.{entered};
 
-use crate::context::Spaces;
 use crate::expressions::{ExpressionRow, enter_expressions};
 use crate::first::FirstFault;
+use body_check::Spaces;
 use std::alloc::Global;
 use std::collections::BTreeSet;
 use w2c_base::Memory;

@@ -5,13 +5,12 @@ ghost use Rattle.wasm_typing.specs.declared.fault.Fault.{Fault as OneFault};
 ghost use Rattle.wasm_typing.specs.declared.fault.ValidRefusal.TheVariants.{Invalid as refused_by, Memory as memory_wanted};
 ghost use Rattle.wasm_typing.specs.Verdict.{Verdict, Invalid, IsValid, bodies_of};
 ghost use Rattle.wasm_valid.specs.SaysVerdict.{SaysVerdict};
-ghost use Rattle.wasm_valid.specs.Seen.{AreSpacesOf};
+ghost use Rattle.body_check.specs.Seen.{AreSpacesOf};
 ghost use Rattle.wasm_valid.specs.EnteredBodies.{body_context_seen, EntersBody, EntersBodies};
 
-use crate::body::check_body;
-use crate::context::Spaces;
 use crate::first::FirstFault;
 use crate::rows::enter_module_faults;
+use body_check::{Spaces, check_body};
 use std::alloc::Global;
 use w2c_base::Memory;
 use wasm_tree::{BodyEntry, FuncEntry, Module};

@@ -1,6 +1,6 @@
-use Rattle.c_helpers.proofs.Common.{◌≡◌, ◌+◌, ◌≤◌, OnOk, sym, ap, ◌∙◌, subst, arith, on_ok_weaker, code_size, kind_size, otherwise_size}
-use Rattle.c_helpers.proofs.Common.{code_tree, kind_tree, otherwise_tree, instr_smaller, HasMore, any_inside, calls}
-use Rattle.wasm_tree.specs.declared.code.Kind.{Kind}
+use Rattle.c_helpers.proofs.Common.{◌≡◌, ◌+◌, ◌≤◌, sym, ap, ◌∙◌, subst, arith, code_size, kind_size, otherwise_size}
+use Rattle.c_helpers.proofs.Common.{code_tree, kind_tree, otherwise_tree, instr_smaller, HasMore, any_inside, calls_helper}
+use Rattle.wasm_tree.specs.declared.operators.Kind.{Kind}
 use Rattle.c_helpers.proofs.CalledHelpers.{code_next, code_stops, code_through, more_behind}
 use Rattle.c_helpers.proofs.needs.+needs.Goals as goal
 
@@ -14,35 +14,32 @@ enter_code-enter_inside-requires t c =
 
 pub enter_inside-returns-in-If : goal.enter_inside-returns-in-If
 enter_inside-returns-in-If t c =
-    subst (λ (k : Kind). OnOk c.enter_branches.result
-    (HasMore c.enter_branches.new.table c.args.table.now (λ name. any_inside (calls name) (kind_tree k)))) (sym c.in-If.is)
-    c.enter_branches.ensures
+    subst (λ (k : Kind). HasMore c.enter_branches.new.marks c.args.marks.now (λ q. any_inside (calls_helper q) (kind_tree k)))
+    (sym c.in-If.is) c.enter_branches.ensures
 
 pub enter_branches-returns : goal.enter_branches-returns
 enter_branches-returns t c =
-    on_ok_weaker c.enter_else.result
-    (more_behind c.enter_else.new.table c.enter_code.new.table c.args.table.now _ _ c.in_ok-enter_code.ensures)
-    c.enter_else.ensures
+    more_behind c.enter_else.new.marks c.enter_code.new.marks c.args.marks.now _ _ c.enter_code.ensures c.enter_else.ensures
 
 pub enter_code-loop-instr-preserved : goal.enter_code-loop-instr-preserved
 enter_code-loop-instr-preserved t c =
-    code_next c.loop-instr.table c.enter.new.table c.enter_inside.new.table c.args.table.now c.as_slice-instr-items.result.now
+    code_next c.loop-instr.marks c.enter.new.marks c.enter_inside.new.marks c.args.marks.now c.as_slice-instr-items.result.now
     c.loop-instr.instr-index
     c.instr-item.result c.args.code.now c.loop-instr-test.true c.instr-item.is c.helper_for.result c.helper_for.ensures
-    c.in_ok-enter.ensures c.in_ok-enter_inside.ensures
+    c.enter.ensures c.enter_inside.ensures
     c.loop-instr.invariant (sym c.ends.ensures ∙ c.if-ends.false)
 
 pub enter_code-returns-then-ends : goal.enter_code-returns-then-ends
 enter_code-returns-then-ends t c =
-    code_stops c.loop-instr.table c.enter.new.table c.enter_inside.new.table c.args.table.now c.as_slice-instr-items.result.now
+    code_stops c.loop-instr.marks c.enter.new.marks c.enter_inside.new.marks c.args.marks.now c.as_slice-instr-items.result.now
     c.loop-instr.instr-index
     c.instr-item.result c.args.code.now c.loop-instr-test.true c.instr-item.is c.helper_for.result c.helper_for.ensures
-    c.in_ok-enter.ensures c.in_ok-enter_inside.ensures
+    c.enter.ensures c.enter_inside.ensures
     c.loop-instr.invariant (sym c.ends.ensures ∙ c.if-ends.true)
 
 pub enter_code-returns : goal.enter_code-returns
 enter_code-returns t c =
-    code_through c.loop-instr.table c.args.table.now c.as_slice-instr-items.result.now c.loop-instr.instr-index c.args.code.now
+    code_through c.loop-instr.marks c.args.marks.now c.as_slice-instr-items.result.now c.loop-instr.instr-index c.args.code.now
     c.loop-instr-test.false c.loop-instr.invariant
 
 pub enter_else-enter_code-requires : goal.enter_else-enter_code-requires

@@ -16,4 +16,4 @@ decreases-enter_inside l = 4 * kind_size (kind_tree l.kind.now) + 2
 
 -- what was entered, and what is left
 abbrev pub invariant-enter_code-loop-instr : goal.invariant-enter_code-loop-instr
-invariant-enter_code-loop-instr l = EntersCode l.table l.initial.table (code_tree (drop l.instr-index l.instr-items)) l.code
+invariant-enter_code-loop-instr l = EntersCode l.marks l.initial.marks (code_tree (drop l.instr-index l.instr-items)) l.code

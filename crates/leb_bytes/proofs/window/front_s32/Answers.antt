@@ -1,16 +1,15 @@
-use Rattle.leb_bytes.proofs.Common.{◌≡◌, ◌^◌, ℤ, pos, ◌-ℤ◌, ◌≤ℤ◌, ◌<ℤ◌, Ok, Err, sym, ap, ◌∙◌, arith, w32, w64, to_z, of_z, ints}
+use Rattle.leb_bytes.proofs.Common.{ℤ, Ok, sym, subst, ap, ◌∙◌, w32, to_z, of_z, AnswersSigned}
 use Rattle.leb_bytes.proofs.Numbers.{s32_of-complete}
+use Rattle.leb_bytes.proofs.OneByte.{kept_32, with_sign_32}
 use Rattle.leb_bytes.proofs.window.front_s32.Goals as goal
 
--- a number in range is kept by the casts
-kept : (n : ℤ) → (pos 0 -ℤ pos (2 ^ 31)) ≤ℤ n → n <ℤ pos (2 ^ 31) → to_z w32 (of_z w32 (to_z w64 (of_z w64 n))) ≡ n
-kept n low high = omega (arith, ints)
+pub returns-in-Some-clause-exact : goal.returns-in-Some-clause-exact
+returns-in-Some-clause-exact c =
+    let is = c.in-Some.ensures in
+    subst (λ (n : ℤ). AnswersSigned 32 c.args.window.now (Ok (n, 1)))
+    (sym (ap (λ (n : ℤ). to_z w32 (of_z w32 n)) c.from.ensures ∙ kept_32 c.in-Some.byte is.0))
+    (with_sign_32 c.args.window.now c.in-Some.byte is.0 is.1 is.2)
 
-pub returns-in-Ok-clause-computed : goal.returns-in-Ok-clause-computed
-returns-in-Ok-clause-computed c =
-    let a = c.in-Ok.ensures.exact in
-    ap (λ n. Ok (n, c.in-Ok.count)) (kept c.in-Ok.number a.1.low a.1.high)
-    ∙ sym (s32_of-complete c.args.window.now (Ok (c.in-Ok.number, c.in-Ok.count)) a)
-
-pub returns-in-Err-clause-computed : goal.returns-in-Err-clause-computed
-returns-in-Err-clause-computed c = sym (s32_of-complete c.args.window.now (Err c.in-Err.fault) c.in-Err.ensures.exact)
+pub returns-in-Some-clause-computed : goal.returns-in-Some-clause-computed
+returns-in-Some-clause-computed c =
+    sym (s32_of-complete c.args.window.now (Ok (to_z w32 (of_z w32 c.from.result), 1)) (returns-in-Some-clause-exact c))

@@ -24,6 +24,7 @@ instructions-returns-in-Closed t c =
     is_done c.args.room c.args.may_else l.code (at l.ahead) (ender_of c.in-Closed.ender) (at c.in_ok-item.after)
     (code_at c.args.room c.args.may_else (at c.args.rest))
     (c.in_ok-item.ensures ∙ ap (λ (i : Item). Ok (item_of i, at c.in_ok-item.after)) c.in-Closed.is) l.invariant
+    ∙ ap (λ (code : Code). Ok ((code, ender_of c.in-Closed.ender), at c.in_ok-item.after)) (sym c.fit.ensures)
 
 pub instructions-loop-code-smaller : goal.instructions-loop-code-smaller
 instructions-loop-code-smaller t c =

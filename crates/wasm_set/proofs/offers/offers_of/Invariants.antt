@@ -1,5 +1,5 @@
 use Rattle.std.proofs.Common.{drop}
-use Rattle.wasm_valid.specs.Seen.{AreSpacesOf}
+use Rattle.body_check.specs.Seen.{AreSpacesOf}
 use Rattle.wasm_set.proofs.Entering.{Enters}
 use Rattle.wasm_set.proofs.offers.offers_of.Given as goal
 

@@ -1,4 +1,4 @@
-use Rattle.wasm_valid.proofs.FirstFaults.{one_or_other, exclusive, one_fault}
+use Rattle.body_check.proofs.FirstFaults.{one_or_other, exclusive, one_fault}
 use Rattle.wasm_valid.proofs.laws.each_body_has_a_typing_or_one_first_fault.Goals as goal
 
 pub returns-clause-either : goal.returns-clause-either

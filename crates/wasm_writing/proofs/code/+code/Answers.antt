@@ -1,6 +1,6 @@
 use Rattle.wasm_writing.proofs.Common.{Option, sym, ap, ◌∙◌, subst, kind_tree, byte, instr_fields, Puts}
-use Rattle.wasm_tree.specs.declared.code.Kind.{Kind as RustKind}
-use Rattle.wasm_tree.specs.declared.code.Kind.TheVariants as kind
+use Rattle.wasm_tree.specs.declared.operators.Kind.{Kind as RustKind}
+use Rattle.wasm_tree.specs.declared.operators.Kind.TheVariants as kind
 use Rattle.wasm_tree.specs.declared.code.ElsePart.{ElsePart}
 use Rattle.wasm_writing.proofs.Codes.{instrs_more, puts_access, puts_block, puts_branches, puts_index, puts_no_room, puts_numeric}
 use Rattle.wasm_writing.proofs.Codes.{puts_simple}

@@ -1,6 +1,6 @@
 use Rattle.c_body.proofs.Common.{◌≡◌, ℕ, ◌+◌, ◌≤◌, refl, ap, ◌∙◌, subst, arith, no_else, code_size, kind_size, otherwise_size, code_tree}
 use Rattle.c_body.proofs.Common.{kind_tree, otherwise_tree, instr_smaller, setting_of, Inside, Made, ran, made_by, KindIsReady}
-use Rattle.wasm_tree.specs.declared.code.Kind.{Kind}
+use Rattle.wasm_tree.specs.declared.operators.Kind.{Kind}
 use Rattle.body_emitter.proofs.Stacks.{keeps_then}
 use Rattle.body_emitter.proofs.Insides.{inside_kept, floor_below}
 use Rattle.c_body.proofs.Branched.{on_ok, branched, in_a_block, in_a_loop, one_branch, ran_more}

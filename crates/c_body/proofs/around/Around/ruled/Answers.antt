@@ -1,5 +1,5 @@
 use Rattle.c_body.proofs.Common.{◌≡◌, OnOk, Result, sym, subst, kind_tree, setting_of, Made, ran_plain, made_by, Setting}
-use Rattle.wasm_tree.specs.declared.code.Kind.{Kind}
+use Rattle.wasm_tree.specs.declared.operators.Kind.{Kind}
 use Rattle.c_body.proofs.OneKind.{by_no_rule}
 use Rattle.c_body.proofs.around.Around.ruled.Goals as goal
 

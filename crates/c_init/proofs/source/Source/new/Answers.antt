@@ -1,10 +1,14 @@
 use Rattle.std.proofs.Common.{sym}
 use Rattle.c_init.proofs.Countable.{few_entries}
+use Rattle.c_init.proofs.FewParts.{few_parts}
 use Rattle.c_init.proofs.source.Source.new.Goals as goal
 
 pub invariant_of-result-clause-few_entries : goal.invariant_of-result-clause-few_entries
 invariant_of-result-clause-few_entries c =
     few_entries c.module-tree.result.now c.module-tree.ensures.valid c.module-tree.ensures.within
+
+pub invariant_of-result-clause-few_parts : goal.invariant_of-result-clause-few_parts
+invariant_of-result-clause-few_parts c = few_parts c.module-tree.result.now c.module-tree.ensures.within
 
 pub invariant_of-result-clause-spaces_are : goal.invariant_of-result-clause-spaces_are
 invariant_of-result-clause-spaces_are c = c.in_ok-spaces.ensures

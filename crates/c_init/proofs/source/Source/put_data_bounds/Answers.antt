@@ -1,4 +1,4 @@
-use Rattle.c_init.proofs.Common.{◌++◌, map, codes, ap, ◌∙◌, stmt_of, NamedModule, memory_arg, n64, place_expr, test_bounds, test_data}
+use Rattle.c_init.proofs.Common.{◌++◌, map, codes, refl, ap, ◌∙◌, stmt_of, NamedModule, memory_arg, n64, place_expr, test_bounds, test_data}
 use Rattle.c_tree.specs.Tree as tree
 use Rattle.c_init.proofs.Numberings.{put_at}
 use Rattle.c_init.proofs.source.Source.put_data_bounds.Goals as goal
@@ -8,7 +8,7 @@ loop-segment-preserved c =
     let m = c.args.self.now.tree.now in
     let before = map stmt_of c.loop-segment.stmts in
     let place = place_expr m c.segment-item.result.offset in
-    put_at m.segments c.as_slice-segment-items.result.now c.as_slice-segment-items.ensures c.loop-segment.segment-index
+    put_at c.args.segments.now c.args.segments.now refl c.loop-segment.segment-index
     c.segment-item.result c.loop-segment-test.true c.segment-item.is (test_data m) before (map stmt_of c.put_bounds.new.stmts) _
     (c.in_ok-put_bounds.ensures
     ∙ ap (λ (a : tree.Arg). before ++ test_bounds (codes "w2c_mem_len") a (place (n64 c.len.result)))

@@ -1,4 +1,5 @@
-use Rattle.c_init.proofs.Common.{◌++◌, map, codes, ap, ◌∙◌, stmt_of, NamedModule, table_arg, n64, place_expr, test_bounds, test_elements}
+use Rattle.c_init.proofs.Common.{◌++◌, map, codes, refl, ap, ◌∙◌, stmt_of, NamedModule, table_arg, n64, place_expr, test_bounds}
+use Rattle.c_init.proofs.Common.{test_elements}
 use Rattle.c_tree.specs.Tree as tree
 use Rattle.c_init.proofs.Numberings.{put_at}
 use Rattle.c_init.proofs.source.Source.put_element_bounds.Goals as goal
@@ -8,7 +9,7 @@ loop-element-preserved c =
     let m = c.args.self.now.tree.now in
     let before = map stmt_of c.loop-element.stmts in
     let place = place_expr m c.element-item.result.offset in
-    put_at m.elements c.as_slice-element-items.result.now c.as_slice-element-items.ensures c.loop-element.element-index
+    put_at c.args.elements.now c.args.elements.now refl c.loop-element.element-index
     c.element-item.result c.loop-element-test.true c.element-item.is (test_elements m) before (map stmt_of c.put_bounds.new.stmts) _
     (c.in_ok-put_bounds.ensures
     ∙ ap (λ (a : tree.Arg). before ++ test_bounds (codes "w2c_tab_len") a (place (n64 c.len.result)))

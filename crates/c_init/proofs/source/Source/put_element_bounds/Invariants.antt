@@ -3,5 +3,5 @@ use Rattle.c_init.proofs.source.Source.put_element_bounds.Given as goal
 
 abbrev pub invariant-loop-element : goal.invariant-loop-element
 invariant-loop-element l = map stmt_of l.stmts ++ flat_map (test_elements l.self.tree.now)
-    (drop l.element-index l.self.tree.now.elements) ≡ map stmt_of l.fn.stmts ++ flat_map (test_elements l.self.tree.now)
-    l.self.tree.now.elements
+    (drop l.element-index l.elements) ≡ map stmt_of l.fn.stmts ++ flat_map (test_elements l.self.tree.now)
+    l.elements

@@ -1,17 +1,17 @@
-use Rattle.c_unit.proofs.Common.{◌≡◌, IfOk, option_map, ap, subst, Function, item_of, module_of, from_init}
+use Rattle.c_unit.proofs.Common.{◌≡◌, IfOk, option_map, ap, subst, Function, item_of, module_of, from_parts}
 use Rattle.c_unit.proofs.Standing.{stands_at, stands_past, exports_listed}
 use Rattle.c_unit.proofs.unit_items.UnitItems.at_exports.Goals as goal
 
 pub returns-in_ok-export_func-in-Some : goal.returns-in_ok-export_func-in-Some
 returns-in_ok-export_func-in-Some c =
     stands_at (exports_listed (module_of c.args.self.now.source))
-    (from_init (module_of c.args.self.now.source)) c.as_slice-exports.result.now c.args.n _ _ c.as_slice-exports.ensures
+    (from_parts (module_of c.args.self.now.source)) c.as_slice-exports.result.now c.args.n _ _ c.as_slice-exports.ensures
     c.in-Some.ensures.lookup.3.0 c.in-Some.ensures.lookup.1 (ap Function c.in_ok-export_func-in-Some.ensures)
 
 pub returns-in-None : goal.returns-in-None
 returns-in-None c =
-    subst (λ found. IfOk c.at_init.result (λ item. option_map item_of item ≡ found))
+    subst (λ found. IfOk c.at_parts.result (λ item. option_map item_of item ≡ found))
     (stands_past (exports_listed (module_of c.args.self.now.source))
-    (from_init (module_of c.args.self.now.source)) c.as_slice-exports.result.now c.args.n c.saturating_sub.result
+    (from_parts (module_of c.args.self.now.source)) c.as_slice-exports.result.now c.args.n c.saturating_sub.result
     c.as_slice-exports.ensures c.saturating_sub.ensures c.in-None.ensures.lookup.3)
-    c.at_init.ensures
+    c.at_parts.ensures

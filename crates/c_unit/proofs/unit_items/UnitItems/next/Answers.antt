@@ -7,7 +7,7 @@ use Rattle.c_unit.proofs.unit_items.UnitItems.next.Goals as goal
 pub overflow_add-self : goal.overflow_add-self
 overflow_add-self c =
     let u = c.args.self.now in
-    let number = next_number (module_of u.source) u.number (item_of c.in-Some.item) u.source.few_entries
+    let number = next_number (module_of u.source) u.number (item_of c.in-Some.item) u.source.few_entries u.source.few_parts
     (ap (option_map item_of) (sym c.in-Some.is) ∙ c.in_ok-at.ensures) in
     omega (arith, number)
 

@@ -1,8 +1,9 @@
-use Rattle.wasm_tree.proofs.AllOps.{not_found, opcodes_rise}
+use Rattle.wasm_tree.proofs.Common.{arith}
+use Rattle.wasm_tree.proofs.AllOps.{found, not_found}
 use Rattle.wasm_tree.proofs.opcodes.Op.of_opcode.Goals as goal
 
-pub op_among-requires : goal.op_among-requires
-op_among-requires c = opcodes_rise
+pub returns-clause-some : goal.returns-clause-some
+returns-clause-some c = found c.args.opcode _ (omega (arith, c.ranges.opcode.fits))
 
 pub returns-clause-none : goal.returns-clause-none
-returns-clause-none c = not_found c.args.opcode c.op_among.result c.op_among.ensures.none
+returns-clause-none c = not_found c.args.opcode _

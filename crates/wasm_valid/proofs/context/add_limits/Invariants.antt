@@ -1,7 +1,0 @@
-use Rattle.std.proofs.Common.{◌≡◌, ◌++◌, drop, map}
-use Rattle.wasm_valid.proofs.context.add_limits.Given as goal
-
--- what stands there and what is left are the whole
-abbrev pub invariant-loop-entry : goal.invariant-loop-entry
-invariant-loop-entry l =
-    l.space.items ++ map (λ t. t.limits) (drop l.entry-index l.entries) ≡ l.initial.space.items ++ map (λ t. t.limits) l.entries
