@@ -4,7 +4,7 @@ pub use Rattle.std.proofs.Common.{length, get_or, drop, is_none, IfOk, if◌then
 pub use Rattle.std.proofs.Common.{Option, option_map, zip, flat_map, sym, refl, ap, ◌∙◌, subst, append_assoc, append-nil, arith}
 pub use Rattle.std.proofs.Common.{length-append}
 pub use Rattle.std.proofs.lemmas.List.{drop_all, length-map, map_push}
-pub use Rattle.std.proofs.lemmas.Option.{slice_get-map, slice_get_past, slice_get_read}
+pub use Rattle.std.proofs.lemmas.Option.{slice_get-map, slice_get_past}
 pub use Rattle.std.specs.List.{AllByRecursion, list_any, range_with_len}
 pub use Rattle.w2c_base.proofs.Grown.{read_again}
 pub use Rattle.w2c_base.proofs.Lists.{filter_few}

@@ -3,7 +3,6 @@ pub mod Small
 pub mod Numberings
 pub mod Countable
 pub mod Fits
-pub mod LookUps
 pub mod InitLabelsDiffer
 pub mod NoFaults
 pub mod PieceCounts
@@ -17,6 +16,7 @@ mod ByteLoops
 mod Constants
 mod Somes
 mod FuncNames
+mod LookUps
 mod InitParts
 mod Calls
 mod PieceLists

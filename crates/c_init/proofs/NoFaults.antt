@@ -1,5 +1,5 @@
 -- A module without faults keeps each row of what validation asks of it (WebAssembly Core 1.0, 3.4).
-use Rattle.c_init.proofs.Common.{◌+◌, ◌≡◌, ◌^◌, ◌<◌, ◌≤◌, true, ◌||◌, List, [], ◌∷◌, ◌++◌, length, flat_map, refl, ◌∙◌, arith}
+use Rattle.c_init.proofs.Common.{◌≡◌, ◌<◌, true, List, [], ◌∷◌, ◌++◌, length, flat_map, refl, arith}
 use Rattle.c_init.proofs.Common.{memory_space, table_space, SegmentEntry, Module, too_many, unknown_types}
 use Rattle.wasm_tree.specs.declared.entries.ElementEntry.{ElementEntry}
 use Rattle.c_init.specs.Init.{tests_bounds}

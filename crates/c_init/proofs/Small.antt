@@ -2,7 +2,7 @@
 use Rattle.std.proofs.Common.{inl, inr, nat_lt}
 use Rattle.std.proofs.lemmas.Bool.Decides.{leb_tells, nat_tests}
 use Rattle.wasm_typing.specs.declared.fault.ValidCause.{ValidCause}
-use Rattle.c_init.proofs.Common.{◌≡◌, ℕ, suc, ◌<◌, ◌≤◌, Bool, true, false, cond, ◌||◌, ◌⊎◌, List, [], ◌∷◌, ◌++◌, map, length, is_none, Some}
+use Rattle.c_init.proofs.Common.{◌≡◌, ℕ, suc, ◌<◌, ◌≤◌, Bool, true, false, cond, ◌⊎◌, List, [], ◌∷◌, ◌++◌, map, length, is_none, Some}
 use Rattle.c_init.proofs.Common.{None, filter, Option, flat_map, refl, ap, arith, AllByRecursion, if_found, ImportKind, ImportFunc}
 use Rattle.c_init.proofs.Common.{ImportGlobal, ImportMemory, ImportTable, Limits, fault_if, too_many, IsSome}
 

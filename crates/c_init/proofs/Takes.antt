@@ -1,5 +1,5 @@
 -- What the init function does for imports.
-use Rattle.c_init.proofs.Common.{◌≡◌, ℕ, zero, suc, ◌+◌, ◌<◌, ◌≤◌, Bool, true, false, not, List, [], ◌∷◌, ◌++◌, length, drop, if◌then◌else◌}
+use Rattle.c_init.proofs.Common.{◌≡◌, ℕ, zero, suc, ◌<◌, ◌≤◌, Bool, true, false, not, List, [], ◌∷◌, ◌++◌, length, drop, if◌then◌else◌}
 use Rattle.c_init.proofs.Common.{Some, None, filter, sym, refl, ap, ◌∙◌, append-nil, arith, drop_all, is_func_import, is_global_import}
 use Rattle.c_init.proofs.Common.{Import, ImportKind, ImportFunc, ImportGlobal, Name, NamedModule, import_symbol, is_usable, label_name}
 use Rattle.c_init.proofs.Common.{pointer_name, limits_label, n64, set_pointer, size_name, take_stmts, takes_from, test_min, pointer_set}

@@ -12,7 +12,7 @@ ghost use Rattle.c_init.specs.SetPointers.{pointer_set};
 
 use crate::source::Source;
 use crate::statements::{jump, pointer_arg, reading, size};
-use c_symbols::{MEMORY_NAME, TABLE_NAME, global_name, pointer_name};
+use c_symbols::{MEMORY_NAME, Symbol, TABLE_NAME, global_name, pointer_name};
 use c_tree::{Args, COp, Callee, Name, Primitive, Stmt, Stmts, label_name, n64, operation};
 use std::alloc::Global;
 use w2c_base::Memory;
@@ -136,32 +136,47 @@ fn next_number(number: usize, import: &Import) -> usize
 
 impl<'a> Source<'a> {
     ghost use Rattle.c_init.specs.Sources.{module_of};
+    ghost use Rattle.c_symbols.specs.Named.{pair_of, typed_import};
 
     // The pointer to an imported object is set, where the import may be used.
-    fn put_pointer(&self, stmts: &mut Stmts, import: &Import, object: &[u8]) -> Result<(), Memory>
+    fn put_pointer(
+        &self,
+        stmts: &mut Stmts,
+        import: &Import,
+        symbol: &Symbol,
+        object: &[u8],
+    ) -> Result<(), Memory>
+        requires { pair_of symbol.now ≡ typed_import self.now.tree.now import.now }
         ensures { OnOk result (map stmt_of stmts.new ≡ map stmt_of stmts.old ++ of.set_pointer (module_of self.now) import.now object.now ∷ []) }
     {
-        let symbol = self.symbols().usable(self.alloc, import)?;
-        stmts.push(set_pointer(self.alloc, symbol, object)?)?;
+        let name = self.symbols().usable(self.alloc, symbol)?;
+        stmts.push(set_pointer(self.alloc, name, object)?)?;
         Ok(())
     }
 
-    fn put_take(&self, stmts: &mut Stmts, number: usize, import: &Import) -> Result<(), Memory>
+    fn put_take(
+        &self,
+        stmts: &mut Stmts,
+        number: usize,
+        import: &Import,
+        symbol: &Symbol,
+    ) -> Result<(), Memory>
+        requires { pair_of symbol.now ≡ typed_import self.now.tree.now import.now }
         ensures { OnOk result (map stmt_of stmts.new ≡ map stmt_of stmts.old ++ of.take_stmts (module_of self.now) number import.now) }
     {
         match import.kind {
             ImportKind::Func(_) => Ok(()),
             ImportKind::Table(limits) => {
-                self.put_pointer(stmts, import, TABLE_NAME)?;
+                self.put_pointer(stmts, import, symbol, TABLE_NAME)?;
                 put_table(self.alloc, stmts, limits)
             }
             ImportKind::Memory(limits) => {
-                self.put_pointer(stmts, import, MEMORY_NAME)?;
+                self.put_pointer(stmts, import, symbol, MEMORY_NAME)?;
                 put_memory(self.alloc, stmts, limits)
             }
             ImportKind::Global(_, _) => {
                 let name = global_name(self.alloc, number)?;
-                self.put_pointer(stmts, import, name.as_slice())
+                self.put_pointer(stmts, import, symbol, name.as_slice())
             }
         }
     }
@@ -171,8 +186,9 @@ impl<'a> Source<'a> {
         ensures { OnOk result (map stmt_of stmts.new ≡ map stmt_of stmts.old ++ of.takes_from (module_of self.now) 0 (filter (λ i. not (is_func_import i)) self.now.tree.now.imports)) }
     {
         let mut number = 0usize;
-        for import in self.tree.imports.as_slice() {
-            self.put_take(stmts, number, import)?;
+        let imports = self.tree.imports.as_slice();
+        for (place, import) in imports.iter().enumerate() {
+            self.put_take(stmts, number, import, self.symbols().imported(place))?;
             number = next_number(number, import);
         }
         Ok(())

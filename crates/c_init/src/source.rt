@@ -54,8 +54,8 @@ impl<'a> Source<'a> {
         ensures { IfOk result (λ source. module_of source ≡ record { name = name.now; tree = m.now }) }
     {
         let tree = m.module();
-        let func_symbols = func_symbols(alloc, tree)?;
         let spaces = IndexSpaces::new(alloc, tree, name)?;
+        let func_symbols = func_symbols(alloc, spaces.symbols())?;
         Ok(Source {
             alloc,
             checked: m,

@@ -57,3 +57,9 @@ both empty one two first second none a b q =
     b q ∙ ap (λ o. option_or o (named q second))
     (a q ∙ ap (λ (t : List (Name × SymbolType)). option_or (option_map type_of (named q t)) (named q first)) none)
     ∙ sym (named-append q first second)
+
+-- the same symbols by another list of them
+pub found_as : (table : List (Name × SymbolType)) (ones others first second : List Typed) → ones ≡ first → others ≡ second
+    → FindsTypes table (ones ++ others) → FindsTypes table (first ++ second)
+found_as table ones others first second a b found q =
+    found q ∙ ap (λ ps. named q (ps ++ others)) a ∙ ap (λ ps. named q (first ++ ps)) b

@@ -12,11 +12,11 @@ of_kind m is imports = map (usable_symbol m) (filter is imports)
 abbrev pub ReachesSoFar : NamedModule → (Import → Bool) → List (Option Name) → ℕ → Type 0
 ReachesSoFar m is made i = made ++ of_kind m is (drop i m.tree.imports) ≡ of_kind m is m.tree.imports
 
-pub reaches_next : (m : NamedModule) (is : Import → Bool) (before after : List (Option Name)) (items : List Import) (i : ℕ) (x : Import)
-    → items ≡ m.tree.imports → i < length items → x ≡ get_or items i x → after ≡ before ++ if_kind is x (usable_symbol m x)
-    → ReachesSoFar m is before i → ReachesSoFar m is after (i + 1)
-reaches_next m is before after items i x same less read grown so_far =
-    kind_next is (usable_symbol m) before after _ _ m.tree.imports items i x same less read refl grown so_far
+pub reaches_next : (m : NamedModule) (is : Import → Bool) (before after : List (Option Name)) (name : Option Name) (items : List Import)
+    (i : ℕ) (x : Import) → items ≡ m.tree.imports → i < length items → x ≡ get_or items i x → name ≡ usable_symbol m x
+    → after ≡ before ++ if_kind is x name → ReachesSoFar m is before i → ReachesSoFar m is after (i + 1)
+reaches_next m is before after name items i x same less read named grown so_far =
+    kind_next is (usable_symbol m) before after _ name m.tree.imports items i x same less read named grown so_far
 
 pub reaches_all : (m : NamedModule) (is : Import → Bool) (made : List (Option Name)) (items : List Import) (i : ℕ) → items ≡ m.tree.imports
     → length items ≤ i → ReachesSoFar m is made i → made ≡ of_kind m is m.tree.imports

@@ -1,10 +1,8 @@
 -- Tables of symbols, by the types that they give.
-use Rattle.std.specs.Prelude.{◌≡◌, Bool, false, List, Option, Some, None, option_map}
+use Rattle.std.specs.Prelude.{◌≡◌, List, option_map}
 use Rattle.std.specs.Option.{option_or}
 use Rattle.w2c_base.specs.Lookup.{named}
-use Rattle.c_tree.specs.Tree as tree
 use Rattle.c_tree.specs.Scope.{Name}
-use Rattle.c_tree.specs.Runtime.{same_func_type}
 use Rattle.c_symbols.specs.Symbols.{Typed}
 use Rattle.c_symbols.specs.declared.types.SymbolType.{SymbolType}
 use Rattle.c_symbols.specs.Typed.{type_of}
@@ -17,8 +15,3 @@ FindsTypes table entries = (q : Name) → option_map type_of (named q table) ≡
 abbrev pub FindsMore : List (Name × SymbolType) → List (Name × SymbolType) → List Typed → Type 0
 FindsMore after before entries = (q : Name)
     → option_map type_of (named q after) ≡ option_or (option_map type_of (named q before)) (named q entries)
-
--- what was found is this type
-abbrev pub has_type : Option tree.FuncType → tree.FuncType → Bool
-has_type None own = false
-has_type (Some t) own = same_func_type t own

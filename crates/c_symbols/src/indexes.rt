@@ -30,6 +30,18 @@ pub struct Symbol<'a> {
     pub ty: SymbolType<'a>,
 }
 
+impl<'a> Symbol<'a> {
+    ghost use Rattle.c_symbols.specs.Named.{pair_of};
+
+    /// The same symbol again.
+    pub fn copy(&self, alloc: Global) -> Result<Symbol<'a>, Memory>
+        ensures { IfOk result (λ s. pair_of s ≡ pair_of self.now) }
+    {
+        let name = self.name.copy(alloc)?;
+        Ok(Symbol { name, ty: self.ty })
+    }
+}
+
 // The index of each function's type.
 fn func_indexes(alloc: Global, m: &Module) -> Result<Vec<u32>, Memory>
     ensures { IfOk result (λ space. space.items ≡ func_space m.now) }
@@ -121,7 +133,7 @@ impl<'a> Indexes<'a> {
     }
 
     /// The symbol of an import, with the import's own type.
-    pub fn import(&self, alloc: Global, import: &Import) -> Result<Symbol<'a>, Memory>
+    pub(crate) fn import(&self, alloc: Global, import: &Import) -> Result<Symbol<'a>, Memory>
         ensures { IfOk result (λ s. pair_of s ≡ (of.import_symbol import.now, of.import_type self.now.tree.now import.now)) }
     {
         let (kind, ty) = match import.kind {

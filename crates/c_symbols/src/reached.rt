@@ -1,6 +1,5 @@
 // The symbols of a module's imports by their kinds.
 ghost use Rattle.std.specs.Prelude.{IfOk, OnOk};
-ghost use Rattle.c_symbols.specs.Reached.{usable_symbol};
 ghost use Rattle.c_symbols.specs.Named.{named_of};
 ghost use Rattle.c_symbols.specs.Usable.{AreReached, HasOneMore};
 
@@ -30,16 +29,17 @@ impl Reached {
             memories: Vec::new(alloc),
             globals: Vec::new(alloc),
         };
-        for import in symbols.indexes.tree.imports.as_slice() {
-            reached.enter(alloc, symbols, import)?;
+        let imports = symbols.indexes.tree.imports.as_slice();
+        for (place, import) in imports.iter().enumerate() {
+            let name = symbols.usable(alloc, symbols.imported(place))?;
+            reached.enter(import, name)?;
         }
         Ok(reached)
     }
 
-    fn enter(&mut self, alloc: Global, symbols: &Symbols, import: &Import) -> Result<(), Memory>
-        ensures { OnOk result (HasOneMore self.old self.new import.now (usable_symbol (named_of symbols.now.indexes) import.now)) }
+    fn enter(&mut self, import: &Import, name: Option<Name>) -> Result<(), Memory>
+        ensures { OnOk result (HasOneMore self.old self.new import.now name) }
     {
-        let name = symbols.usable(alloc, import)?;
         match import.kind {
             ImportKind::Func(_) => self.funcs.push(name)?,
             ImportKind::Table(_) => self.tables.push(name)?,

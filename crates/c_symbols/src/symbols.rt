@@ -1,8 +1,10 @@
-// What each symbol is in the unit, and which imports may be used.
-ghost use Rattle.std.specs.Prelude.{◌≡◌, [], ◌∷◌, ◌++◌, option_map, IfOk, OnOk};
-ghost use Rattle.c_symbols.specs.Reached.{usable_symbol};
+// The symbols of a module, each made once; what each is in the unit, and which may be used.
+ghost use Rattle.std.specs.Prelude.{◌≡◌, ◌<◌, [], ◌∷◌, ◌++◌, length, map, option_map, slice_get, Some, IfOk, OnOk};
+ghost use Rattle.c_symbols.specs.Reached.{usable_as};
 ghost use Rattle.c_symbols.specs.Symbols.{exported_symbols, imported_symbols};
-ghost use Rattle.c_symbols.specs.Named.{named_of, pair_of};
+ghost use Rattle.c_symbols.specs.Named.{named_of, pair_of, typed_export, typed_import};
+ghost use Rattle.wasm_tree.specs.declared.entries.Export.{Export};
+ghost use Rattle.wasm_tree.specs.declared.entries.Import.{Import};
 ghost use Rattle.c_symbols.specs.Found.{FindsTypes, FindsMore};
 ghost use Rattle.c_symbols.specs.Typed.{type_of};
 
@@ -12,13 +14,17 @@ use c_tree::{CType, Name};
 use name_table::{NameTable, Salted};
 use std::alloc::Global;
 use w2c_base::Memory;
-use wasm_tree::{Import, Module};
+use wasm_tree::Module;
 
 /// The symbols of a module with their types in the unit: each name is found at once.
 pub struct Symbols<'a> {
     pub(crate) indexes: Indexes<'a>,
     pub salt: Salted,
+    exported: Vec<Symbol<'a>>,
+    imported: Vec<Symbol<'a>>,
     types: NameTable<SymbolType<'a>>,
+    ghost exported_are: { map pair_of exported.items ≡ exported_symbols (named_of indexes) },
+    ghost imported_are: { map pair_of imported.items ≡ imported_symbols (named_of indexes) },
     ghost found: { FindsTypes types (exported_symbols (named_of indexes) ++ imported_symbols (named_of indexes)) },
 }
 
@@ -28,47 +34,74 @@ impl Drop for Symbols<'_> {
         let Symbols {
             indexes: _,
             salt: _,
+            exported: _,
+            imported: _,
             types: _,
         } = self;
     }
+}
+
+// The symbols of a module's exports, with their types.
+fn symbols_of_exports<'a>(alloc: Global, indexes: &Indexes<'a>) -> Result<Vec<Symbol<'a>>, Memory>
+    ensures { IfOk result (λ symbols. map pair_of symbols.items ≡ exported_symbols (named_of indexes.now)) }
+{
+    let mut symbols: Vec<Symbol<'a>> = Vec::new(alloc);
+    for export in indexes.tree.exports.as_slice() {
+        let symbol = indexes.export(alloc, export)?;
+        symbols.push(symbol)?;
+    }
+    Ok(symbols)
+}
+
+// The same of its imports.
+fn symbols_of_imports<'a>(alloc: Global, indexes: &Indexes<'a>) -> Result<Vec<Symbol<'a>>, Memory>
+    ensures { IfOk result (λ symbols. map pair_of symbols.items ≡ imported_symbols (named_of indexes.now)) }
+{
+    let mut symbols: Vec<Symbol<'a>> = Vec::new(alloc);
+    for import in indexes.tree.imports.as_slice() {
+        let symbol = indexes.import(alloc, import)?;
+        symbols.push(symbol)?;
+    }
+    Ok(symbols)
 }
 
 #[tactic(auto, using(crate::proofs::Founds::entered))]
 fn enter<'a>(
     alloc: Global,
     table: &mut NameTable<SymbolType<'a>>,
-    symbol: Symbol<'a>,
+    symbol: &Symbol<'a>,
 ) -> Result<(), Memory>
-    ensures { OnOk result (FindsMore table.new table.old (pair_of symbol.entry ∷ [])) }
+    ensures { OnOk result (FindsMore table.new table.old (pair_of symbol.now ∷ [])) }
 {
     table.enter(alloc, symbol.name.as_slice(), symbol.ty)
 }
 
-// The exports come first.
-fn enter_exports<'a>(
+fn enter_all<'a>(
     alloc: Global,
     table: &mut NameTable<SymbolType<'a>>,
-    indexes: &Indexes<'a>,
+    symbols: &[Symbol<'a>],
 ) -> Result<(), Memory>
-    ensures { OnOk result (FindsMore table.new table.old (exported_symbols (named_of indexes.now))) }
+    ensures { OnOk result (FindsMore table.new table.old (map pair_of symbols.now)) }
 {
-    for export in indexes.tree.exports.as_slice() {
-        enter(alloc, table, indexes.export(alloc, export)?)?;
+    for symbol in symbols {
+        enter(alloc, table, symbol)?;
     }
     Ok(())
 }
 
-fn enter_imports<'a>(
+// The exports come first.
+fn table_of<'a>(
     alloc: Global,
-    table: &mut NameTable<SymbolType<'a>>,
-    indexes: &Indexes<'a>,
-) -> Result<(), Memory>
-    ensures { OnOk result (FindsMore table.new table.old (imported_symbols (named_of indexes.now))) }
+    salt: Salted,
+    exported: &[Symbol<'a>],
+    imported: &[Symbol<'a>],
+) -> Result<NameTable<SymbolType<'a>>, Memory>
+    ensures { IfOk result (λ table. FindsTypes table (map pair_of exported.now ++ map pair_of imported.now)) }
 {
-    for import in indexes.tree.imports.as_slice() {
-        enter(alloc, table, indexes.import(alloc, import)?)?;
-    }
-    Ok(())
+    let mut table = NameTable::new(alloc, salt);
+    enter_all(alloc, &mut table, exported)?;
+    enter_all(alloc, &mut table, imported)?;
+    Ok(table)
 }
 
 // The key of the names that a module exports and imports. Each symbol is made of one of them and a kind.
@@ -86,20 +119,22 @@ fn salt_of_module(tree: &Module) -> Salted {
 
 impl<'a> Symbols<'a> {
     ghost use Rattle.c_symbols.specs.Symbols.{declared_type, symbol_type};
-    ghost use Rattle.c_symbols.specs.Found.{has_type};
+    ghost use Rattle.c_symbols.specs.Reached.{has_type};
 
     /// The symbols of a module under a name.
     pub fn new(alloc: Global, tree: &'a Module, name: &'a [u8]) -> Result<Self, Memory>
         ensures { IfOk result (λ symbols. named_of symbols.indexes ≡ record { name = name.now; tree = tree.now }) }
     {
         let indexes = Indexes::new(alloc, tree, name)?;
+        let exported = symbols_of_exports(alloc, &indexes)?;
+        let imported = symbols_of_imports(alloc, &indexes)?;
         let salt = salt_of_module(tree);
-        let mut types = NameTable::new(alloc, salt);
-        enter_exports(alloc, &mut types, &indexes)?;
-        enter_imports(alloc, &mut types, &indexes)?;
+        let types = table_of(alloc, salt, exported.as_slice(), imported.as_slice())?;
         Ok(Symbols {
             indexes,
             salt,
+            exported,
+            imported,
             types,
         })
     }
@@ -109,6 +144,22 @@ impl<'a> Symbols<'a> {
         ensures { result.now ≡ self.now.indexes }
     {
         &self.indexes
+    }
+
+    /// The symbol of the import at a place, counted from 0.
+    pub fn imported(&self, place: usize) -> &Symbol<'a>
+        requires { place < length self.now.indexes.tree.now.imports }
+        ensures { (i : Import) → slice_get self.now.indexes.tree.now.imports place ≡ Some i → pair_of result.now ≡ typed_import self.now.indexes.tree.now i }
+    {
+        &self.imported[place]
+    }
+
+    /// The same of the export at a place.
+    pub fn exported(&self, place: usize) -> &Symbol<'a>
+        requires { place < length self.now.indexes.tree.now.exports }
+        ensures { (e : Export) → slice_get self.now.indexes.tree.now.exports place ≡ Some e → pair_of result.now ≡ typed_export (named_of self.now.indexes) e }
+    {
+        &self.exported[place]
     }
 
     // The type of a symbol in the unit.
@@ -128,13 +179,12 @@ impl<'a> Symbols<'a> {
         }
     }
 
-    /// The symbol of an import, where the import may be used.
-    pub fn usable(&self, alloc: Global, import: &Import) -> Result<Option<Name>, Memory>
-        ensures { IfOk result (λ name. name ≡ usable_symbol (named_of self.now.indexes) import.now) }
+    /// The name of a symbol, where the unit has it with its type.
+    pub fn usable(&self, alloc: Global, symbol: &Symbol) -> Result<Option<Name>, Memory>
+        ensures { IfOk result (λ name. name ≡ usable_as (named_of self.now.indexes) (pair_of symbol.now)) }
     {
-        let symbol = self.indexes.import(alloc, import)?;
-        if self.is_usable(&symbol) {
-            Ok(Some(symbol.name))
+        if self.is_usable(symbol) {
+            Ok(Some(symbol.name.copy(alloc)?))
         } else {
             Ok(None)
         }

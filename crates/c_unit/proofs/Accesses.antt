@@ -1,8 +1,8 @@
 -- Functions that give pointers.
 use Rattle.c_unit.proofs.Common.{◌≡◌, ℕ, List, map, slice_get, Some, None, Option, option_map, refl, ap, ◌∙◌, slice_get-map, Export}
-use Rattle.c_unit.proofs.Common.{ExportGlobal, ExportMemory, ExportTable, Import, Name, NamedModule, global_name, memory_name, table_name}
-use Rattle.c_unit.proofs.Common.{Typed, export_symbol, export_type, global_imports, memory_imports, table_imports, accessor_by, accessor}
-use Rattle.c_unit.proofs.Common.{export_func}
+use Rattle.c_unit.proofs.Common.{ExportFunc, ExportGlobal, ExportMemory, ExportTable, Import, Name, NamedModule, global_name, memory_name}
+use Rattle.c_unit.proofs.Common.{table_name, Typed, export_symbol, export_type, global_imports, memory_imports, table_imports, callee}
+use Rattle.c_unit.proofs.Common.{accessor_by, accessor, export_func, passes_on}
 use Rattle.c_symbols.specs.Reached.{usable_symbol}
 
 -- what stands at an index of a list that was made item by item
@@ -14,6 +14,15 @@ accessed : (m : NamedModule) (symbol : Typed) (import : Option Import) (object :
     → accessor_by symbol (option_map (usable_symbol m) import) object ≡ accessor m symbol.1 symbol.0 import object
 accessed m symbol None object = refl
 accessed m symbol (Some i) object = refl
+
+-- the function of an export of a function
+pub passed_at : (m : NamedModule) (e : Export) (symbol : Typed) (name : Option Name) → symbol ≡ (export_symbol m e, export_type m.tree e)
+    → name ≡ callee m e.index → e.kind ≡ ExportFunc → passes_on symbol.1 symbol.0 name ≡ export_func m e
+passed_at m e symbol name is called kind =
+    ap (λ (s : Typed). passes_on s.1 s.0 name) is ∙ ap (passes_on (export_type m.tree e) (export_symbol m e)) called ∙ func_export
+  where
+    func_export : passes_on (export_type m.tree e) (export_symbol m e) (callee m e.index) ≡ export_func m e
+    func_export = rw kind refl
 
 -- the function of an export of an object
 pub given_at : (m : NamedModule) (e : Export) (symbol : Typed) (names : List (Option Name)) (imports : List Import) (object : Name)

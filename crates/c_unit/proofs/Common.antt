@@ -1,7 +1,7 @@
 -- What proofs of this crate cite of std, of the crates below and of specs/, passed on from one place. Declares nothing.
 pub use Rattle.std.proofs.Common.{◌≡◌, ℕ, zero, suc, ◌+◌, ◌-◌, ◌^◌, ◌<◌, ◌≤◌, Bool, true, false, not, ◌&&◌, ◌||◌, ◌≢◌}
 pub use Rattle.std.proofs.Common.{◌⊎◌, List, [], ◌∷◌, ◌++◌, map, length, get_or, drop}
-pub use Rattle.std.proofs.Common.{is_some, is_none, IfOk, if◌then◌else◌, IsSome, nat_eq, ◌==◌, slice_get}
+pub use Rattle.std.proofs.Common.{is_some, is_none, IfOk, if◌then◌else◌, IsSome, nat_eq, slice_get}
 pub use Rattle.std.proofs.Common.{Some, None, All, Contains, filter, Option, option_map, find, zip, flat_map, filter_map}
 pub use Rattle.std.proofs.Common.{bytes_eq, unwrap_or, sym, refl, ap, ◌∙◌, subst, inl, inr, append_assoc, append-nil, add-one}
 pub use Rattle.std.proofs.Common.{arith, length-append, Bor, zero-add, add-zero, leb-true}

@@ -1,6 +1,6 @@
 -- What the names of a module's unit stand for in it: helpers, bodies, exports, the init function and its parts, and
 -- that symbols of other modules stand for nothing.
-use Rattle.c_unit.proofs.Common.{◌≡◌, ℕ, zero, suc, ◌+◌, ◌-◌, ◌^◌, ◌<◌, ◌≤◌, Bool, true, false, not, ◌&&◌, ◌≢◌, ◌⊎◌, List, [], ◌∷◌, ◌++◌}
+use Rattle.c_unit.proofs.Common.{◌≡◌, ℕ, zero, suc, ◌+◌, ◌-◌, ◌^◌, ◌<◌, ◌≤◌, Bool, true, false, not, ◌≢◌, ◌⊎◌, List, [], ◌∷◌, ◌++◌}
 use Rattle.c_unit.proofs.Common.{map, length, is_none, if◌then◌else◌, nat_eq, slice_get, Some, None, All, Contains, Option, option_map}
 use Rattle.c_unit.proofs.Common.{find, bytes_eq, unwrap_or, sym, refl, ap, ◌∙◌, subst, inl, inr, arith, decimal_injective, slice_get-get_or}
 use Rattle.c_unit.proofs.Common.{bytes_eq-Decides, AllByRecursion, list_all, range_with_len, option_or, all_append, if_found, numbered}

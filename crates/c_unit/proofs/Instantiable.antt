@@ -1,6 +1,6 @@
 -- What instantiation rests on, from a module's validity (WebAssembly Core 1.0, 3.4) and its limits.
 use Rattle.std.proofs.Common.{◌==◌}
-use Rattle.c_unit.proofs.Common.{HasLimits, ◌+◌, ◌≡◌, ℕ, zero, suc, ◌^◌, ◌<◌, ◌≤◌, Bool, true, false, not, ◌&&◌, ◌||◌, List, [], ◌∷◌, ◌++◌}
+use Rattle.c_unit.proofs.Common.{HasLimits, ◌≡◌, ℕ, zero, suc, ◌^◌, ◌<◌, ◌≤◌, Bool, true, false, not, ◌&&◌, ◌||◌, List, [], ◌∷◌, ◌++◌}
 use Rattle.c_unit.proofs.Common.{map, length, is_none, slice_get, Some, None, filter, Option, flat_map, sym, refl, ap, ◌∙◌, subst, arith}
 use Rattle.c_unit.proofs.Common.{same_Some, AllByRecursion, FuncType, ValType, global_space, imported_global_space, is_global_import}
 use Rattle.c_unit.proofs.Common.{memory_of_import, memory_space, table_of_import, table_space, GlobalEntry, Limits, LimitsEntry}

@@ -1,5 +1,5 @@
 -- How many items the unit of a checked module has: their numbers have room.
-use Rattle.c_unit.proofs.Common.{◌≡◌, ℕ, suc, ◌+◌, ◌^◌, ◌<◌, ◌≤◌, Bool, true, false, List, [], ◌∷◌, ◌++◌, map, length, if◌then◌else◌}
+use Rattle.c_unit.proofs.Common.{◌≡◌, ℕ, suc, ◌+◌, ◌^◌, ◌<◌, ◌≤◌, Bool, true, false, List, [], ◌∷◌, map, length, if◌then◌else◌}
 use Rattle.c_unit.proofs.Common.{slice_get, Some, zip, flat_map, sym, refl, arith, length-append, length-map-range_with_len}
 use Rattle.c_unit.proofs.Common.{slice_get_within, list_any, range_with_len, numbered, imported_funcs, is_global_import, is_memory_import}
 use Rattle.c_unit.proofs.Common.{is_table_import, BodyEntry, SegmentEntry, Module, Name, is_among, NamedModule, HELPERS, declared_symbols}

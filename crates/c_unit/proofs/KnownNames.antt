@@ -1,6 +1,6 @@
 -- What a unit declares for its bodies: every name that they use is found with its type.
-use Rattle.c_unit.proofs.Common.{◌≡◌, ℕ, zero, suc, ◌+◌, ◌-◌, ◌<◌, ◌≤◌, Bool, false, ◌&&◌, ◌≢◌, List, [], ◌∷◌, ◌++◌, map, length, is_some}
-use Rattle.c_unit.proofs.Common.{if◌then◌else◌, ◌==◌, slice_get, Some, None, filter, zip, flat_map, bytes_eq, sym, refl, ap, ◌∙◌, subst}
+use Rattle.c_unit.proofs.Common.{◌≡◌, ℕ, zero, suc, ◌+◌, ◌-◌, ◌<◌, ◌≤◌, Bool, false, ◌≢◌, List, [], ◌∷◌, ◌++◌, map, length, is_some}
+use Rattle.c_unit.proofs.Common.{slice_get, Some, None, filter, zip, flat_map, bytes_eq, sym, refl, ap, ◌∙◌, subst}
 use Rattle.c_unit.proofs.Common.{arith, filter_map-append, same_Some, slice_get_within, range_with_len, named, ValType, global_of_import}
 use Rattle.c_unit.proofs.Common.{is_global_import, Import, ImportKind, ImportFunc, ImportGlobal, ImportMemory, ImportTable, Name}
 use Rattle.c_unit.proofs.Common.{function_of, variable_of, CType, bytes_equal, funcs_in, past_none, vars_in, class, classes_differ}

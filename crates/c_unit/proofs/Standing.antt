@@ -18,7 +18,7 @@ use Rattle.c_init.specs.Portions.{IsOf, part_of}
 use Rattle.std.specs.List.{AllByRecursion}
 use Rattle.w2c_base.proofs.OfEach.{all_at}
 use Rattle.c_init.specs.declared.portion.Portion.{Portion}
-use Rattle.c_init.proofs.LookUps.{read}
+use Rattle.c_symbols.proofs.Made.{stands_there}
 use Rattle.c_unit.proofs.Parted.{in_second, numbered_at}
 
 -- a section has an item for each element of a list, made of the element and its place
@@ -75,7 +75,7 @@ pub stands_at : {A : Type 0} {made : List A} {section : List tree.Item} {make : 
     → (rest : List tree.Item) (items : List A) (n : ℕ) (a : A) (item : tree.Item) → items ≡ made → n < length items → a ≡ get_or items n a
     → item ≡ make n a → Some item ≡ slice_get (section ++ rest) n
 stands_at {A} {made} {section} {make} l rest items n a item same lt is made_is = ap Some made_is ∙ sym (get_front section rest n (make n a)
-    (l.at n ∙ ap (option_map (make n)) (read items made n a same lt is)))
+    (l.at n ∙ ap (option_map (make n)) (stands_there made items n a same lt is)))
 
 pub stands_past : {A : Type 0} {made : List A} {section : List tree.Item} {make : ℕ → A → tree.Item} → Lists made section make
     → (rest : List tree.Item) (items : List A) (n left : ℕ) → items ≡ made → left ≡ n - length items → length items ≤ n
@@ -142,7 +142,7 @@ as_many m made n is count = count ∙ sym (length-map made (part_of m.tree)) ∙
 -- one of the portions that are the module's
 pub own_at : (m : NamedModule) (made items : List Portion) (n : ℕ) (a : Portion) → AllByRecursion (IsOf m.tree) made → items ≡ made
     → n < length items → a ≡ get_or items n a → IsOf m.tree a
-own_at m made items n a all same lt is = all_at (IsOf m.tree) made n a all (read items made n a same lt is)
+own_at m made items n a all same lt is = all_at (IsOf m.tree) made n a all (stands_there made items n a same lt is)
 
 -- ---- functions by their numbers
 

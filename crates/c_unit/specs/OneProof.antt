@@ -1,5 +1,5 @@
 -- What `UnitItems` keeps of the parts of an init function has one proof each, since pieces of C are equal in one way at most.
-use Rattle.std.specs.Prelude.{◌≡◌, ℕ, List, [], ◌∷◌}
+use Rattle.std.specs.Prelude.{◌≡◌, ℕ, List}
 use Rattle.std.specs.List.{AllByRecursion}
 use Rattle.std.proofs.Props.{props}
 use mathlib.Core.Path.{refl, sym, ap, ◌∙◌}

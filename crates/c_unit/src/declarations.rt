@@ -48,8 +48,9 @@ pub(crate) fn declared<'a>(alloc: Global, symbols: &Symbols<'a>) -> Result<Vec<S
     let mut seen: NameTable<()> = NameTable::new(alloc, symbols.salt);
     let mut list: Vec<Symbol<'a>> = Vec::new(alloc);
     let spaces = symbols.indexes();
-    for import in spaces.tree().imports.as_slice() {
-        let name = spaces.import(alloc, import)?.name;
+    let imports = spaces.tree().imports.as_slice();
+    for place in 0..imports.len() {
+        let name = symbols.imported(place).name.copy(alloc)?;
         put_if(alloc, symbols, &mut seen, &mut list, name)?;
     }
     Ok(list)

@@ -78,11 +78,7 @@ fn global_pointer(alloc: Global, ty: CType, number: usize) -> Result<Item, Memor
 fn declared_item(alloc: Global, symbol: &Symbol) -> Result<Item, Memory>
     ensures { IfOk result (λ item. item_of item ≡ of.declaration (pair_of symbol.now)) }
 {
-    let name = symbol.name.copy(alloc)?;
-    let symbol = Symbol {
-        name,
-        ty: symbol.ty,
-    };
+    let symbol = symbol.copy(alloc)?;
     declaration(alloc, symbol)
 }
 
@@ -240,7 +236,7 @@ impl<'a> UnitItems<'a> {
     {
         let exports = self.source.tree.exports.as_slice();
         match exports.get(n) {
-            Some(export) => Ok(Some(Item::Func(export_func(&self.source, export)?))),
+            Some(export) => Ok(Some(Item::Func(export_func(&self.source, n, export)?))),
             None => self.at_parts(n.saturating_sub(exports.len())),
         }
     }

@@ -1,6 +1,7 @@
 use Rattle.c_init.proofs.Common.{◌≡◌, IfOk, subst, Name}
 use Rattle.c_init.proofs.FuncNames.{named_import, named_own}
-use Rattle.c_init.proofs.LookUps.{read, missing}
+use Rattle.c_symbols.proofs.Made.{stands_there}
+use Rattle.c_init.proofs.LookUps.{missing}
 use Rattle.c_init.proofs.source.Source.function_name.Goals as goal
 
 pub returns-in-None : goal.returns-in-None
@@ -18,5 +19,5 @@ returns-in-Some c =
     let names = source.func_symbols.items in
     subst (λ (named : Name). IfOk c.copy.result (λ name. name ≡ named))
     (named_import source.tree.now names c.args.index c.in-Some.symbol.now source.func_symbols_are
-    (read c.deref.result.now names c.args.index c.in-Some.symbol.now c.deref.ensures.value c.in-Some.ensures.lookup.3.0
+    (stands_there names c.deref.result.now c.args.index c.in-Some.symbol.now c.deref.ensures.value c.in-Some.ensures.lookup.3.0
     c.in-Some.ensures.lookup.1)) c.copy.ensures

@@ -1,4 +1,4 @@
-use Rattle.std.proofs.Common.{sym}
+use Rattle.c_init.proofs.Common.{map, sym, ap, ◌∙◌, NamedModule, func_imports, import_symbol}
 use Rattle.c_init.proofs.Countable.{few_entries}
 use Rattle.c_init.proofs.FewParts.{few_parts}
 use Rattle.c_init.proofs.source.Source.new.Goals as goal
@@ -14,7 +14,9 @@ pub invariant_of-result-clause-spaces_are : goal.invariant_of-result-clause-spac
 invariant_of-result-clause-spaces_are c = c.in_ok-spaces.ensures
 
 pub invariant_of-result-clause-func_symbols_are : goal.invariant_of-result-clause-func_symbols_are
-invariant_of-result-clause-func_symbols_are c = c.in_ok-func_symbols.ensures
+invariant_of-result-clause-func_symbols_are c =
+    c.in_ok-func_symbols.ensures
+    ∙ ap (λ (m : NamedModule). map import_symbol (func_imports m.tree)) (c.symbols.ensures ∙ c.in_ok-spaces.ensures)
 
 pub invariant_of-result-clause-checked_is : goal.invariant_of-result-clause-checked_is
 invariant_of-result-clause-checked_is c = sym c.module-tree.ensures.same

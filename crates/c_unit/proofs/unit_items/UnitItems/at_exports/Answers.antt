@@ -1,6 +1,12 @@
 use Rattle.c_unit.proofs.Common.{◌≡◌, IfOk, option_map, ap, subst, Function, item_of, module_of, from_parts}
 use Rattle.c_unit.proofs.Standing.{stands_at, stands_past, exports_listed}
+use Rattle.c_symbols.proofs.Made.{stands_there}
 use Rattle.c_unit.proofs.unit_items.UnitItems.at_exports.Goals as goal
+
+pub export_func-requires : goal.export_func-requires
+export_func-requires c =
+    stands_there c.args.self.now.source.tree.now.exports c.as_slice-exports.result.now c.args.n _ c.as_slice-exports.ensures
+    c.in-Some.ensures.lookup.3.0 c.in-Some.ensures.lookup.1
 
 pub returns-in_ok-export_func-in-Some : goal.returns-in_ok-export_func-in-Some
 returns-in_ok-export_func-in-Some c =
