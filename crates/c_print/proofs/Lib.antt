@@ -7,3 +7,4 @@ mod Common
 mod Gaps
 mod Onto
 mod PageText
+mod ToFile

@@ -2,3 +2,4 @@ pub mod Print
 pub mod ItemText
 pub mod Page
 pub mod Header
+pub mod ToFile

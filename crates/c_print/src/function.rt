@@ -1,13 +1,17 @@
 // Parameters, local variables, bodies and functions.
-ghost use Rattle.std.specs.Prelude.{◌≡◌, ◌++◌, OnOk, map};
+ghost use Rattle.std.specs.Prelude.{◌≡◌, ◌++◌, Some, OnOk, IfErr, IsSome, map};
 ghost use Rattle.c_tree.specs.Trees.{each, local_tokens, param_tokens, close_tokens, func_tokens, stmt_tokens};
-ghost use Rattle.c_tree.specs.View.{stmt_of, maybe_body_of, func_of};
+ghost use Rattle.c_tree.specs.View.{stmt_of, body_of, maybe_body_of, func_of};
 ghost use Rattle.c_print.specs.Page.{printed_onto};
+ghost use Rattle.c_print.specs.ToFile.{Prints, PrintsPart, func_head};
 
 use crate::page::Page;
 use crate::pieces::{Piece, put_each, put_separated};
+use crate::to_file::put_each_to;
 use c_tree::{Body, CType, Func, Name, Num, Tok};
+use std::alloc::Global;
 use w2c_base::Memory;
+use w2c_io::{Files, WriteAnswer};
 
 impl Piece for (CType, Option<Name>) {
     ghost tokens = { param_tokens };
@@ -56,9 +60,10 @@ fn put_close(page: &mut Page, body: &Option<Body>) -> Result<(), Memory>
     }
 }
 
+// What stands in front of the body, or of the sign in its place.
 #[tactic(auto, using(crate::proofs::Onto::onto_append))]
-pub fn put_function(page: &mut Page, func: &Func) -> Result<(), Memory>
-    ensures { OnOk result (page.new ≡ printed_onto page.old (func_tokens (func_of func.now))) }
+fn put_head(page: &mut Page, func: &Func) -> Result<(), Memory>
+    ensures { OnOk result (page.new ≡ printed_onto page.old (func_head (func_of func.now))) }
 {
     if func.is_static {
         page.fixed(Tok::WordStatic)?;
@@ -66,6 +71,50 @@ pub fn put_function(page: &mut Page, func: &Func) -> Result<(), Memory>
     func.result.put(page)?;
     page.name_and(&func.name, Tok::LeftParen)?;
     put_separated(page, func.params.as_slice())?;
-    page.fixed(Tok::RightParen)?;
+    page.fixed(Tok::RightParen)
+}
+
+#[tactic(auto, using(crate::proofs::Onto::onto_append))]
+pub fn put_function(page: &mut Page, func: &Func) -> Result<(), Memory>
+    ensures { OnOk result (page.new ≡ printed_onto page.old (func_tokens (func_of func.now))) }
+{
+    put_head(page, func)?;
     put_close(page, &func.body)
+}
+
+// A body in its braces, of which the statements before the last ones are put to the file.
+fn put_body_to<F: Files>(
+    alloc: Global,
+    page: &mut Page,
+    body: &Body,
+    files: &mut F,
+) -> Result<(), WriteAnswer>
+    requires current { IsSome (F.current files.old) }
+    ensures whole { OnOk result (Prints F.Files files.old files.new page.old page.new (close_tokens (Some (body_of body.now)))) }
+    ensures part { IfErr result (λ why. PrintsPart F.Files files.old files.new page.old (close_tokens (Some (body_of body.now))) why) }
+{
+    page.fixed(Tok::LeftBrace)?;
+    put_each_to(alloc, page, &[], body.locals.as_slice(), files)?;
+    put_each_to(alloc, page, &[], body.stmts.as_slice(), files)?;
+    page.fixed(Tok::RightBrace)?;
+    Ok(())
+}
+
+/// A function, of which the statements before the last ones are put to the file. A declaration stays on the page.
+pub fn put_function_to<F: Files>(
+    alloc: Global,
+    page: &mut Page,
+    func: &Func,
+    files: &mut F,
+) -> Result<(), WriteAnswer>
+    requires current { IsSome (F.current files.old) }
+    ensures whole { OnOk result (Prints F.Files files.old files.new page.old page.new (func_tokens (func_of func.now))) }
+    ensures part { IfErr result (λ why. PrintsPart F.Files files.old files.new page.old (func_tokens (func_of func.now)) why) }
+{
+    let Some(body) = &func.body else {
+        put_function(page, func)?;
+        return Ok(());
+    };
+    put_head(page, func)?;
+    put_body_to(alloc, page, body, files)
 }

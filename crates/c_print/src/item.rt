@@ -1,20 +1,22 @@
 // Items, and the text of one that is written into a file.
-ghost use Rattle.std.specs.Prelude.{◌≡◌, [], ◌∷◌, ◌++◌, OnOk, OnErr, IfOk, IfErr, IsSome};
+ghost use Rattle.std.specs.Prelude.{◌≡◌, [], ◌∷◌, ◌++◌, OnOk, OnErr, IfErr, IsSome};
 ghost use Rattle.w2c_io.specs.Contents.{appending, AppendsPart};
 ghost use Rattle.w2c_io.specs.Causes.{WriteCause, name_after_write};
 ghost use Rattle.w2c_io.specs.Passed.{Passes, PutsText, PutsPart};
 ghost use Rattle.c_tree.specs.declared.token.Tok.TheVariants as tok;
 ghost use Rattle.c_tree.specs.declared.tree.Num.TheVariants.{Plain};
-ghost use Rattle.c_tree.specs.Tokens.{Fixed, Named};
+ghost use Rattle.c_tree.specs.Tokens.{Fixed};
 ghost use Rattle.c_tree.specs.Trees.{separated, num_token, value_tokens, item_tokens};
 ghost use Rattle.c_tree.specs.View.{item_of};
 ghost use Rattle.c_print.specs.ItemText.{IsItemOfUnit, SpellsItem};
 ghost use Rattle.c_print.specs.Page.{printed_onto, ended};
 ghost use Rattle.c_print.specs.Print.{print_item_of};
+ghost use Rattle.c_print.specs.ToFile.{HasPut, HasFailed, Prints, PrintsPart, array_head};
 
-use crate::function::put_function;
+use crate::function::{put_function, put_function_to};
 use crate::page::Page;
 use crate::pieces::{Piece, put_separated};
+use crate::to_file::{put_separated_to, put_text};
 use c_tree::{Item, Name, Num, Tok};
 use std::alloc::Global;
 use w2c_base::{Bytes, Memory};
@@ -28,18 +30,46 @@ impl Piece for u8 {
     }
 }
 
+// What stands in front of the bytes.
 #[tactic(auto, using(crate::proofs::Onto::onto_append))]
-fn put_array(page: &mut Page, name: &Name, count: u64, bytes: &Bytes) -> Result<(), Memory>
-    ensures { OnOk result (page.new ≡ printed_onto page.old (Fixed tok.WordStatic ∷ Fixed tok.WordConst ∷ Fixed tok.WordU8 ∷ Named name.now
-        ∷ Fixed tok.LeftBracket ∷ num_token (Plain count) ∷ Fixed tok.RightBracket ∷ Fixed tok.Assign ∷ Fixed tok.LeftBrace
-        ∷ (separated (λ byte. num_token (Plain byte) ∷ []) bytes.now ++ Fixed tok.RightBrace ∷ Fixed tok.Semicolon ∷ []))) }
+fn put_array_head(page: &mut Page, name: &Name, count: u64) -> Result<(), Memory>
+    ensures { OnOk result (page.new ≡ printed_onto page.old (array_head name.now count)) }
 {
     page.all_fixed(&[Tok::WordStatic, Tok::WordConst, Tok::WordU8])?;
     page.name_and(name, Tok::LeftBracket)?;
     page.number(Num::Plain(count))?;
-    page.all_fixed(&[Tok::RightBracket, Tok::Assign, Tok::LeftBrace])?;
+    page.all_fixed(&[Tok::RightBracket, Tok::Assign, Tok::LeftBrace])
+}
+
+#[tactic(auto, using(crate::proofs::Onto::onto_append))]
+fn put_array(page: &mut Page, name: &Name, count: u64, bytes: &Bytes) -> Result<(), Memory>
+    ensures { OnOk result (page.new ≡ printed_onto page.old (array_head name.now count
+        ++ (separated (λ byte. num_token (Plain byte) ∷ []) bytes.now ++ Fixed tok.RightBrace ∷ Fixed tok.Semicolon ∷ []))) }
+{
+    put_array_head(page, name, count)?;
     put_separated(page, bytes.as_slice())?;
     page.all_fixed(&[Tok::RightBrace, Tok::Semicolon])
+}
+
+// An array, of which the bytes before the last ones are put to the file.
+fn put_array_to<F: Files>(
+    alloc: Global,
+    page: &mut Page,
+    name: &Name,
+    count: u64,
+    bytes: &Bytes,
+    files: &mut F,
+) -> Result<(), WriteAnswer>
+    requires current { IsSome (F.current files.old) }
+    ensures whole { OnOk result (Prints F.Files files.old files.new page.old page.new (array_head name.now count
+        ++ (separated (λ byte. num_token (Plain byte) ∷ []) bytes.now ++ Fixed tok.RightBrace ∷ Fixed tok.Semicolon ∷ []))) }
+    ensures part { IfErr result (λ why. PrintsPart F.Files files.old files.new page.old (array_head name.now count
+        ++ (separated (λ byte. num_token (Plain byte) ∷ []) bytes.now ++ Fixed tok.RightBrace ∷ Fixed tok.Semicolon ∷ [])) why) }
+{
+    put_array_head(page, name, count)?;
+    put_separated_to(alloc, page, bytes.as_slice(), files)?;
+    page.all_fixed(&[Tok::RightBrace, Tok::Semicolon])?;
+    Ok(())
 }
 
 fn put_value(page: &mut Page, value: &Option<Num>) -> Result<(), Memory>
@@ -76,16 +106,47 @@ pub fn put_line(page: &mut Page, item: &Item) -> Result<(), Memory>
     page.end()
 }
 
-fn item_text(alloc: Global, item: &Item) -> Result<Bytes, Memory>
-    ensures { IfOk result (λ text. text ≡ print_item_of (item_of item.now)) }
+// An item, of which the first pieces are put to the file where it is long.
+fn put_item_to<F: Files>(
+    alloc: Global,
+    page: &mut Page,
+    item: &Item,
+    files: &mut F,
+) -> Result<(), WriteAnswer>
+    requires current { IsSome (F.current files.old) }
+    ensures whole { OnOk result (Prints F.Files files.old files.new page.old page.new (item_tokens (item_of item.now))) }
+    ensures part { IfErr result (λ why. PrintsPart F.Files files.old files.new page.old (item_tokens (item_of item.now)) why) }
 {
-    let mut page = Page::new(alloc);
-    put_line(&mut page, item)?;
-    Ok(page.text)
+    match item {
+        Item::Array(name, count, bytes) => put_array_to(alloc, page, name, *count, bytes, files),
+        Item::Func(func) => put_function_to(alloc, page, func, files),
+        Item::Var(..) => {
+            put_item(page, item)?;
+            Ok(())
+        }
+    }
+}
+
+// An item with its last line ended, of which all is put to the file.
+fn put_line_to<F: Files>(
+    alloc: Global,
+    page: &mut Page,
+    item: &Item,
+    files: &mut F,
+) -> Result<(), WriteAnswer>
+    requires current { IsSome (F.current files.old) }
+    ensures whole { OnOk result (HasPut F.Files files.old files.new (ended (printed_onto page.old (item_tokens (item_of item.now)))).text) }
+    ensures part { IfErr result (λ why. HasFailed F.Files files.old files.new
+        (ended (printed_onto page.old (item_tokens (item_of item.now)))).text why) }
+{
+    put_item_to(alloc, page, item, files)?;
+    page.end()?;
+    put_text(page.text.as_slice(), files)
 }
 
 /// Appends the text of one item of a unit to the current file. It spells the item; the unit's text is the include
-/// line and the texts of its items in order, so a unit can be written without being held whole.
+/// line and the texts of its items in order, so a unit can be written without being held whole. A long text is put in
+/// pieces, so that some 64 KiB of it are held at most, and the text of one statement or of one case of a switch.
 ///
 /// # Errors
 ///
@@ -107,6 +168,6 @@ pub fn print_item_to<F: Files>(alloc: Global, item: &Item, files: &mut F) -> Res
     ensures passed { OnOk result (Passes (F.trace files.old) (F.trace files.new) (PutsText (print_item_of (item_of item.now)))) }
     ensures tried { IfErr result (λ why. Passes (F.trace files.old) (F.trace files.new) (PutsPart (print_item_of (item_of item.now)) why)) }
 {
-    let text = item_text(alloc, item)?;
-    files.put(text.as_slice())
+    let mut page = Page::new(alloc);
+    put_line_to(alloc, &mut page, item, files)
 }

@@ -9,6 +9,7 @@ mod laws;
 mod page;
 mod pieces;
 mod statement;
+mod to_file;
 mod unit;
 
 pub use header::print_header;

@@ -1,16 +1,21 @@
 // Calls and statements.
-ghost use Rattle.std.specs.Prelude.{◌≡◌, [], ◌∷◌, ◌++◌, OnOk, map};
+ghost use Rattle.std.specs.Prelude.{◌≡◌, [], ◌∷◌, ◌++◌, OnOk, IfErr, IsSome, map};
 ghost use Rattle.c_tree.specs.declared.token.Tok.TheVariants as tok;
 ghost use Rattle.c_tree.specs.Tokens.{Fixed};
-ghost use Rattle.c_tree.specs.Trees.{each, callee_tokens, call_tokens, goto_tokens, case_tokens, stmt_tokens, through_tokens, expr_tokens, op_token};
+ghost use Rattle.c_tree.specs.Tree.{Switch};
+ghost use Rattle.c_tree.specs.Trees.{callee_tokens, call_tokens, goto_tokens, case_tokens, stmt_tokens, through_tokens, expr_tokens, op_token};
 ghost use Rattle.c_tree.specs.View.{expr_of, arg_of, callee_of, func_type_of, stmt_of};
 ghost use Rattle.c_print.specs.Page.{printed_onto};
+ghost use Rattle.c_print.specs.ToFile.{Prints, PrintsPart, switch_head, switch_end};
 
 use crate::expression::{put_expression, put_operator};
 use crate::page::Page;
 use crate::pieces::{Piece, put_each, put_separated};
+use crate::to_file::{put_each_to, put_full};
 use c_tree::{Args, CFuncType, COp, Callee, Cases, Expr, Name, Num, Stmt, Tok};
+use std::alloc::Global;
 use w2c_base::Memory;
+use w2c_io::{Files, WriteAnswer};
 
 #[tactic(auto, using(crate::proofs::Onto::onto_append))]
 fn put_through(page: &mut Page, ty: &CFuncType, name: &Name) -> Result<(), Memory>
@@ -81,19 +86,54 @@ fn put_if(
     put_goto(page, label)
 }
 
+// What stands in front of the cases.
 #[tactic(auto, using(crate::proofs::Onto::onto_append))]
-fn put_switch(page: &mut Page, on: &Expr, cases: &Cases, label: &Name) -> Result<(), Memory>
-    ensures { OnOk result (page.new ≡ printed_onto page.old (Fixed tok.WordSwitch ∷ Fixed tok.LeftParen ∷ (expr_tokens (expr_of on.now)
-        ++ (Fixed tok.RightParen ∷ Fixed tok.LeftBrace ∷ (each case_tokens cases.now
-        ++ (Fixed tok.WordDefault ∷ Fixed tok.Colon ∷ (goto_tokens label.now ++ Fixed tok.RightBrace ∷ []))))))) }
+fn put_switch_head(page: &mut Page, on: &Expr) -> Result<(), Memory>
+    ensures { OnOk result (page.new ≡ printed_onto page.old (switch_head (expr_of on.now))) }
 {
     page.all_fixed(&[Tok::WordSwitch, Tok::LeftParen])?;
     put_expression(page, on)?;
-    page.all_fixed(&[Tok::RightParen, Tok::LeftBrace])?;
-    put_each(page, cases.as_slice())?;
+    page.all_fixed(&[Tok::RightParen, Tok::LeftBrace])
+}
+
+// What stands behind them.
+#[tactic(auto, using(crate::proofs::Onto::onto_append))]
+fn put_switch_end(page: &mut Page, label: &Name) -> Result<(), Memory>
+    ensures { OnOk result (page.new ≡ printed_onto page.old (switch_end label.now)) }
+{
     page.all_fixed(&[Tok::WordDefault, Tok::Colon])?;
     put_goto(page, label)?;
     page.fixed(Tok::RightBrace)
+}
+
+#[tactic(auto, using(crate::proofs::Onto::onto_append))]
+fn put_switch(page: &mut Page, on: &Expr, cases: &Cases, label: &Name) -> Result<(), Memory>
+    ensures { OnOk result (page.new ≡ printed_onto page.old (stmt_tokens (Switch (expr_of on.now) cases.now label.now))) }
+{
+    put_switch_head(page, on)?;
+    put_each(page, cases.as_slice())?;
+    put_switch_end(page, label)
+}
+
+// A switch, of which the cases before the last ones are put to the file.
+fn put_switch_to<F: Files>(
+    alloc: Global,
+    page: &mut Page,
+    on: &Expr,
+    cases: &Cases,
+    label: &Name,
+    files: &mut F,
+) -> Result<(), WriteAnswer>
+    requires current { IsSome (F.current files.old) }
+    ensures whole { OnOk result (Prints F.Files files.old files.new page.old page.new
+        (stmt_tokens (Switch (expr_of on.now) cases.now label.now))) }
+    ensures part { IfErr result (λ why. PrintsPart F.Files files.old files.new page.old
+        (stmt_tokens (Switch (expr_of on.now) cases.now label.now)) why) }
+{
+    put_switch_head(page, on)?;
+    put_each_to(alloc, page, &[], cases.as_slice(), files)?;
+    put_switch_end(page, label)?;
+    Ok(())
 }
 
 impl Piece for Stmt {
@@ -130,5 +170,19 @@ impl Piece for Stmt {
                 page.fixed(Tok::Semicolon)
             }
         }
+    }
+
+    // A switch has a case for each label of a table, so the cases are put in pieces.
+    fn put_to<F: Files>(
+        &self,
+        alloc: Global,
+        page: &mut Page,
+        files: &mut F,
+    ) -> Result<(), WriteAnswer> {
+        if let Stmt::Switch(on, cases, label) = self {
+            return put_switch_to(alloc, page, on, cases, label, files);
+        }
+        self.put(page)?;
+        put_full(alloc, page, files)
     }
 }

@@ -1,29 +1,33 @@
-use Rattle.c_print.proofs.Common.{◌≡◌, ◌∙◌, memory_wanted, vain_passed, whole_passed, item_of, print_item_of}
-use Rattle.std.proofs.lemmas.Result.{err_from_is_err_and}
+use Rattle.c_print.proofs.Common.{◌≡◌, List, ℕ, ap, ◌∙◌, subst, refl, IfErr, OnOk, laid, Fixed, item_tokens, item_of, ended, gap_between}
+use Rattle.c_print.proofs.Common.{print_item_of, printed_onto, Page}
+use Rattle.c_tree.specs.declared.token.Tok.TheVariants as tok
+use Rattle.c_print.specs.ToFile.{HasPut, HasFailed}
+use Rattle.c_print.proofs.PageText.{item_text}
 use Rattle.c_print.proofs.Spells.{spells_item}
+use Rattle.c_print.proofs.ToFile.{answer_written, answer_part, answer_current, answer_cause, answer_named, answer_reads, answer_passed}
+use Rattle.c_print.proofs.ToFile.{answer_tried}
 use Rattle.c_print.proofs.item.print_item_to.Goals as goal
 
-pub returns-in_err-text-clause-spells : goal.returns-in_err-text-clause-spells
-returns-in_err-text-clause-spells g c = spells_item (item_of c.args.item.now) c.requires.formed
-
-pub returns-in_err-text-clause-tried : goal.returns-in_err-text-clause-tried
-returns-in_err-text-clause-tried g c =
-    let p = err_from_is_err_and c.from_residual.result c.from_residual.ensures.1 in
-    rw (p.1, p.2) (memory_wanted (g.F.Files.trace c.args.files.now) (print_item_of (item_of c.args.item.now)))
-
-pub returns-clause-spells : goal.returns-clause-spells
-returns-clause-spells g c = spells_item (item_of c.args.item.now) c.requires.formed
-
-pub returns-clause-passed : goal.returns-clause-passed
-returns-clause-passed g c =
-    let files = g.F.Files in
-    let same : c.as_slice.result.now ≡ print_item_of (item_of c.args.item.now) = c.as_slice.ensures ∙ c.in_ok-text.ensures in
-    whole_passed (files.trace c.args.files.now) (files.trace c.put.new.self) c.as_slice.result.now (print_item_of (item_of c.args.item.now))
-    c.put.result same c.put.ensures.traced
-
-pub returns-clause-tried : goal.returns-clause-tried
-returns-clause-tried g c =
-    let files = g.F.Files in
-    let same : c.as_slice.result.now ≡ print_item_of (item_of c.args.item.now) = c.as_slice.ensures ∙ c.in_ok-text.ensures in
-    vain_passed (files.trace c.args.files.now) (files.trace c.put.new.self) c.as_slice.result.now (print_item_of (item_of c.args.item.now))
-    c.put.result same c.put.ensures.traced
+pub returns : goal.returns
+returns g c =
+    let f = g.F.Files in
+    let item = item_of c.args.item.now in
+    let old = c.args.files.now in
+    let new = c.put_line_to.new.files in
+    let r = c.put_line_to.result in
+    let text = print_item_of item in
+    let same : (ended (printed_onto c.new-page.result (item_tokens item))).text ≡ text =
+    ap (λ (page : Page). (ended (printed_onto page (item_tokens item))).text) c.new-page.ensures ∙ item_text item in
+    let put = subst (λ (l : List ℕ). OnOk r (HasPut f old new l)) same c.put_line_to.ensures.whole in
+    let failed = subst (λ (l : List ℕ). IfErr r (λ why. HasFailed f old new l why)) same c.put_line_to.ensures.part in
+    record {
+      written = answer_written f old new text r (laid gap_between (Fixed tok.Include) (item_tokens item)) refl put;
+      spells = spells_item item c.requires.formed;
+      part = answer_part f old new text r failed;
+      current = answer_current f old new text r put failed;
+      cause = answer_cause f old new text r put failed;
+      named = answer_named f old new text r put failed;
+      reads = answer_reads f old new text r put failed;
+      passed = answer_passed f old new text r put;
+      tried = answer_tried f old new text r failed;
+    }
