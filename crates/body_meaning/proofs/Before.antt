@@ -3,7 +3,7 @@
 use Rattle.body_meaning.proofs.Common.{◌≡◌, ℕ, zero, suc, ◌+◌, ◌*◌, ◌<◌, ◌≤◌, List, [], ◌∷◌, ◌++◌, None, Option, sym, refl, ap, ◌∙◌, subst}
 use Rattle.body_meaning.proofs.Common.{append_assoc, arith, Trail, types_of, ValType, Value, Stack, values, join, stays, Program, Reaches}
 use Rattle.body_meaning.proofs.Common.{Going, IsGoing, Over, Pending, Progress, Stopped, over, at_rest, Arrives, Branches, BranchesTo}
-use Rattle.body_meaning.proofs.Common.{EndsAlike, Follows, GoesOn, Paid, Site, StandsAt, StopsAlike, Target, at, labelled}
+use Rattle.body_meaning.proofs.Common.{EndsAlike, Follows, GoesOn, Site, StandsAt, StopsAlike, Target, at, labelled}
 use Rattle.c_tree.specs.Tree as tree
 use Rattle.wasm_meaning.specs.LinkedSet as link
 use Rattle.wasm_meaning.specs.Store as store
@@ -35,8 +35,8 @@ in_front names (Going pending s) = Going pending (record {
   below = s.below;
 })
 
-stays_so : (p : Program) (x y : Progress) → x ≡ y → Reaches p 0 x y
-stays_so p x y e = subst (λ z. Reaches p 0 x z) e (stays p x)
+stays_so : (p : Program) {x y : Progress} → x ≡ y → Reaches p 0 x y
+stays_so p {x} e = subst (λ z. Reaches p 0 x z) e (stays p x)
 
 arrives_past : (g : Site) (spare : ℕ) (names : List state.Name) (code rest : List tree.Stmt) (m : state.Machine) (vars : state.Vars)
     (n left : ℕ) (stack : List Value) (now : store.State)
@@ -46,7 +46,7 @@ arrives_past : (g : Site) (spare : ℕ) (names : List state.Name) (code rest : L
 arrives_past g spare names code rest m vars n left stack now x zero e =
     let a = x.1 in
     let here : at g m code vars ≡ at g a.machine (labelled x.0 rest) a.vars =
-    (subst (λ k. Reaches g.program k (at g m code vars) (at g a.machine (labelled x.0 rest) a.vars)) e a.way).there in
+    (rw e at a.way).there in
     let there : at g m (labelled names code) vars ≡ at g a.machine (labelled (names ++ x.0) rest) a.vars =
     ap (in_front names) here ∙ ap (λ xs. at g a.machine xs a.vars) (labelled_twice names x.0 rest) in (
       names ++ x.0,
@@ -55,8 +55,8 @@ arrives_past g spare names code rest m vars n left stack now x zero e =
         vars = a.vars;
         stands = a.stands;
         statements = 0;
-        way = stays_so g.program (at g m (labelled names code) vars) (at g a.machine (labelled (names ++ x.0) rest) a.vars) there;
-        paid = subst (λ k. Paid spare n left k) e a.paid;
+        way = stays_so g.program there;
+        paid = rw e at a.paid;
       },
     )
 arrives_past g spare names code rest m vars n left stack now x (suc k) e =
@@ -67,18 +67,17 @@ arrives_past g spare names code rest m vars n left stack now x (suc k) e =
         vars = a.vars;
         stands = a.stands;
         statements = suc k;
-        way = past_way g m names code vars k (at g a.machine (labelled x.0 rest) a.vars)
-            (subst (λ j. Reaches g.program j (at g m code vars) (at g a.machine (labelled x.0 rest) a.vars)) e a.way);
-        paid = subst (λ j. Paid spare n left j) e a.paid;
+        way = past_way g names (rw e at a.way);
+        paid = rw e at a.paid;
       },
     )
 
-branches_past : (g : Site) (spare : ℕ) (names : List state.Name) (code : List tree.Stmt) (m : state.Machine) (vars : state.Vars)
-    (t : Target) (n left : ℕ) (stack : List Value) (now : store.State)
+branches_past : {g : Site} {spare : ℕ} (names : List state.Name) {code : List tree.Stmt} {m : state.Machine} {vars : state.Vars}
+    {t : Target} {n left : ℕ} {stack : List Value} {now : store.State}
     → (b : Branches g spare t (at g m code vars) n left stack now) → (k : ℕ) → b.arrives.statements ≡ k
     → Branches g spare t (at g m (labelled names code) vars) n left stack now
-branches_past g spare names code m vars t n left stack now b zero e = absurd (omega (arith, b.less, b.arrives.paid.least, e))
-branches_past g spare names code m vars t n left stack now b (suc k) e =
+branches_past names b zero e = absurd (omega (arith, b.less, b.arrives.paid.least, e))
+branches_past {g} {spare} names {code} {m} {vars} {t} {n} {left} b (suc k) e =
     let a = b.arrives in
     record {
       kept = b.kept;
@@ -90,55 +89,52 @@ branches_past g spare names code m vars t n left stack now b (suc k) e =
         vars = a.vars;
         stands = a.stands;
         statements = suc k;
-        way = past_way g m names code vars k (at g a.machine t.rest a.vars)
-            (subst (λ j. Reaches g.program j (at g m code vars) (at g a.machine t.rest a.vars)) e a.way);
-        paid = subst (λ j. Paid spare n left j) e a.paid;
+        way = past_way g names (rw e at a.way);
+        paid = rw e at a.paid;
       };
     }
 
-branches_to_past : (g : Site) (spare : ℕ) (names : List state.Name) (code : List tree.Stmt) (m : state.Machine) (vars : state.Vars)
-    (ts : List Target) (n label left : ℕ) (stack : List Value) (now : store.State)
-    → BranchesTo g spare ts label (at g m code vars) n left stack now
-    → BranchesTo g spare ts label (at g m (labelled names code) vars) n left stack now
-branches_to_past g spare names code m vars [] n label left stack now h = h
-branches_to_past g spare names code m vars (t ∷ ts) n zero left stack now h =
-    branches_past g spare names code m vars t n left stack now h h.arrives.statements refl
-branches_to_past g spare names code m vars (t ∷ ts) n (suc label) left stack now h =
-    branches_to_past g spare names code m vars ts n label left stack now h
+-- what holds of each target that a branch may go to
+branches_to_each : (g : Site) {spare spare' : ℕ} (ts : List Target) {from to : Progress} {n m : ℕ} (label left : ℕ) (stack : List Value)
+    (now : store.State)
+    → ((t : Target) → Branches g spare t to m left stack now → Branches g spare' t from n left stack now)
+    → BranchesTo g spare ts label to m left stack now → BranchesTo g spare' ts label from n left stack now
+branches_to_each g [] label left stack now each h = h
+branches_to_each g (t ∷ ts) zero left stack now each h = each t h
+branches_to_each g (t ∷ ts) (suc label) left stack now each h = branches_to_each g ts label left stack now each h
 
-ends_past : (g : Site) (spare : ℕ) (names : List state.Name) (code : List tree.Stmt) (m : state.Machine) (vars : state.Vars) (n : ℕ)
-    (why : exec.Stop) (made : store.Store) (trail : Trail)
+ends_past : (g : Site) {spare : ℕ} (names : List state.Name) {code : List tree.Stmt} {m : state.Machine} {vars : state.Vars} {n : ℕ}
+    {why : exec.Stop} {made : store.Store} {trail : Trail}
     → (x : EndsAlike g.program g.linked g.pending spare (at g m code vars) n why made trail) → (k : ℕ) → x.statements ≡ k
     → EndsAlike g.program g.linked g.pending spare (at g m (labelled names code) vars) n why made trail
-ends_past g spare names code m vars n why made trail x zero e =
-    absurd (subst IsGoing
-    (subst (λ k. Reaches g.program k (at g m code vars) (Over (over g.pending x.machine (Stopped x.reason)))) e x.way).there tt)
-ends_past g spare names code m vars n why made trail x (suc k) e = record {
+ends_past g names {code} {m} {vars} x zero e =
+    absurd (subst
+    IsGoing (subst (λ k. Reaches g.program k (at g m code vars) (Over (over g.pending x.machine (Stopped x.reason)))) e x.way).there tt)
+ends_past g {spare} names {code} {m} {vars} {n} x (suc k) e = record {
   machine = x.machine;
   reason = x.reason;
   same = x.same;
   agrees = x.agrees;
   statements = suc k;
-  way = past_way g m names code vars k _
-      (subst (λ j. Reaches g.program j (at g m code vars) (Over (over g.pending x.machine (Stopped x.reason)))) e x.way);
-  few = subst (λ j. j ≤ 400 * n + spare) e x.few;
+  way = past_way g names (subst (λ j. Reaches g.program j (at g m code vars) (Over (over g.pending x.machine (Stopped x.reason)))) e x.way);
+  few = rw e at x.few;
 }
 
-goes_on_past : (g : Site) (names : List state.Name) (code : List tree.Stmt) (m : state.Machine) (vars : state.Vars) (n : ℕ)
+goes_on_past : (g : Site) (names : List state.Name) {code : List tree.Stmt} {m : state.Machine} {vars : state.Vars} {n : ℕ}
     → (x : GoesOn g.program (at g m code vars) n) → (k : ℕ) → x.statements ≡ k → GoesOn g.program (at g m (labelled names code) vars) n
-goes_on_past g names code m vars n x zero e = record {
+goes_on_past g names {code} {m} {vars} {n} x zero e = record {
   to = at g m (labelled names code) vars;
   goes = tt;
   statements = 0;
   way = stays g.program (at g m (labelled names code) vars);
-  least = subst (λ j. n ≤ j) e x.least;
+  least = rw e at x.least;
 }
-goes_on_past g names code m vars n x (suc k) e = record {
+goes_on_past g names {code} {m} {vars} {n} x (suc k) e = record {
   to = x.to;
   goes = x.goes;
   statements = suc k;
-  way = past_way g m names code vars k x.to (subst (λ j. Reaches g.program j (at g m code vars) x.to) e x.way);
-  least = subst (λ j. n ≤ j) e x.least;
+  way = past_way g names (rw e at x.way);
+  least = rw e at x.least;
 }
 
 -- code is followed from before labels as it is from behind them
@@ -150,24 +146,23 @@ follows_past g spare names ts exit base code rest outs m vars n (exec.Normal lef
     let a = arrives_past g spare names code rest m vars n left (stack ++ base) now (h.1, h.2) h.2.statements refl in
     (h.0, a.0, a.1)
 follows_past g spare names ts exit base code rest outs m vars n (exec.Branch label left stack now) h =
-    branches_to_past g spare names code m vars ts n label left stack now h
+    branches_to_each g ts label left stack now (λ t b. branches_past names b b.arrives.statements refl) h
 follows_past g spare names ts exit base code rest outs m vars n (exec.Returned left stack now) h =
-    branches_past g spare names code m vars exit n left stack now h h.arrives.statements refl
+    branches_past names h h.arrives.statements refl
 follows_past g spare names ts exit base code rest outs m vars n (exec.Stops (exec.Trapped kind) now) h =
-    ends_past g spare names code m vars n (exec.Trapped kind) now.store now.trail h h.statements refl
-follows_past g spare names ts exit base code rest outs m vars n (exec.Stops exec.Asks now) h =
-    ends_past g spare names code m vars n exec.Asks now.store now.trail h h.statements refl
+    ends_past g names h h.statements refl
+follows_past g spare names ts exit base code rest outs m vars n (exec.Stops exec.Asks now) h = ends_past g names h h.statements refl
 follows_past g spare names ts exit base code rest outs m vars n (exec.Stops exec.OutOfSteps now) h =
-    goes_on_past g names code m vars n h h.statements refl
+    goes_on_past g names h h.statements refl
 follows_past g spare names ts exit base code rest outs m vars n (exec.Stops exec.Stuck now) h = h
 
 -- ---- statements that were run before
 
-arrives_before : (g : Site) (spare spare' : ℕ) (rest : List tree.Stmt) (from to : Progress) (n m left k : ℕ) (stack : List Value)
-    (now : store.State)
+arrives_before : {g : Site} {spare spare' : ℕ} {rest : List tree.Stmt} {from to : Progress} {n m left k : ℕ} {stack : List Value}
+    {now : store.State}
     → Reaches g.program k from to → Covers spare spare' n m k → Arrives g spare rest to m left stack now
     → Arrives g spare' rest from n left stack now
-arrives_before g spare spare' rest from to n m left k stack now way covers a = record {
+arrives_before {g} {rest} {from} {to} {k} way covers a = record {
   machine = a.machine;
   vars = a.vars;
   stands = a.stands;
@@ -176,32 +171,22 @@ arrives_before g spare spare' rest from to n m left k stack now way covers a = r
   paid = record { least = omega (arith, covers.least, a.paid.least); most = omega (arith, covers.most, a.paid.most) };
 }
 
-branches_before : (g : Site) (spare spare' : ℕ) (t : Target) (from to : Progress) (n m left k : ℕ) (stack : List Value) (now : store.State)
+branches_before : {g : Site} {spare spare' : ℕ} {t : Target} {from to : Progress} {n m left k : ℕ} {stack : List Value} {now : store.State}
     → Reaches g.program k from to → Covers spare spare' n m k → Branches g spare t to m left stack now
     → Branches g spare' t from n left stack now
-branches_before g spare spare' t from to n m left k stack now way covers b = record {
+branches_before way covers b = record {
   kept = b.kept;
   kept_is = b.kept_is;
   typed = b.typed;
   less = omega (arith, b.less, covers.fewer);
-  arrives = arrives_before g spare spare' t.rest from to n m left k (b.kept ++ t.base) now way covers b.arrives;
+  arrives = arrives_before way covers b.arrives;
 }
 
-branches_to_before : (g : Site) (spare spare' : ℕ) (ts : List Target) (from to : Progress) (n m label left k : ℕ) (stack : List Value)
-    (now : store.State)
-    → Reaches g.program k from to → Covers spare spare' n m k → BranchesTo g spare ts label to m left stack now
-    → BranchesTo g spare' ts label from n left stack now
-branches_to_before g spare spare' [] from to n m label left k stack now way covers h = h
-branches_to_before g spare spare' (t ∷ ts) from to n m zero left k stack now way covers h =
-    branches_before g spare spare' t from to n m left k stack now way covers h
-branches_to_before g spare spare' (t ∷ ts) from to n m (suc label) left k stack now way covers h =
-    branches_to_before g spare spare' ts from to n m label left k stack now way covers h
-
-pub ends_before : (p : Program) (s : link.LinkedSet) (pending : Pending) (spare spare' : ℕ) (from to : Progress) (n m k : ℕ)
-    (why : exec.Stop) (made : store.Store) (trail : Trail)
+pub ends_before : {p : Program} {s : link.LinkedSet} {pending : Pending} {spare : ℕ} (spare' : ℕ) {from to : Progress} (n : ℕ) {m k : ℕ}
+    {why : exec.Stop} {made : store.Store} {trail : Trail}
     → Reaches p k from to → k + 400 * m + spare ≤ 400 * n + spare' → EndsAlike p s pending spare to m why made trail
     → EndsAlike p s pending spare' from n why made trail
-ends_before p s pending spare spare' from to n m k why made trail way most x = record {
+ends_before {p} {pending} spare' {from} {to} n {k} way most x = record {
   machine = x.machine;
   reason = x.reason;
   same = x.same;
@@ -211,8 +196,9 @@ ends_before p s pending spare spare' from to n m k why made trail way most x = r
   few = omega (arith, most, x.few);
 }
 
-pub goes_on_before : (p : Program) (from to : Progress) (n m k : ℕ) → Reaches p k from to → n ≤ m + k → GoesOn p to m → GoesOn p from n
-goes_on_before p from to n m k way least x = record {
+pub goes_on_before : {p : Program} {from to : Progress} (n : ℕ) {m k : ℕ}
+    → Reaches p k from to → n ≤ m + k → GoesOn p to m → GoesOn p from n
+goes_on_before {p} {from} {to} n {k} way least x = record {
   to = x.to;
   goes = x.goes;
   statements = k + x.statements;
@@ -220,39 +206,34 @@ goes_on_before p from to n m k way least x = record {
   least = omega (arith, least, x.least);
 }
 
-pub stops_before : (p : Program) (s : link.LinkedSet) (pending : Pending) (spare spare' : ℕ) (from to : Progress) (n m k : ℕ)
-    (why : exec.Stop) (made : store.Store) (trail : Trail)
+pub stops_before : {p : Program} (s : link.LinkedSet)
+    (pending : Pending) (spare spare' : ℕ) {from to : Progress} (n m : ℕ) {k : ℕ} (why : exec.Stop) (made : store.Store) (trail : Trail)
     → Reaches p k from to → Covers spare spare' n m k → StopsAlike p s pending spare to m why made trail
     → StopsAlike p s pending spare' from n why made trail
-stops_before p s pending spare spare' from to n m k (exec.Trapped kind) made trail way covers h =
-    ends_before p s pending spare spare' from to n m k (exec.Trapped kind) made trail way covers.most h
-stops_before p s pending spare spare' from to n m k exec.Asks made trail way covers h =
-    ends_before p s pending spare spare' from to n m k exec.Asks made trail way covers.most h
-stops_before p s pending spare spare' from to n m k exec.OutOfSteps made trail way covers h =
-    goes_on_before p from to n m k way covers.least h
-stops_before p s pending spare spare' from to n m k exec.Stuck made trail way covers h = h
+stops_before s pending spare spare' n m (exec.Trapped kind) made trail way covers h = ends_before spare' n way covers.most h
+stops_before s pending spare spare' n m exec.Asks made trail way covers h = ends_before spare' n way covers.most h
+stops_before s pending spare spare' n m exec.OutOfSteps made trail way covers h = goes_on_before n way covers.least h
+stops_before s pending spare spare' n m exec.Stuck made trail way covers h = h
 
 -- what is followed from a place is followed from statements before it
-pub before : (g : Site) (spare spare' : ℕ) (ts : List Target) (exit : Target) (base : List Value) (rest : List tree.Stmt) (outs : Stack)
-    (from to : Progress) (n m k : ℕ)
+pub before : (g : Site) (spare spare' : ℕ)
+    (ts : List Target) (exit : Target) (base : List Value) (rest : List tree.Stmt) (outs : Stack) {from to : Progress} (n m : ℕ) {k : ℕ}
     → Reaches g.program k from to → Covers spare spare' n m k → (r : exec.Result)
     → Follows g spare ts exit base rest outs to m r → Follows g spare' ts exit base rest outs from n r
-before g spare spare' ts exit base rest outs from to n m k way covers (exec.Normal left stack now) h =
-    (h.0, h.1, arrives_before g spare spare' (labelled h.1 rest) from to n m left k (stack ++ base) now way covers h.2)
-before g spare spare' ts exit base rest outs from to n m k way covers (exec.Branch label left stack now) h =
-    branches_to_before g spare spare' ts from to n m label left k stack now way covers h
-before g spare spare' ts exit base rest outs from to n m k way covers (exec.Returned left stack now) h =
-    branches_before g spare spare' exit from to n m left k stack now way covers h
-before g spare spare' ts exit base rest outs from to n m k way covers (exec.Stops why now) h =
-    stops_before g.program g.linked g.pending spare spare' from to n m k why now.store now.trail way covers h
+before g spare spare' ts exit base rest outs n m way covers (exec.Normal left stack now) h = (h.0, h.1, arrives_before way covers h.2)
+before g spare spare' ts exit base rest outs n m way covers (exec.Branch label left stack now) h =
+    branches_to_each g ts label left stack now (λ t b. branches_before way covers b) h
+before g spare spare' ts exit base rest outs n m way covers (exec.Returned left stack now) h = branches_before way covers h
+before g spare spare' ts exit base rest outs n m way covers (exec.Stops why now) h =
+    stops_before g.linked g.pending spare spare' n m why now.store now.trail way covers h
 
 -- the same with more to spare
 pub with_spare : (g : Site) (spare : ℕ) (ts : List Target) (exit : Target) (base : List Value) (rest : List tree.Stmt) (outs : Stack)
     (from : Progress) (n : ℕ) (r : exec.Result)
     → Follows g 0 ts exit base rest outs from n r → Follows g spare ts exit base rest outs from n r
 with_spare g spare ts exit base rest outs from n r h =
-    before g 0 spare ts exit base rest outs from from n n 0 (stays g.program from)
-    (record { least = omega arith; fewer = omega arith; most = omega arith }) r h
+    before g
+    0 spare ts exit base rest outs n n (stays g.program from) (record { least = omega arith; fewer = omega arith; most = omega arith }) r h
 
 -- code that goes on behind where a run came to
 pub continues : (g : Site) (spare : ℕ) (ts : List Target) (exit : Target) (base : List Value) (middle rest : List tree.Stmt) (outs : Stack)
@@ -262,9 +243,12 @@ pub continues : (g : Site) (spare : ℕ) (ts : List Target) (exit : Target) (bas
     → Follows g spare ts exit base rest outs from n r
 continues g spare ts exit base middle rest outs from n left stack now r x less h =
     let a = x.1 in
-    before g 0 spare ts exit base rest outs from (at g a.machine (labelled x.0 middle) a.vars) n left a.statements a.way
-    (record { least = omega (arith, a.paid.least); fewer = less; most = omega (arith, a.paid.most) }) r
-    (follows_past g 0 x.0 ts exit base middle rest outs a.machine a.vars left r h)
+    before g 0 spare ts exit base rest outs n left a.way (record {
+      least = omega (arith, a.paid.least);
+      fewer =
+          less;
+      most = omega (arith, a.paid.most);
+    }) r (follows_past g 0 x.0 ts exit base middle rest outs a.machine a.vars left r h)
 
 -- ---- instructions
 
@@ -294,37 +278,37 @@ spends g spare ts exit base code rest outs m vars (suc left) now go h = h left
 -- ---- blocks
 
 -- a block's operands on those below
-pub arrives_over : (g : Site) (spare : ℕ) (rest : List tree.Stmt) (from : Progress) (n left : ℕ) (inner stack base : List Value)
-    (now : store.State)
+pub arrives_over : {g : Site} {spare : ℕ} {rest : List tree.Stmt} {from : Progress} {n left : ℕ} (inner stack base : List Value)
+    {now : store.State}
     → Arrives g spare rest from n left (inner ++ (stack ++ base)) now → Arrives g spare rest from n left ((inner ++ stack) ++ base) now
-arrives_over g spare rest from n left inner stack base now h =
+arrives_over {g} {spare} {rest} {from} {n} {left} inner stack base {now} h =
     subst (λ xs. Arrives g spare rest from n left xs now) (sym (append_assoc inner stack base)) h
 
 -- the target of a block's own label
 abbrev pub target_by : ℕ → ℕ → Option ValType → List Value → List tree.Stmt → Target
 target_by l h t base rest = record { aim = record { label = l; height = h; value = t }; base = base; rest = rest }
 
-pub outs_over : (t : Option ValType) (inner stack : List Value) (outs : Stack) → outs ≡ values t ++ types_of stack
+pub outs_over : (t : Option ValType) (inner stack : List Value) {outs : Stack} → outs ≡ values t ++ types_of stack
     → types_of inner ≡ values t → types_of (inner ++ stack) ≡ outs
-outs_over t inner stack outs e h = types_append inner stack ∙ (ap (λ xs. xs ++ types_of stack) h ∙ sym e)
+outs_over t inner stack e h = types_append inner stack ∙ (ap (λ xs. xs ++ types_of stack) h ∙ sym e)
 
 -- a block is left: it ends before its label, where the label is written
-pub leaves : (g : Site) (spare : ℕ) (ts : List Target) (exit : Target) (t : Option ValType) (l h : ℕ) (stack base : List Value)
-    (names : List state.Name) (rest : List tree.Stmt) (outs : Stack) (from : Progress) (n : ℕ) (r : exec.Result)
+pub leaves : (g : Site) (spare : ℕ) (ts : List Target) (exit : Target) (t : Option ValType) (l h : ℕ)
+    (stack base : List Value) (names : List state.Name) (rest : List tree.Stmt) {outs : Stack} (from : Progress) (n : ℕ) (r : exec.Result)
     → outs ≡ values t ++ types_of stack
     → Follows g spare (target_by l h t (stack ++ base) rest ∷ ts) exit (stack ++ base) (labelled names rest) (values t) from n r
     → Follows g spare ts exit base rest outs from n (exec.leave t stack r)
-leaves g spare ts exit t l h stack base names rest outs from n (exec.Normal left inner now) e f = (
-  outs_over t inner stack outs e f.0,
+leaves g spare ts exit t l h stack base names rest from n (exec.Normal left inner now) e f = (
+  outs_over t inner stack e f.0,
   f.1 ++ names,
-  arrives_over g spare (labelled (f.1 ++ names) rest) from n left inner stack base now
-      (subst (λ code. Arrives g spare code from n left (inner ++ (stack ++ base)) now) (labelled_twice f.1 names rest) f.2),
+  arrives_over inner
+      stack base (subst (λ code. Arrives g spare code from n left (inner ++ (stack ++ base)) now) (labelled_twice f.1 names rest) f.2),
 )
-leaves g spare ts exit t l h stack base names rest outs from n (exec.Branch zero left inner now) e f =
-    subst (λ o. Follows g spare ts exit base rest outs from n (exec.onto left o stack now)) (sym f.kept_is)
-    (outs_over t f.kept stack outs e f.typed, [], arrives_over g spare rest from n left f.kept stack base now f.arrives)
-leaves g spare ts exit t l h stack base names rest outs from n (exec.Branch (suc label) left inner now) e f = f
-leaves g spare ts exit t l h stack base names rest outs from n _ e f = f
+leaves g spare ts exit t l h stack base names rest {outs} from n (exec.Branch zero left inner now) e f =
+    subst (λ o. Follows g spare ts exit base rest outs from n (exec.onto left o stack now))
+    (sym f.kept_is) (outs_over t f.kept stack e f.typed, [], arrives_over f.kept stack base f.arrives)
+leaves g spare ts exit t l h stack base names rest from n (exec.Branch (suc label) left inner now) e f = f
+leaves g spare ts exit t l h stack base names rest from n _ e f = f
 
 -- a turn of a loop
 no_values : (vs : List Value) → types_of vs ≡ [] → vs ≡ []
@@ -332,36 +316,37 @@ no_values [] e = refl
 no_values (v ∷ vs) e = absurd (grind (arith, e))
 
 turn_follows : (g : Site) (ts : List Target) (exit : Target) (t : Option ValType) (l h : ℕ) (stack base : List Value)
-    (start rest : List tree.Stmt) (outs : Stack) (from : Progress) (n : ℕ) (again : ℕ → store.State → exec.Result) (r : exec.Result)
+    (start rest : List tree.Stmt) {outs : Stack} (from : Progress) (n : ℕ) (again : ℕ → store.State → exec.Result) (r : exec.Result)
     → outs ≡ values t ++ types_of stack
     → Follows g 0 (target_by l h None (stack ++ base) start ∷ ts) exit (stack ++ base) rest (values t) from n r
     → ((left : ℕ) (now : store.State) (m : state.Machine) (vars : state.Vars) → left < n → StandsAt g (stack ++ base) now m vars
     → Follows g 0 ts exit base rest outs (at g m start vars) left (again left now))
     → Follows g 0 ts exit base rest outs from n (exec.turn again stack r)
-turn_follows g ts exit t l h stack base start rest outs from n again (exec.Normal left inner now) e f next =
-    (outs_over t inner stack outs e f.0, f.1, arrives_over g 0 (labelled f.1 rest) from n left inner stack base now f.2)
-turn_follows g ts exit t l h stack base start rest outs from n again (exec.Branch zero left inner now) e f next =
+turn_follows g ts exit t l h stack base start rest from n again (exec.Normal left inner now) e f next =
+    (outs_over t inner stack e f.0, f.1, arrives_over inner stack base f.2)
+turn_follows g ts exit t l h stack base start rest {outs} from n again (exec.Branch zero left inner now) e f next =
     let a = f.arrives in
     let empty : f.kept ≡ [] = no_values f.kept f.typed in
     let stands : StandsAt g (stack ++ base) now a.machine a.vars =
     subst (λ vs. StandsAt g (vs ++ (stack ++ base)) now a.machine a.vars) empty a.stands in
-    before g 0 0 ts exit base rest outs from (at g a.machine start a.vars) n left a.statements a.way
-    (record { least = a.paid.least; fewer = omega (arith, f.less); most = omega (arith, a.paid.most) }) (again left now)
-    (next left now a.machine a.vars f.less stands)
-turn_follows g ts exit t l h stack base start rest outs from n again (exec.Branch (suc label) left inner now) e f next = f
-turn_follows g ts exit t l h stack base start rest outs from n again _ e f next = f
+    before g 0 0 ts exit base rest outs n left a.way (record {
+      least = a.paid.least;
+      fewer =
+          omega (arith, f.less);
+      most = omega (arith, a.paid.most);
+    }) (again left now) (next left now a.machine a.vars f.less stands)
+turn_follows g ts exit t l h stack base start rest from n again (exec.Branch (suc label) left inner now) e f next = f
+turn_follows g ts exit t l h stack base start rest from n again _ e f next = f
 
 -- the turns of a loop, which are more than the budget
-pub turns_follow : (g : Site) (ts : List Target) (exit : Target) (t : Option ValType) (l h : ℕ) (stack base : List Value)
-    (start rest : List tree.Stmt) (outs : Stack) (body : ℕ → store.State → exec.Result)
+pub turns_follow : {g : Site} (ts : List Target) (exit : Target) (t : Option ValType)
+    (l h : ℕ) (stack base : List Value) (start rest : List tree.Stmt) {outs : Stack} (body : ℕ → store.State → exec.Result)
     → outs ≡ values t ++ types_of stack
     → ((n : ℕ) (now : store.State) (m : state.Machine) (vars : state.Vars) → StandsAt g (stack ++ base) now m vars
     → Follows g 0 (target_by l h None (stack ++ base) start ∷ ts) exit (stack ++ base) rest (values t) (at g m start vars) n (body n now))
-    → (k n : ℕ) (now : store.State) (m : state.Machine) (vars : state.Vars) → n < k → StandsAt g (stack ++ base) now m vars
+    → (k n : ℕ) {now : store.State} {m : state.Machine} {vars : state.Vars} → n < k → StandsAt g (stack ++ base) now m vars
     → Follows g 0 ts exit base rest outs (at g m start vars) n (exec.turns k body stack n now)
-turns_follow g ts exit t l h stack base start rest outs body e f zero n now m vars less stands = absurd (omega (arith, less))
-turns_follow g ts exit t l h stack base start rest outs body e f (suc k) n now m vars less stands =
-    turn_follows g ts exit t l h stack base start rest outs (at g m start vars) n (exec.turns k body stack) (body n now) e
-    (f n now m vars stands)
-    (λ left now' m' vars' fewer stands'. turns_follow g ts exit t l h stack base start rest outs body e f k left now' m' vars'
-    (omega (arith, less, fewer)) stands')
+turns_follow ts exit t l h stack base start rest body e f zero n less stands = absurd (omega (arith, less))
+turns_follow {g} ts exit t l h stack base start rest body e f (suc k) n {now} {m} {vars} less stands =
+    turn_follows g ts exit t l h stack base start rest _ n _ _ e (f n now m vars stands) (λ left
+    now' m' vars' fewer stands'. turns_follow ts exit t l h stack base start rest body e f k left (omega (arith, less, fewer)) stands')

@@ -77,8 +77,8 @@ pub use Rattle.wasm_meaning.specs.Operators.{Answer, AnswerFits, Gives, Traps, b
 pub use Rattle.c_meaning.proofs.Lookups.{bytes_differ, bytes_equal, named-with_another, named-with_named}
 pub use Rattle.c_meaning.proofs.Takes.{number_is_returned, numbers_of_one_type, numbers_of_their_types, put_number, put_where_held}
 pub use Rattle.c_meaning.proofs.Ways.{join, join_one, stays, step}
-pub use Rattle.c_meaning.specs.Linking.{Definition, Program, array_named, definition_at, func_named, func_type, host_type}
-pub use Rattle.c_meaning.specs.Machine.{initial_of, var_in, with_depth, with_trail, with_var}
+pub use Rattle.c_meaning.specs.Linking.{Definition, Program, definition_at, func_named, func_type, host_type}
+pub use Rattle.c_meaning.specs.Machine.{initial_of, with_depth, with_trail}
 pub use Rattle.c_meaning.specs.Operators.{operate, operate_at}
 pub use Rattle.c_meaning.specs.Primitives.{Effect, NoEffect, gives, mem_grow, primitive, with_content}
 pub use Rattle.c_meaning.specs.Reaches.{Reaches}
@@ -86,13 +86,13 @@ pub use Rattle.c_meaning.specs.Run.{Going, IsGoing, Over, Pending, Progress, Sto
 pub use Rattle.c_meaning.specs.State.{Element, Evaluated, Frame, FuncPointer, Is, Machine, NoRule, Number, Pointer, Running, found}
 pub use Rattle.c_meaning.specs.State.{of_one_type, then_evaluate}
 pub use Rattle.c_meaning.specs.Step.{Next, Step, Stops, act, after_label, are_of_types, as_object, assign, at_rest, begin, bind, c_step}
-pub use Rattle.c_meaning.specs.Step.{call, call_callee, call_through, evaluate, evaluate_arg, evaluate_args, first_vars, jump as goto}
+pub use Rattle.c_meaning.specs.Step.{call, evaluate, evaluate_arg, evaluate_args, first_vars, jump as goto}
 pub use Rattle.c_meaning.specs.Step.{in_unit, label_of, locals_of, next, number_in, param_names, param_types, place_of, put_in, returned}
 pub use Rattle.c_meaning.specs.Step.{take_effect, value_of, with_value, with_vars}
 pub use Rattle.alike.specs.Agree.{ElementAgrees, ElementsAgree, IsCallable, IsCallableIfAny, IsDefined, IsFuncOf, IsMade, MemoryAgrees}
 pub use Rattle.alike.specs.Agree.{PointersAreSet, PointsTo, TableAgrees}
 pub use Rattle.alike.specs.Alike.{first_global}
-pub use Rattle.alike.specs.CallsFollow.{CallFollows, CallsFollow, ComesBack, EndsAlike, GoesOn, Paid, StopsAlike, Together, call_spare}
+pub use Rattle.alike.specs.CallsFollow.{CallFollows, CallsFollow, ComesBack, EndsAlike, GoesOn, StopsAlike, Together, call_spare}
 pub use Rattle.alike.specs.Passing.{PassesOn, StandsFor, called, core, given, wrapper_statements}
 pub use Rattle.c_helpers.specs.Helpers.{helper_of}
 pub use Rattle.c_helpers.specs.Needed.{calls_helper}
@@ -118,7 +118,7 @@ pub use Rattle.c_body.specs.Code.{moving_cases, operands_from, result_slot}
 pub use Rattle.c_body.specs.Labels.{falls, labels_in, labels_of, targets, targets_else, targets_in}
 pub use Rattle.c_body.specs.Limits.{BodyHasLimits, HasLimits}
 pub use Rattle.c_body.specs.Plain.{Setting, by_way, bytes_stmt, call_helper, plain_stmts}
-pub use Rattle.c_body.specs.Stack.{after, after_call, occurs, occurs_in, peak, pushed, stands, turned}
+pub use Rattle.c_body.specs.Stack.{after, after_call, occurs, occurs_in, peak, stands}
 pub use Rattle.c_prelude.proofs.CallStatements.{named_here, statement_comes_between, statement_comes_to}
 pub use Rattle.c_prelude.proofs.EachHelper.{helper_right}
 pub use Rattle.c_prelude.proofs.Widths.{evaluate-num, flagged, flagged-bit, operate-value, type_of-value}
@@ -128,6 +128,6 @@ pub use Rattle.body_meaning.specs.Agree.{HoldsFunction, HoldsNumber, Located, St
 pub use Rattle.body_meaning.specs.Follows.{Arrives, Branches, BranchesTo, Follows, Site, StandsAt, Target, at, labelled, state_at}
 pub use Rattle.body_meaning.specs.Parts.{AllCodeFollows, AreTargets, CallsInCodeFollow, IndirectCallsFollow, IsExit, IsFoundIf}
 pub use Rattle.alike.specs.Placed.{IsPlaced}
-pub use Rattle.body_meaning.specs.Parts.{IsSite, IsTarget, IsThere, KindFollows, aims_of, is_plain}
+pub use Rattle.body_meaning.specs.Parts.{IsHere, IsSite, IsTarget, IsThere, KindFollows, Spot, aims_of, is_plain}
 pub use Rattle.body_meaning.specs.Serves.{AreServed, Reached, Serves}
 pub use Rattle.alike.specs.Defines.{Defines}

@@ -1,14 +1,14 @@
 -- What a plain instruction owes, and the two statements that give a value: an assignment to the slot on top, and a
 -- call of a helper whose value goes there.
-use Rattle.body_meaning.proofs.Common.{◌≡◌, ℕ, zero, suc, ◌^◌, ◌<◌, ◌≤◌, true, false, List, [], ◌∷◌, ◌++◌, length, is_some, Some, None}
-use Rattle.body_meaning.proofs.Common.{Option, bytes_eq, sym, refl, ap, ◌∙◌, subst, arith, named, with_named, IsNumber, bits, type_of}
-use Rattle.body_meaning.proofs.Common.{types_of, value, ValType, Value, Stack, Answer, AnswerFits, Gives, Traps, put_where_held, step}
-use Rattle.body_meaning.proofs.Common.{Program, Reaches, Going, Over, Pending, Progress, go_on, Evaluated, Is, found, then_evaluate, Next}
-use Rattle.body_meaning.proofs.Common.{Step, assign, at_rest, c_step, depth_name, evaluate, evaluate_arg, evaluate_args, next, number_in}
-use Rattle.body_meaning.proofs.Common.{place_of, value_of, with_value, with_vars, statement_comes_between, statement_comes_to}
-use Rattle.body_meaning.proofs.Common.{CallComesBetween, CallComesTo, CallEnd, call_ended, helper_of, ComesBetween, ComesWithin, Helper}
-use Rattle.body_meaning.proofs.Common.{HoldsNumber, Arrives, EndsAlike, Follows, Site, StandsAt, Target, at, labelled, state_at, slot}
-use Rattle.body_meaning.proofs.Common.{call_helper, operand, set_slot, Defines, type_of-value}
+use Rattle.body_meaning.proofs.Common.{◌≡◌, ℕ, zero, suc, ◌^◌, ◌<◌, ◌≤◌, true, false, List, [], ◌∷◌, ◌++◌, length, is_some, Some, Option}
+use Rattle.body_meaning.proofs.Common.{bytes_eq, sym, refl, ap, ◌∙◌, subst, arith, named, with_named, IsNumber, bits, type_of, types_of}
+use Rattle.body_meaning.proofs.Common.{value, ValType, Value, Stack, Answer, AnswerFits, Gives, Traps, put_where_held, step, Program}
+use Rattle.body_meaning.proofs.Common.{Reaches, Going, Over, Pending, Progress, go_on, Evaluated, Is, found, then_evaluate, Next, Step}
+use Rattle.body_meaning.proofs.Common.{assign, at_rest, c_step, depth_name, evaluate, evaluate_arg, evaluate_args, next, number_in}
+use Rattle.body_meaning.proofs.Common.{value_of, with_vars, statement_comes_between, statement_comes_to, CallComesBetween, CallComesTo}
+use Rattle.body_meaning.proofs.Common.{CallEnd, call_ended, helper_of, ComesBetween, ComesWithin, Helper, HoldsNumber, Arrives, EndsAlike}
+use Rattle.body_meaning.proofs.Common.{Follows, Site, StandsAt, Target, at, labelled, state_at, slot, call_helper, operand, set_slot}
+use Rattle.body_meaning.proofs.Common.{Defines, type_of-value, Stopped, over, Spot}
 use Rattle.c_tree.specs.Tree as tree
 use Rattle.wasm_meaning.specs.Store as store
 use Rattle.wasm_meaning.specs.Execution as exec
@@ -18,7 +18,8 @@ use Rattle.body_meaning.proofs.Names.{slot_is_no_depth}
 use Rattle.body_meaning.proofs.Slots.{SlotIsSet}
 use Rattle.body_meaning.proofs.Before.{spends}
 use Rattle.body_meaning.proofs.Operands.{value_number}
-use Rattle.body_meaning.proofs.Vars.{height, under, Takes, number_taken}
+use Rattle.body_meaning.proofs.Vars.{height, Takes, number_taken}
+use Rattle.c_prelude.specs.Statements.{Calls}
 
 -- ---- what an instruction without control owes, once its step is paid
 
@@ -35,63 +36,59 @@ did_follows : (g : Site) (targets : List Target) (exit : Target) (base : List Va
 did_follows g targets exit base rest outs from left before exec.NoRule does = absurd does
 did_follows g targets exit base rest outs from left before _ does = does
 
+-- where an instruction stands
+abbrev pub Owes : Site → Spot → List tree.Stmt → ℕ → exec.Done → Type 0
+Owes g s code left done = Does g s.base s.rest s.outs (at g s.machine (code ++ s.rest) s.vars) left s.now done
+
 -- an instruction that costs a step
-pub owes : (g : Site) (targets : List Target) (exit : Target) (base : List Value) (outs : Stack) (m : state.Machine)
-    (stmts rest : List tree.Stmt) (vars : state.Vars) (n : ℕ) (before : store.State) (done : exec.Done)
-    → ((left : ℕ) → Does g base rest outs (at g m stmts vars) left before done)
-    → Follows g 0 targets exit base rest outs (at g m stmts vars) n (exec.spend n before (λ left. exec.did left before done))
-owes g targets exit base outs m stmts rest vars n before done does =
-    spends g 0 targets exit base stmts rest outs m vars n before (λ left. exec.did left before done)
-    (λ left. did_follows g targets exit base rest outs (at g m stmts vars) left before done (does left))
+pub owes : (g : Site) (s : Spot) (exit : Target) (n : ℕ) (stmts : List tree.Stmt) {done comes : exec.Done} → done ≡ comes
+    → ((left : ℕ) → Does g s.base s.rest s.outs (at g s.machine stmts s.vars) left s.now comes)
+    → Follows g 0 s.targets exit s.base s.rest s.outs (at g s.machine stmts s.vars) n
+    (exec.spend n s.now (λ left. exec.did left s.now done))
+owes g s exit n stmts {comes} e does =
+    rw e (spends g 0 s.targets exit s.base stmts s.rest s.outs s.machine s.vars n s.now (λ left. exec.did left s.now comes)
+    (λ left. did_follows g s.targets exit s.base s.rest s.outs (at g s.machine stmts s.vars) left s.now comes (does left)))
 
 -- what is emitted and done as they compute
-pub plain_follows : (g : Site) (targets : List Target) (exit : Target) (base : List Value) (rest : List tree.Stmt) (outs : Stack)
-    (m : state.Machine) (vars : state.Vars) (n : ℕ) (before : store.State)
-    (emitted stmts : List tree.Stmt) (done comes : exec.Done) → emitted ≡ stmts → done ≡ comes
-    → ((left : ℕ) → Does g base rest outs (at g m (stmts ++ rest) vars) left before comes)
-    → Follows g 0 targets exit base rest outs (at g m (emitted ++ rest) vars) n (exec.spend n before (λ left. exec.did left before done))
-plain_follows g targets exit base rest outs m vars n before emitted stmts done comes e d does =
-    subst (λ stmts. Follows g 0 targets exit base rest outs (at g m (stmts ++ rest) vars) n
-    (exec.spend n before (λ left. exec.did left before done))) (sym e)
-    (subst (λ done. Follows g 0 targets exit base rest outs (at g m (stmts ++ rest) vars) n
-    (exec.spend n before (λ left. exec.did left before done))) (sym d)
-    (owes g targets exit base outs m (stmts ++ rest) rest vars n before comes does))
+pub plain_follows : (g : Site) (s : Spot) (exit : Target) (n : ℕ) {emitted code : List tree.Stmt} {done comes : exec.Done}
+    → emitted ≡ code → done ≡ comes → ((left : ℕ) → Owes g s code left comes)
+    → Follows g 0 s.targets exit s.base s.rest s.outs (at g s.machine (emitted ++ s.rest) s.vars) n
+    (exec.spend n s.now (λ left. exec.did left s.now done))
+plain_follows g s exit n {code} e d does = rw e (owes g s exit n (code ++ s.rest) d does)
 
 -- ---- evaluation in a function that runs
 
 abbrev pub running : Site → List tree.Stmt → state.Vars → state.Running
 running g rest vars = (state_at g (record { depth = 0; units = []; trail = record { replies = []; events = [] } }) rest vars).running
 
-pub value_of_variable : (m : state.Machine) (r : state.Running) (name : List ℕ) (v : state.CValue) → bytes_eq name depth_name ≡ false
+pub value_of_variable : (m : state.Machine) (r : state.Running) (name : List ℕ) {v : state.CValue} → bytes_eq name depth_name ≡ false
     → named name r.vars ≡ Some v
     → value_of m r name ≡ Some v
-value_of_variable m r name v no_depth is = rw (no_depth, is) refl
+value_of_variable m r name no_depth is = rw (no_depth, is) refl
 
-pub evaluate-variable : (p : Program) (m : state.Machine) (r : state.Running) (name : List ℕ) (v : Value) → bytes_eq name depth_name ≡ false
+pub evaluate-variable : (p : Program) (m : state.Machine) (r : state.Running) (name : List ℕ) {v : Value} → bytes_eq name depth_name ≡ false
     → named name r.vars ≡ Some (state.Number v)
     → evaluate p m r (tree.Name name) ≡ Is v
-evaluate-variable p m r name v no_depth is = ap number_in (value_of_variable m r name (state.Number v) no_depth is)
+evaluate-variable p m r name no_depth is = ap number_in (value_of_variable m r name no_depth is)
 
-pub slot_value : (m : state.Machine) (r : state.Running) (t : ValType) (height : ℕ) (v : state.CValue)
+pub slot_value : (m : state.Machine) (r : state.Running) (t : ValType) (height : ℕ) {v : state.CValue}
     → named (slot t height) r.vars ≡ Some v → value_of m r (slot t height) ≡ Some v
-slot_value m r t height v is = value_of_variable m r (slot t height) v (slot_is_no_depth t height) is
+slot_value m r t height is = value_of_variable m r (slot t height) (slot_is_no_depth t height) is
 
-pub operand_is : (p : Program) (m : state.Machine) (r : state.Running) (t : ValType) (height : ℕ) (v : state.CValue)
+pub operand_is : (p : Program) (m : state.Machine) (r : state.Running) (t : ValType) (height : ℕ) {v : state.CValue}
     → named (slot t height) r.vars ≡ Some v
     → evaluate_arg p m r (tree.Value (operand t height)) ≡ Is v
-operand_is p m r t height v is = ap state.found (slot_value m r t height v is)
+operand_is p m r t height is = ap state.found (slot_value m r t height is)
 
-found_number : (o : Option state.CValue) (v : Value) → number_in o ≡ Is v → found o ≡ Is (state.Number v)
-found_number None v e = absurd cc
-found_number (Some (state.Number w)) v e = ap (λ (x : Evaluated Value). then_evaluate x (λ u. Is (state.Number u))) e
-found_number (Some (state.Pointer to)) v e = absurd cc
-found_number (Some (state.FuncPointer to)) v e = absurd cc
+found_number : (o : Option state.CValue) {v : Value} → number_in o ≡ Is v → found o ≡ Is (state.Number v)
+found_number (Some (state.Number w)) e = ap (λ (x : Evaluated Value). then_evaluate x (λ u. Is (state.Number u))) e
+found_number _ e = absurd cc
 
 -- what an expression with a number is as a right side or an argument
-pub number_arg : (p : Program) (m : state.Machine) (r : state.Running) (e : tree.Expr) (v : Value) → evaluate p m r e ≡ Is v
+pub number_arg : (p : Program) (m : state.Machine) (r : state.Running) (e : tree.Expr) {v : Value} → evaluate p m r e ≡ Is v
     → evaluate_arg p m r (tree.Value e) ≡ Is (state.Number v)
-number_arg p m r (tree.Name name) v is = found_number (value_of m r name) v is
-number_arg p m r e v is = ap (λ (x : Evaluated Value). then_evaluate x (λ u. Is (state.Number u))) is
+number_arg p m r (tree.Name name) is = found_number (value_of m r name) is
+number_arg p m r e is = ap (λ (x : Evaluated Value). then_evaluate x (λ u. Is (state.Number u))) is
 
 -- ---- one statement
 
@@ -104,95 +101,83 @@ pub assign_variable : (m : state.Machine) (r : state.Running) (name : List ℕ) 
     → assign m r name v below ≡ next m (with_vars r (with_named name v r.vars)) below
 assign_variable m r name v below no_depth takes =
     let there : is_some (named name r.vars) ≡ true = ap is_some takes.1 in
-    rw (no_depth, there) (put_where_held m (named name r.vars) takes.0 v (next m (with_vars r (with_named name v r.vars)) below)
-    takes.1 takes.2)
+    rw (no_depth, there) (put_where_held m _ takes.0 v _ takes.1 takes.2)
 
 -- so is a slot
 pub assign_slot : (m : state.Machine) (r : state.Running) (t : ValType) (height : ℕ) (v : Value) (below : List state.Frame)
     → HoldsNumber t (named (slot t height) r.vars) → type_of v ≡ t
     → assign m r (slot t height) (state.Number v) below
     ≡ next m (with_vars r (with_named (slot t height) (state.Number v) r.vars)) below
-assign_slot m r t height v below holds typed =
-    assign_variable m r (slot t height) (state.Number v) below (slot_is_no_depth t height)
-    (number_taken t (named (slot t height) r.vars) v holds typed)
+assign_slot m r t height v below holds typed = assign_variable m r _ _ below (slot_is_no_depth t height) (number_taken t _ v holds typed)
 
 -- a variable is set to what an expression gives
 pub arg_reaches : (g : Site) (m : state.Machine) (rest : List tree.Stmt) (vars : state.Vars) (name : List ℕ) (e : tree.Expr)
-    (v : state.CValue)
+    {v : state.CValue}
     → bytes_eq name depth_name ≡ false → Takes (named name vars) v
     → evaluate_arg g.program m (running g (tree.Set name (tree.Value e) ∷ rest) vars) (tree.Value e) ≡ Is v
     → Reaches g.program 1 (at g m (tree.Set name (tree.Value e) ∷ rest) vars) (at g m rest (with_named name v vars))
-arg_reaches g m rest vars name e v no_depth there is =
+arg_reaches g m rest vars name e {v} no_depth there is =
     let stmts : List tree.Stmt = tree.Set name (tree.Value e) ∷ rest in
     let r : state.Running = running g stmts vars in
     one_step g.program g.pending (state_at g m stmts vars) (state_at g m rest (with_named name v vars)) (
-    ap (λ (x : Evaluated state.CValue). with_value m (place_of r rest) x (λ w. assign m (at_rest r rest) name w g.below)) is
-    ∙ assign_variable m (at_rest r rest) name v g.below no_depth there
+    rw is (assign_variable m (at_rest r rest) name v g.below no_depth there)
     )
 
-pub set_reaches : (g : Site) (m : state.Machine) (rest : List tree.Stmt) (vars : state.Vars) (name : List ℕ) (e : tree.Expr) (v : Value)
+pub set_reaches : (g : Site) (m : state.Machine) (rest : List tree.Stmt) (vars : state.Vars) (name : List ℕ) (e : tree.Expr) {v : Value}
     → bytes_eq name depth_name ≡ false → Takes (named name vars) (state.Number v)
     → evaluate g.program m (running g (tree.Set name (tree.Value e) ∷ rest) vars) e ≡ Is v
     → Reaches g.program 1 (at g m (tree.Set name (tree.Value e) ∷ rest) vars) (at g m rest (with_named name (state.Number v) vars))
-set_reaches g m rest vars name e v no_depth there is =
-    arg_reaches g m rest vars name e (state.Number v) no_depth there
-    (number_arg g.program m (running g (tree.Set name (tree.Value e) ∷ rest) vars) e v is)
+set_reaches g m rest vars name e no_depth there is =
+    arg_reaches g m rest vars name e no_depth there (number_arg g.program m (running g (tree.Set name (tree.Value e) ∷ rest) vars) e is)
 
 -- ---- a value on top of operands
 
--- an instruction leaves_number a value of this type on these operands, above those of the blocks outside
-pub record Place (g : Site) (base under : List Value) (u : ValType) (outs : Stack) (now : store.State) (m : state.Machine)
-    (vars : state.Vars) : Type 0 where
-  pub typed : outs ≡ u ∷ types_of under
-  pub there : g.slots u (height (under ++ base)) ≡ true
+-- an instruction leaves a value of this type on these operands, above those of the blocks outside
+pub record Place (g : Site) (s : Spot) (under : List Value) (u : ValType) : Type 0 where
+  pub typed : s.outs ≡ u ∷ types_of under
+  pub there : g.slots u (height (under ++ s.base)) ≡ true
   pub set : SlotIsSet g
-  pub stands : StandsAt g (under ++ base) now m vars
-
--- the variables behind the assignment
-abbrev pub with_top : ValType → List Value → ℕ → state.Vars → state.Vars
-with_top u whole n vars = with_named (slot u (height whole)) (state.Number (value u n)) vars
+  pub stands : StandsAt g (under ++ s.base) s.now s.machine s.vars
 
 -- A value is on top of what lies under it, in a machine and a store that may have changed; the run came there in 1 to 400
 -- statements, or to labels in front.
-pub leaves_value : (g : Site) → SlotIsSet g → (base under : List Value) (u : ValType) (outs : Stack) (before now : store.State)
-    (m : state.Machine) (vars : state.Vars) (v : Value)
-    → type_of v ≡ u → IsNumber v → outs ≡ u ∷ types_of under → g.slots u (length (types_of (under ++ base))) ≡ true
-    → StandsAt g (under ++ base) now m vars
-    → (from : Progress) (rest : List tree.Stmt) (names : List state.Name) (left statements : ℕ) → 1 ≤ statements → statements ≤ 400
-    → Reaches g.program statements from (at g m (labelled names rest)
-    (with_named (slot u (length (types_of (under ++ base)))) (state.Number v) vars))
-    → Does g base rest outs from left before (exec.Leaves (v ∷ under) now)
-leaves_value g set base under u outs before now m vars v is number typed there stood from rest names left statements least most way = (
-  ap (λ (t : ValType). t ∷ types_of under) is ∙ sym typed,
+pub leaves_value : {g : Site} {s : Spot} {under : List Value} {u : ValType} → Place g s under u
+    → {now : store.State} {m : state.Machine} → StandsAt g (under ++ s.base) now m s.vars → (v : Value) → type_of v ≡ u → IsNumber v
+    → {from : Progress} (names : List state.Name) (left : ℕ) {statements : ℕ} → 1 ≤ statements → statements ≤ 400
+    → Reaches g.program statements from (at g m (labelled names s.rest)
+    (with_named (slot u (height (under ++ s.base))) (state.Number v) s.vars))
+    → Does g s.base s.rest s.outs from left s.now (exec.Leaves (v ∷ under) now)
+leaves_value {g} {s} {under} place {now} {m} stood v is number {from} names left {statements} least most way = (
+  ap (λ (t : ValType). t ∷ types_of under) is ∙ sym place.typed,
   names,
   record {
     machine = m;
-    vars = with_named (slot (type_of v) (length (types_of (under ++ base)))) (state.Number v) vars;
+    vars = with_named (slot (type_of v) (height (under ++ s.base))) (state.Number v) s.vars;
     stands = record {
       together = stood.together;
-      variables = set v (under ++ base) now.locals vars (ap (λ t. g.slots t (length (types_of (under ++ base)))) is ∙ there) number
+      variables = place.set v (under ++ s.base) now.locals s.vars (ap (λ t. g.slots t (height (under ++ s.base))) is ∙ place.there) number
           stood.variables;
       local_types = stood.local_types;
     };
     statements = statements;
     way = subst (λ t. Reaches g.program statements from
-        (at g m (labelled names rest) (with_named (slot t (length (types_of (under ++ base)))) (state.Number v) vars))) (sym is) way;
+        (at g m (labelled names s.rest) (with_named (slot t (height (under ++ s.base))) (state.Number v) s.vars))) (sym is) way;
     paid = record { least = omega (arith, least); most = omega (arith, most) };
   },
 )
 
 -- no value
-pub leaves_none : (g : Site) (base under : List Value) (outs : Stack) (before now : store.State) (m : state.Machine) (vars : state.Vars)
-    → outs ≡ types_of under → StandsAt g (under ++ base) now m vars
-    → (from : Progress) (rest : List tree.Stmt) (left statements : ℕ) → 1 ≤ statements → statements ≤ 400
-    → Reaches g.program statements from (at g m rest vars)
-    → Does g base rest outs from left before (exec.Leaves under now)
-leaves_none g base under outs before now m vars typed stood from rest left statements least most way = (
+pub leaves_none : {g : Site} (s : Spot) (under : List Value) → s.outs ≡ types_of under
+    → {now : store.State} {m : state.Machine} → StandsAt g (under ++ s.base) now m s.vars
+    → {from : Progress} (left : ℕ) {statements : ℕ} → 1 ≤ statements → statements ≤ 400
+    → Reaches g.program statements from (at g m s.rest s.vars)
+    → Does g s.base s.rest s.outs from left s.now (exec.Leaves under now)
+leaves_none s under typed {m} stood left {statements} least most way = (
   sym typed,
   [],
   record {
     machine = m;
-    vars = vars;
+    vars = s.vars;
     stands = stood;
     statements = statements;
     way = way;
@@ -200,28 +185,31 @@ leaves_none g base under outs before now m vars typed stood from rest left state
   },
 )
 
-pub leaves_number : (g : Site) (base under : List Value) (u : ValType) (outs : Stack) (now : store.State) (m : state.Machine)
-    (vars : state.Vars)
-    → Place g base under u outs now m vars → (n : ℕ) → n < 2 ^ bits u
-    → (from : Progress) (rest : List tree.Stmt) (names : List state.Name) (left statements : ℕ) → 1 ≤ statements → statements ≤ 400
-    → Reaches g.program statements from (at g m (labelled names rest) (with_top u (under ++ base) n vars))
-    → Does g base rest outs from left now (exec.Leaves (value u n ∷ under) now)
-leaves_number g base under u outs now m vars place n fits from rest names left statements least most way =
-    leaves_value g place.set base under u outs now now m vars (value u n) (type_of-value u n)
-    (value_number u n fits) place.typed place.there place.stands
-    from rest names left statements least most way
-
 -- an assignment to the slot on top
-pub sets : (g : Site) (base under : List Value) (u : ValType) (outs : Stack) (now : store.State) (m : state.Machine) (vars : state.Vars)
-    → Place g base under u outs now m vars → (n : ℕ) → n < 2 ^ bits u → (rest : List tree.Stmt) (left : ℕ) (e : tree.Expr)
-    → evaluate g.program m (running g (set_slot u (height (under ++ base)) e ∷ rest) vars) e ≡ Is (value u n)
-    → Does g base rest outs (at g m (set_slot u (height (under ++ base)) e ∷ rest) vars) left now (exec.Leaves (value u n ∷ under) now)
-sets g base under u outs now m vars place n fits rest left e is =
-    let h : ℕ = height (under ++ base) in
-    leaves_number g base under u outs now m vars place n fits (at g m (set_slot u h e ∷ rest) vars) rest [] left 1 (omega arith)
-    (omega arith)
-    (set_reaches g m rest vars (slot u h) e (value u n) (slot_is_no_depth u h)
-    (number_taken u (named (slot u h) vars) (value u n) (place.stands.variables.declared u h place.there) (type_of-value u n)) is)
+pub sets : {g : Site} {s : Spot} {under : List Value} {u : ValType} → Place g s under u → (n : ℕ) → n < 2 ^ bits u
+    → (left : ℕ) (e : tree.Expr)
+    → evaluate g.program s.machine (running g (set_slot u (height (under ++ s.base)) e ∷ s.rest) s.vars) e ≡ Is (value u n)
+    → Owes g s (set_slot u (height (under ++ s.base)) e ∷ []) left (exec.Leaves (value u n ∷ under) s.now)
+sets {g} {s} {under} {u} place n fits left e is =
+    let h : ℕ = height (under ++ s.base) in
+    leaves_value place place.stands (value u n) (type_of-value u n) (value_number u n fits) [] left (omega arith) (omega arith)
+    (set_reaches g s.machine s.rest s.vars (slot u h) e (slot_is_no_depth u h)
+    (number_taken u (named (slot u h) s.vars) (value u n) (place.stands.variables.declared u h place.there) (type_of-value u n)) is)
+
+-- a trap in as many statements as a step pays
+pub traps : {g : Site} {stack : List Value} {now : store.State} {m : state.Machine} {vars : state.Vars} → StandsAt g stack now m vars
+    → (kind : _) (left : ℕ) {most : ℕ} {from : Progress}
+    → ComesWithin g.program most from (Over (over g.pending m (Stopped (state.Trapped kind)))) → most ≤ 400
+    → EndsAlike g.program g.linked g.pending 0 from (suc left) (exec.Trapped kind) now.store now.trail
+traps {m} stood kind left came few = record {
+  machine = m;
+  reason = state.Trapped kind;
+  same = refl;
+  agrees = stood.together.agrees;
+  statements = came.statements;
+  way = came.way;
+  few = omega (arith, came.few, few);
+}
 
 -- ---- a call of a helper
 
@@ -229,65 +217,61 @@ sets g base under u outs now m vars place n fits rest left e is =
 abbrev pub waiting : Site → Option state.Name → List tree.Stmt → state.Vars → List state.Frame
 waiting g target rest vars = record { target = target; running = running g rest vars } ∷ g.below
 
-pub helper_comes : (g : Site) (m : state.Machine) (vars : state.Vars) (target : Option state.Name) (which : Helper) (args : List tree.Arg)
-    (values : List state.CValue) (rest : List tree.Stmt) (most : ℕ) (end : CallEnd)
-    → Defines g.program g.unit (helper_of which) → evaluate_args g.program m (running g (call_helper target which args ∷ rest) vars)
-    args ≡ Is values
+helper_called : (g : Site) {m : state.Machine} (vars : state.Vars) (target : Option state.Name) (which : Helper) (args : List tree.Arg)
+    {values : List state.CValue} (rest : List tree.Stmt)
+    → Defines g.program g.unit (helper_of which)
+    → evaluate_args g.program m (running g (call_helper target which args ∷ rest) vars) args ≡ Is values
+    → Calls g.program m (running g (call_helper target which args ∷ rest) vars) target (helper_of which) values rest
+helper_called g vars target which args rest defined is = record {
+  args = args;
+  next = refl;
+  evaluated = is;
+  is_no_primitive = defined.is_no_primitive;
+  item = defined.item;
+  body = defined.body;
+  has_body = defined.has_body;
+  defined = defined.defined;
+}
+
+pub helper_comes : (g : Site) {m : state.Machine} (vars : state.Vars) (target : Option state.Name) (which : Helper) (args : List tree.Arg)
+    {values : List state.CValue} (rest : List tree.Stmt) {most : ℕ} {end : CallEnd}
+    → Defines g.program g.unit (helper_of which)
+    → evaluate_args g.program m (running g (call_helper target which args ∷ rest) vars) args ≡ Is values
     → CallComesTo most (helper_of which) values m end
     → ComesWithin g.program (suc most) (at g m (call_helper target which args ∷ rest) vars)
     (call_ended g.program g.pending end (waiting g target rest vars))
-helper_comes g m vars target which args values rest most end defined is comes =
-    statement_comes_to g.program g.pending most m (running g (call_helper target which args ∷ rest) vars) target
-    (helper_of which) values rest end g.below (record {
-      args = args;
-      next = refl;
-      evaluated = is;
-      is_no_primitive = defined.is_no_primitive;
-      item = defined.item;
-      body = defined.body;
-      has_body = defined.has_body;
-      defined = defined.defined;
-    }) comes
+helper_comes g vars target which args rest defined is comes =
+    statement_comes_to _ _ _ _ _ _ _ _ _ _ _ (helper_called g vars target which args rest defined is) comes
 
-pub helper_comes_between : (g : Site) (m : state.Machine) (vars : state.Vars) (target : Option state.Name) (which : Helper)
-    (args : List tree.Arg) (values : List state.CValue) (rest : List tree.Stmt) (least most : ℕ) (end : CallEnd)
-    → Defines g.program g.unit (helper_of which) → evaluate_args g.program m (running g (call_helper target which args ∷ rest) vars)
-    args ≡ Is values
+pub helper_comes_between : (g : Site) {m : state.Machine} (vars : state.Vars) (target : Option state.Name)
+    (which : Helper) (args : List tree.Arg) {values : List state.CValue} (rest : List tree.Stmt) {least most : ℕ} {end : CallEnd}
+    → Defines g.program g.unit (helper_of which)
+    → evaluate_args g.program m (running g (call_helper target which args ∷ rest) vars) args ≡ Is values
     → CallComesBetween least most (helper_of which) values m end
     → ComesBetween g.program (suc least) (suc most) (at g m (call_helper target which args ∷ rest) vars)
     (call_ended g.program g.pending end (waiting g target rest vars))
-helper_comes_between g m vars target which args values rest least most end defined is comes =
-    statement_comes_between g.program g.pending least most m (running g (call_helper target which args ∷ rest) vars) target
-    (helper_of which) values rest end g.below (record {
-      args = args;
-      next = refl;
-      evaluated = is;
-      is_no_primitive = defined.is_no_primitive;
-      item = defined.item;
-      body = defined.body;
-      has_body = defined.has_body;
-      defined = defined.defined;
-    }) comes
+helper_comes_between g vars target which args rest defined is comes =
+    statement_comes_between _ _ _ _ _ _ _ _ _ _ _ _ (helper_called g vars target which args rest defined is) comes
 
 abbrev rest_of : Progress → List tree.Stmt
 rest_of (Going pending s) = s.running.rest
 rest_of (Over run) = []
 
 -- a way that leaves_number a statement behind has a statement
-pub takes_one : (g : Site) (m after : state.Machine) (s : tree.Stmt) (rest : List tree.Stmt) (vars new : state.Vars) (statements : ℕ)
+pub takes_one : (g : Site) {m after : state.Machine} {s : tree.Stmt} {rest : List tree.Stmt} {vars new : state.Vars} (statements : ℕ)
     → Reaches g.program statements (at g m (s ∷ rest) vars) (at g after rest new) → 1 ≤ statements
-takes_one g m after s rest vars new zero way = let same : length (s ∷ rest) ≡ length rest =
+takes_one g {s} {rest} zero way = let same : length (s ∷ rest) ≡ length rest =
     ap (λ (x : Progress). length (rest_of x)) way.there in absurd (omega (arith, same))
-takes_one g m after s rest vars new (suc n) way = omega arith
+takes_one g (suc n) way = omega arith
 
 -- the value of a call goes to the slot on top
-pub back_to_top : (g : Site) (m after : state.Machine) (vars : state.Vars) (s : tree.Stmt) (rest : List tree.Stmt) (t : ValType)
-    (height most : ℕ) (v : Value)
+pub back_to_top : (g : Site) {m : state.Machine}
+    (after : state.Machine) {vars : state.Vars} {s : tree.Stmt} {rest : List tree.Stmt} (t : ValType) (height : ℕ) {most : ℕ} (v : Value)
     → HoldsNumber t (named (slot t height) vars) → type_of v ≡ t
     → ComesWithin g.program most (at g m (s ∷ rest) vars)
     (go_on g.program g.pending (assign after (running g rest vars) (slot t height) (state.Number v) g.below))
     → ComesWithin g.program most (at g m (s ∷ rest) vars) (at g after rest (with_named (slot t height) (state.Number v) vars))
-back_to_top g m after vars s rest t height most v there typed came = record {
+back_to_top g {m} after {vars} {s} {rest} t height v there typed came = record {
   statements = came.statements;
   few = came.few;
   way = subst (λ (x : Step). Reaches g.program came.statements (at g m (s ∷ rest) vars) (go_on g.program g.pending x))
@@ -295,39 +279,25 @@ back_to_top g m after vars s rest t height most v there typed came = record {
 }
 
 -- a helper that changes nothing gives its answer to the slot on top, or traps
-pub answer_does : (g : Site) → SlotIsSet g → (base under : List Value) (outs : Stack) (now : store.State) (m : state.Machine)
-    (vars : state.Vars) (t : ValType) (answer : Answer) (s : tree.Stmt) (rest : List tree.Stmt) (left : ℕ)
-    → StandsAt g (under ++ base) now m vars → g.slots t (length (types_of (under ++ base))) ≡ true → outs ≡ t ∷ types_of under
-    → AnswerFits (bits t) answer
-    → ComesWithin g.program 391 (at g m (s ∷ rest) vars)
-    (call_ended g.program g.pending (answered m t answer) (waiting g (Some (slot t (length (types_of (under ++ base))))) rest vars))
-    → Does g base rest outs (at g m (s ∷ rest) vars) left now (exec.answered t answer under now)
-answer_does g set base under outs now m vars t (Gives n) s rest left stood there typed fits came =
-    let h : ℕ = length (types_of (under ++ base)) in
-    let back = back_to_top g m m vars s rest t h 391 (value t n) (stood.variables.declared t h there) (type_of-value t n) came in
-    leaves_value g set base under t outs now now m vars (value t n) (type_of-value t n) (value_number t n fits) typed there stood
-    (at g m (s ∷ rest) vars) rest [] left back.statements
-    (takes_one g m m s rest vars (with_named (slot t h) (number t n) vars) back.statements back.way) (omega (arith, back.few)) back.way
-answer_does g set base under outs now m vars t (Traps kind) s rest left stood there typed fits came = record {
-  machine = m;
-  reason = state.Trapped kind;
-  same = refl;
-  agrees = stood.together.agrees;
-  statements = came.statements;
-  way = came.way;
-  few = omega (arith, came.few);
-}
+pub answer_does : {g : Site} {s : Spot} {under : List Value} {u : ValType} → Place g s under u → (answer : Answer)
+    → AnswerFits (bits u) answer → (left : ℕ) {stmt : tree.Stmt}
+    → ComesWithin g.program 391 (at g s.machine (stmt ∷ s.rest) s.vars)
+    (call_ended g.program g.pending (answered s.machine u answer) (waiting g (Some (slot u (height (under ++ s.base)))) s.rest s.vars))
+    → Owes g s (stmt ∷ []) left (exec.answered u answer under s.now)
+answer_does {g} {s} {under} {u} place (Gives n) fits left came =
+    let h : ℕ = height (under ++ s.base) in
+    let v : Value = value u n in
+    let back = back_to_top g s.machine u h v (place.stands.variables.declared u h place.there) (type_of-value u n) came in
+    leaves_value place place.stands v (type_of-value u n) (value_number u n fits) [] left (takes_one g back.statements back.way)
+    (omega (arith, back.few)) back.way
+answer_does place (Traps kind) fits left came = traps place.stands kind left came (omega arith)
 
-pub calls : (g : Site) (base under : List Value) (u : ValType) (outs : Stack) (now : store.State) (m : state.Machine) (vars : state.Vars)
-    → Place g base under u outs now m vars → (rest : List tree.Stmt) (left : ℕ) (which : Helper) (args : List tree.Arg)
-    (given : List state.CValue) (answer : Answer)
+pub helper_gives : {g : Site} {s : Spot} {under : List Value} {u : ValType} → Place g s under u
+    → (left : ℕ) (which : Helper) (args : List tree.Arg) {given : List state.CValue} (answer : Answer)
     → Defines g.program g.unit (helper_of which)
-    → evaluate_args g.program m (running g (call_helper (Some (slot u (height (under ++ base)))) which args ∷ rest) vars) args ≡ Is given
-    → CallComesTo 390 (helper_of which) given m (answered m u answer) → AnswerFits (bits u) answer
-    → Does g base rest outs (at g m (call_helper (Some (slot u (height (under ++ base)))) which args ∷ rest) vars) left now
-    (exec.answered u answer under now)
-calls g base under u outs now m vars place rest left which args given answer defined is comes fits =
-    let target : Option state.Name = Some (slot u (height (under ++ base))) in
-    answer_does g place.set base under outs now m vars u answer
-    (call_helper target which args) rest left place.stands place.there place.typed fits
-    (helper_comes g m vars target which args given rest 390 (answered m u answer) defined is comes)
+    → evaluate_args g.program s.machine
+    (running g (call_helper (Some (slot u (height (under ++ s.base)))) which args ∷ s.rest) s.vars) args ≡ Is given
+    → CallComesTo 390 (helper_of which) given s.machine (answered s.machine u answer) → AnswerFits (bits u) answer
+    → Owes g s (call_helper (Some (slot u (height (under ++ s.base)))) which args ∷ []) left (exec.answered u answer under s.now)
+helper_gives {g} {s} {under} {u} place left which args answer defined is comes fits =
+    answer_does place answer fits left (helper_comes g s.vars _ which args s.rest defined is comes)

@@ -26,14 +26,14 @@ pub reversed : (t : Option ValType) → reverse (values t) ≡ values t
 reversed None = refl
 reversed (Some t) = refl
 
-pub no_operand : (t : ValType) (types : Stack) → [] ≡ t ∷ types → ⊥
-no_operand t types e = absurd cc
+pub no_operand : {t : ValType} {types : Stack} → [] ≡ t ∷ types → ⊥
+no_operand e = absurd cc
 
-pub first_type : (t u : ValType) (types others : Stack) → t ∷ types ≡ u ∷ others → t ≡ u
-first_type t u types others e = ap (λ (types : Stack). elim types [ [] ↦ t | x ∷ rest ↦ x ]) e
+pub first_type : {t u : ValType} {types others : Stack} → t ∷ types ≡ u ∷ others → t ≡ u
+first_type {t} {types} e = ap (λ (types : Stack). elim types [ [] ↦ t | x ∷ rest ↦ x ]) e
 
-pub other_types : (t u : ValType) (types others : Stack) → t ∷ types ≡ u ∷ others → types ≡ others
-other_types t u types others e = ap (λ (types : Stack). elim types [ [] ↦ [] | x ∷ rest ↦ rest ]) e
+pub other_types : {t u : ValType} {types others : Stack} → t ∷ types ≡ u ∷ others → types ≡ others
+other_types {types} e = ap (λ (types : Stack). elim types [ [] ↦ [] | x ∷ rest ↦ rest ]) e
 
 -- operands of these types, and those under them
 record Split (ts us : List ValType) (stack : List Value) : Type 0 where

@@ -1,27 +1,20 @@
 -- Labels cost nothing: a step from a place is the step from behind the labels that stand there.
-use Rattle.body_meaning.proofs.Common.{◌≡◌, ℕ, zero, suc, ◌<◌, List, [], ◌∷◌, if◌then◌else◌, ◌==◌, Some, sym, refl, ap, ◌∙◌, subst}
-use Rattle.body_meaning.proofs.Common.{number_of, Program, array_named, var_in, with_var, operate, Reaches, Going, IsGoing, Pending}
-use Rattle.body_meaning.proofs.Common.{Progress, go_on, Frame, Is, Machine, Number, Running, found, then_evaluate, act, as_object, assign}
-use Rattle.body_meaning.proofs.Common.{at_rest, c_step, call_callee, evaluate, evaluate_arg, evaluate_args, label_of, next, place_of}
-use Rattle.body_meaning.proofs.Common.{put_in, returned, value_of, with_value, Site, at, labelled, state_at}
+use Rattle.body_meaning.proofs.Common.{◌≡◌, ℕ, zero, suc, ◌<◌, List, [], ◌∷◌, Some, sym, refl, ap, ◌∙◌, subst, Program, Reaches, Going}
+use Rattle.body_meaning.proofs.Common.{IsGoing, Pending, Progress, go_on, Frame, Is, Machine, Number, Running, then_evaluate, act, assign}
+use Rattle.body_meaning.proofs.Common.{at_rest, c_step, evaluate, evaluate_arg, evaluate_args, label_of, place_of, returned, with_value}
+use Rattle.body_meaning.proofs.Common.{Site, at, labelled, state_at}
 use Rattle.c_tree.specs.Tree as tree
 use Rattle.c_meaning.specs.State as state
-use Rattle.c_meaning.specs.Step.{element, jump}
+use Rattle.c_meaning.specs.Step.{jump}
 use Rattle.c_meaning.specs.Run.{after}
 
 -- what an expression comes to does not depend on the statements to come
 evaluate_same : (p : Program) (m : Machine) (r : Running) (xs ys : List tree.Stmt) (e : tree.Expr)
     → evaluate p m (at_rest r xs) e ≡ evaluate p m (at_rest r ys) e
-evaluate_same p m r xs ys (tree.At name index) =
-    ap (λ x. then_evaluate x (λ i. then_evaluate (found (array_named p r.unit name)) (λ bytes. element bytes (number_of i))))
-    (evaluate_same p m r xs ys index)
+evaluate_same p m r xs ys (tree.At name index) = rw (evaluate_same p m r xs ys index) refl
 evaluate_same p m r xs ys (tree.To32 e) = rw (evaluate_same p m r xs ys e) refl
 evaluate_same p m r xs ys (tree.To64 e) = rw (evaluate_same p m r xs ys e) refl
-evaluate_same p m r xs ys (tree.Op op left right) =
-    ap (λ x. then_evaluate x (λ v. then_evaluate (evaluate p m (at_rest r xs) right) (λ w. operate op v w)))
-    (evaluate_same p m r xs ys left)
-    ∙ ap (λ x. then_evaluate (evaluate p m (at_rest r ys) left) (λ v. then_evaluate x (λ w. operate op v w)))
-    (evaluate_same p m r xs ys right)
+evaluate_same p m r xs ys (tree.Op op left right) = rw (evaluate_same p m r xs ys left, evaluate_same p m r xs ys right) refl
 evaluate_same p m r xs ys _ = refl
 
 arg_same : (p : Program) (m : Machine) (r : Running) (xs ys : List tree.Stmt) (a : tree.Arg)
@@ -33,11 +26,7 @@ arg_same p m r xs ys _ = refl
 args_same : (p : Program) (m : Machine) (r : Running) (xs ys : List tree.Stmt) (args : List tree.Arg)
     → evaluate_args p m (at_rest r xs) args ≡ evaluate_args p m (at_rest r ys) args
 args_same p m r xs ys [] = refl
-args_same p m r xs ys (a ∷ args) =
-    ap (λ x. then_evaluate x (λ v. then_evaluate (evaluate_args p m (at_rest r xs) args) (λ values. Is (v ∷ values))))
-    (arg_same p m r xs ys a)
-    ∙ ap (λ x. then_evaluate (evaluate_arg p m (at_rest r ys) a) (λ v. then_evaluate x (λ values. Is (v ∷ values))))
-    (args_same p m r xs ys args)
+args_same p m r xs ys (a ∷ args) = rw (arg_same p m r xs ys a, args_same p m r xs ys args) refl
 
 -- what statements do does not depend on what the function's record says of those to come
 act_same : (p : Program) (m : Machine) (r : Running) (xs ys code : List tree.Stmt) (below : List Frame)
@@ -47,22 +36,11 @@ act_same p m r xs ys (tree.Label name ∷ rest) below = act_same p m r xs ys res
 act_same p m r xs ys (tree.Null ∷ rest) below = refl
 act_same p m r xs ys (tree.Set name a ∷ rest) below =
     ap (λ x. with_value m (place_of r rest) x (λ v. assign m (at_rest r rest) name v below)) (arg_same p m r xs ys a)
-act_same p m r xs ys (tree.SetStar name e ∷ rest) below =
-    ap (λ x. with_value m (place_of r rest) x (λ v.
-    with_value m (place_of r rest) (then_evaluate (found (value_of m (at_rest r xs) name)) as_object) (λ a.
-    put_in m (var_in m a) (Number v) (next (with_var m a (Number v)) (at_rest r rest) below)))) (evaluate_same p m r xs ys e)
-act_same p m r xs ys (tree.Call target (tree.Called name) args ∷ rest) below =
-    ap (λ x. with_value m (place_of r rest) x (λ values.
-    call_callee p (tree.Called name) (place_of r rest) m (at_rest r xs) values
-    (record { target = target; running = at_rest r rest } ∷ below))) (args_same p m r xs ys args)
-act_same p m r xs ys (tree.Call target (tree.Through want name) args ∷ rest) below =
-    ap (λ x. with_value m (place_of r rest) x (λ values.
-    call_callee p (tree.Through want name) (place_of r rest) m (at_rest r xs) values
-    (record { target = target; running = at_rest r rest } ∷ below))) (args_same p m r xs ys args)
+act_same p m r xs ys (tree.SetStar name e ∷ rest) below = rw (evaluate_same p m r xs ys e) refl
+act_same p m r xs ys (tree.Call target (tree.Called name) args ∷ rest) below = rw (args_same p m r xs ys args) refl
+act_same p m r xs ys (tree.Call target (tree.Through want name) args ∷ rest) below = rw (args_same p m r xs ys args) refl
 act_same p m r xs ys (tree.Goto name ∷ rest) below = refl
-act_same p m r xs ys (tree.If op left right name ∷ rest) below =
-    ap (λ x. with_value m (place_of r rest) x (λ v. if number_of v == 0 then next m (at_rest r rest) below else jump m r name below))
-    (evaluate_same p m r xs ys (tree.Op op left right))
+act_same p m r xs ys (tree.If op left right name ∷ rest) below = rw (evaluate_same p m r xs ys (tree.Op op left right)) refl
 act_same p m r xs ys (tree.Switch e cases default ∷ rest) below =
     ap (λ x. with_value m (place_of r rest) x (λ v. jump m r (label_of v cases default) below)) (evaluate_same p m r xs ys e)
 act_same p m r xs ys (tree.ReturnNone ∷ rest) below = refl
@@ -78,9 +56,9 @@ past_labels g m (name ∷ names) rest vars =
     ∙ past_labels g m names rest vars
 
 -- two states with one step
-pub same_step : (p : Program) (pending : Pending) (s t : state.State) (k : ℕ) (to : Progress) → c_step p s ≡ c_step p t
+pub same_step : {p : Program} {pending : Pending} (s : state.State) {t : state.State} {k : ℕ} {to : Progress} → c_step p s ≡ c_step p t
     → Reaches p (suc k) (Going pending t) to → Reaches p (suc k) (Going pending s) to
-same_step p pending s t k to same way = record {
+same_step {p} {pending} s {k} same way = record {
   there = ap (λ x. after p k (go_on p pending x)) same ∙ way.there;
   on_the_way = on_the_way;
 }
@@ -89,8 +67,6 @@ same_step p pending s t k to same way = record {
     on_the_way zero less = tt
     on_the_way (suc m) less = subst (λ x. IsGoing (after p m (go_on p pending x))) (sym same) (way.on_the_way (suc m) less)
 
-pub past_way : (g : Site) (m : Machine) (names : List state.Name) (rest : List tree.Stmt) (vars : state.Vars) (k : ℕ) (to : Progress)
+pub past_way : (g : Site) {m : Machine} (names : List state.Name) {rest : List tree.Stmt} {vars : state.Vars} {k : ℕ} {to : Progress}
     → Reaches g.program (suc k) (at g m rest vars) to → Reaches g.program (suc k) (at g m (labelled names rest) vars) to
-past_way g m names rest vars k to way =
-    same_step g.program g.pending (state_at g m (labelled names rest) vars) (state_at g m rest vars) k to
-    (past_labels g m names rest vars) way
+past_way g {m} names {rest} {vars} way = same_step (state_at g m (labelled names rest) vars) (past_labels g m names rest vars) way

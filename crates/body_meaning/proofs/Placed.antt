@@ -1,6 +1,5 @@
 -- The labels of a function's code: where code is placed in a body, its parts are.
-use Rattle.body_meaning.proofs.Common.{◌≡◌, ℕ, Bool, true, false, List, [], ◌∷◌, ◌++◌, Some, ◌∙◌, after_label, label_if}
-use Rattle.body_meaning.proofs.Common.{label_name, IsPlaced}
+use Rattle.body_meaning.proofs.Common.{◌≡◌, ℕ, Bool, true, false, List, ◌++◌, Some, after_label, label_if, label_name, IsPlaced}
 use Rattle.c_tree.specs.Tree as tree
 
 -- a label that is named is found

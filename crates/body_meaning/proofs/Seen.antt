@@ -10,8 +10,8 @@ use Rattle.c_body.proofs.Bounds.{within_of}
 use Rattle.body_meaning.proofs.Common.{◌≡◌, ℕ, zero, suc, ◌+◌, ◌<◌, ◌≤◌, Bool, true, false, List, [], ◌∷◌, ◌++◌, map, length, replicate}
 use Rattle.body_meaning.proofs.Common.{is_some, if◌then◌else◌, IsSome, slice_get, Some, None, filter, Option, option_map, flat_map}
 use Rattle.body_meaning.proofs.Common.{bytes_eq, sym, refl, ap, ◌∙◌, subst, arith, length-map, none-some, same_Some, slice_get-map}
-use Rattle.body_meaning.proofs.Common.{slice_get_within, AllByRecursion, range_with_len, option_or, at_index, if_found, named, with_named}
-use Rattle.body_meaning.proofs.Common.{IsNumber, type_of, types_of, ValType, Value, I32, global_of_import, global_space, imported_globals}
+use Rattle.body_meaning.proofs.Common.{slice_get_within, AllByRecursion, range_with_len, at_index, if_found, named, with_named, IsNumber}
+use Rattle.body_meaning.proofs.Common.{type_of, types_of, ValType, Value, global_of_import, global_space, imported_globals}
 use Rattle.body_meaning.proofs.Common.{is_global_import, is_memory_import, is_table_import, memory_of_import, memory_space, table_of_import}
 use Rattle.body_meaning.proofs.Common.{table_space, Import, ImportKind, ImportFunc, ImportGlobal, ImportMemory, ImportTable, Module}
 use Rattle.body_meaning.proofs.Common.{Context, HasMemory, HasTable, External, GlobalAddress, IndexSpaces, IsGlobal, IsLinked, LinkedSet}
@@ -37,12 +37,12 @@ index_behind : {A : Type 0} (xs ys : List (Option A)) (k n : ℕ) → k ≡ leng
 index_behind xs ys k n at = ap (λ i. at_index (xs ++ ys) i) at ∙ ap (λ found. if_found found (λ entry. entry)) (get_behind xs ys n)
 
 -- an imported global has the type of its import
-import_of_global : (P : Import → Type 0) (imports : List Import) (rest : List (ValType × Bool)) (k : ℕ) (i : Import) (x : ValType × Bool)
+import_of_global : (P : Import → Type 0) (imports : List Import) (rest : List (ValType × Bool)) (k : ℕ) {i : Import} {x : ValType × Bool}
     → slice_get (filter is_global_import imports) k ≡ Some i → slice_get (flat_map global_of_import imports ++ rest) k ≡ Some x
     → AllByRecursion P imports
     → P i × (i.kind ≡ ImportGlobal x.0 x.1)
-import_of_global P [] rest k i x e f all = absurd (none-some i e)
-import_of_global P (h ∷ imports) rest k i x e f all = go h.kind k e f all.0 (λ k e f. import_of_global P imports rest k i x e f all.1)
+import_of_global P [] rest k {i} e f all = absurd (none-some i e)
+import_of_global P (h ∷ imports) rest k {i} {x} e f all = go h.kind k e f all.0 (λ k e f. import_of_global P imports rest k e f all.1)
   where
     go : (kind : ImportKind) (k : ℕ) → slice_get (filter is_global_import (of_kind h kind ∷ imports)) k ≡ Some i
         → slice_get (flat_map global_of_import (of_kind h kind ∷ imports) ++ rest) k ≡ Some x → P (of_kind h kind)
@@ -95,8 +95,7 @@ own_memory s p m =
 pub own_table : (s : LinkedSet) (p : ℕ) (m : NamedModule) → slice_get s.modules p ≡ Some m → slice_get (table_imports m.tree) 0 ≡ None
     → IsSome (slice_get (table_space m.tree) 0) → table_at s p 0 ≡ Some p
 own_table s p m =
-    own_object (λ spaces. spaces.tables) is_table_import as_table table_of_import (λ t. t.limits) s p m m.tree.tables refl
-    (table_count m.tree.imports)
+    own_object (λ spaces. spaces.tables) is_table_import as_table table_of_import _ s p m m.tree.tables refl (table_count m.tree.imports)
 
 -- a global's address, its type, and for an own one its name
 pub record GlobalKnown (s : LinkedSet) (p : ℕ) (m : NamedModule) (index : ℕ) (ty : ValType × Bool) : Type 0 where
@@ -133,8 +132,7 @@ global_known s p m index ty e linked is = go (slice_get (global_imports m.tree) 
         → global_type s g ≡ Some ty → GlobalKnown s p m index ty
     imported i at g means typed =
         let within : index < length front = omega (arith, counted, slice_get_within (filter is_global_import m.tree.imports) index i at) in
-        let address : global_at s p index ≡ Some g =
-        looked_up (λ spaces. spaces.globals) s p m index e
+        let address : global_at s p index ≡ Some g = looked_up _ s p m index e
         ∙ ap entry_of (get_before front owned index within)
         ∙ ap entry_of (slice_get-map (λ i. if_found (import_at s p i) as_global) (filter is_global_import m.tree.imports) index)
         ∙ ap (λ found. entry_of (option_map (λ i. if_found (import_at s p i) as_global) found)) at
@@ -156,59 +154,49 @@ global_known s p m index ty e linked is = go (slice_get (global_imports m.tree) 
         let zero_plus : 0 + n ≡ n = omega arith in
         let entry : slice_get owned n ≡ Some (Some g) =
         slice_get-map (λ k. Some (record { owner = p; number = k })) (range_with_len 0 (length m.tree.globals)) n
-        ∙ ap (option_map (λ k. Some (record { owner = p; number = k })))
-        (get_numbered 0 (length m.tree.globals) n within ∙ ap Some zero_plus) in
+        ∙ ap (option_map (λ k. Some (record { owner = p; number = k }))) (get_numbered 0 _ n within ∙ ap Some zero_plus) in
         let first : first_global s p ≡ imported_globals m.tree =
         ap (λ (found : Option Module). elim found [ None ↦ 0 | Some m ↦ imported_globals m ]) (module_is s p m e) in
         record {
           address = g;
-          address_is = looked_up (λ spaces. spaces.globals) s p m index e ∙ index_behind front owned index n place ∙ ap entry_of entry;
-          type_is = ap (λ (found : Option Module). if_found found (λ m. option_map (λ e. (e.ty, e.mutable)) (slice_get m.globals n)))
-              (module_is s p m e)
-              ∙ sym (slice_get-map (λ g. (g.ty, g.mutable)) m.tree.globals n) ∙ typed;
+          address_is = looked_up _ s p m index e ∙ index_behind front owned index n place ∙ ap entry_of entry;
+          type_is = rw (module_is s p m e) (sym (slice_get-map (λ g. (g.ty, g.mutable)) m.tree.globals n) ∙ typed);
           early = omega arith;
           own = λ none. (refl, omega (arith, first, place, counted));
         }
 
     go : (found : Option Import) → slice_get (global_imports m.tree) index ≡ found → GlobalKnown s p m index ty
     go (Some i) at =
-        let r = import_of_global (Resolves s p) m.tree.imports types index i ty at is
-        (linked.imports_resolve p m.tree (module_is s p m e)) in
+        let r = import_of_global _ m.tree.imports types index at is (linked.imports_resolve p m.tree (module_is s p m e)) in
         let g = resolved s p i ty r.1 r.0 in imported i at g.0 g.1 g.2
     go None at =
-        let past = get_none (filter is_global_import m.tree.imports) index at in
-        let r = get_past (flat_map global_of_import m.tree.imports) types index ty (omega (arith, past, global_count m.tree.imports)) is in
+        let past = get_none _ index at in
+        let r = get_past _ types index ty (omega (arith, past, global_count m.tree.imports)) is in
         own r.0 r.1 r.2
 
 -- ---- what a running function finds
 
 -- a variable of the unit that no variable of the function hides
-unit_value : (m : state.Machine) (r : state.Running) (name : state.Name) (v : state.CValue) → bytes_eq name depth_name ≡ false
+unit_value : (m : state.Machine) (r : state.Running) (name : state.Name) {v : state.CValue} → bytes_eq name depth_name ≡ false
     → named name r.vars ≡ None
     → machine.var_in m (in_unit r name) ≡ Some v → value_of m r name ≡ Some v
-unit_value m r name v no_depth hidden is =
-    ap (λ (b : Bool). if b then Some (Number (I32 m.depth)) else option_or (named name r.vars) (machine.var_in m (in_unit r name))) no_depth
-    ∙ ap (λ (own : Option state.CValue). option_or own (machine.var_in m (in_unit r name))) hidden
-    ∙ is
+unit_value m r name no_depth hidden is = rw (no_depth, hidden) is
 
 pointer_value : (m : state.Machine) (r : state.Running) (object : state.Name) (a : state.ObjectAddress)
     → named (pointer_name object) r.vars ≡ None
     → PointsTo m r.unit object a → value_of m r (pointer_name object) ≡ Some (Pointer (Some a))
-pointer_value m r object a hidden is = unit_value m r (pointer_name object) (Pointer (Some a)) refl hidden is
+pointer_value m r object a hidden is = unit_value m r (pointer_name object) refl hidden is
 
-star_is : (p : Program) (m : state.Machine) (r : state.Running) (name : state.Name) (a : state.ObjectAddress) (v : Value)
+star_is : (p : Program) (m : state.Machine) (r : state.Running) (name : state.Name) {a : state.ObjectAddress} {v : Value}
     → value_of m r name ≡ Some (Pointer (Some a))
     → machine.var_in m a ≡ Some (Number v) → evaluate_arg p m r (tree.Value (tree.Star name)) ≡ Is (Number v)
-star_is p m r name a v points is =
-    ap (λ (o : Option state.CValue). then_evaluate
-    (then_evaluate (found o) (λ v. then_evaluate (as_object v) (λ a. number_in (machine.var_in m a)))) (λ v. Is (Number v))) points
-    ∙ ap (λ (o : Option state.CValue). then_evaluate (number_in o) (λ v. Is (Number v))) is
+star_is p m r name {a} {v} points is = rw (points, is) refl
 
 -- the names of a module's globals differ
-pub few_globals : (p : Program) (s : LinkedSet) (owner : ℕ) (tree : Module) (o : store.Objects) → AreServed p s
+pub few_globals : {p : Program} {s : LinkedSet} (owner : ℕ) {tree : Module} {o : store.Objects} → AreServed p s
     → module_at s owner ≡ Some tree → IsMade tree o → AreFew s owner o
-few_globals p s owner tree o served is made =
-    let m = module_named s owner tree is in
+few_globals {s} owner {tree} {o} served is made =
+    let m = module_named s owner is in
     let within : HasLimits tree = subst HasLimits m.2 (within_of _ (served.within owner m.0 m.1)) in
     let first : first_global s owner ≡ imported_globals tree =
     ap (λ (found : Option Module). elim found [ None ↦ 0 | Some m ↦ imported_globals m ]) is in
@@ -225,9 +213,9 @@ few_globals p s owner tree o served is made =
       types_many o.globals,
     )
 
-global_entry : (s : LinkedSet) (g : GlobalAddress) (ty : ValType × Bool) → global_type s g ≡ Some ty
+global_entry : (s : LinkedSet) (g : GlobalAddress) {ty : ValType × Bool} → global_type s g ≡ Some ty
     → (tree : Module) × (module_at s g.owner ≡ Some tree) × (slice_get (map (λ e. e.ty) tree.globals) g.number ≡ Some ty.0)
-global_entry s g ty e = go (module_at s g.owner) refl e
+global_entry s g {ty} e = go (module_at s g.owner) refl e
   where
     entry : (tree : Module) (o : Option GlobalEntry) → option_map (λ (e : GlobalEntry). (e.ty, e.mutable)) o ≡ Some ty
         → option_map (λ (e : GlobalEntry). e.ty) o ≡ Some ty.0
@@ -252,18 +240,18 @@ pub record GlobalFound (g : Site) (index : ℕ) (ty : ValType × Bool) (made : s
   pub evaluated : (rest : List tree.Stmt) → evaluate_arg g.program m (running g rest vars)
       (tree.Value (global_value g.setting.named.tree index)) ≡ Is (Number value)
 
-pub global_found : (g : Site) (room : ℕ) (calls : Calls) (index : ℕ) (ty : ValType × Bool) (stack : List Value) (now : store.State)
-    (m : state.Machine) (vars : state.Vars)
+pub global_found : {g : Site} {room : ℕ} {calls : Calls} (index : ℕ) {ty : ValType × Bool} {stack : List Value} {now : store.State}
+    {m : state.Machine} {vars : state.Vars}
     → IsSite g room calls → slice_get g.setting.context.globals index ≡ Some ty → StandsAt g stack now m vars
     → GlobalFound g index ty now.store m vars
-global_found g room calls index ty stack now m vars site at stands = record {
+global_found {g} index {ty} {now} {m} {vars} site at stands = record {
   known = known;
   value = v.0;
   value_is = value_is;
   type_is = v.2;
   is_number = seen.1;
-  few = λ o is. subst (λ o. AreFew g.linked known.address.owner o) (same_Some made.0 o (sym made.1 ∙ is))
-      (few_globals g.program g.linked known.address.owner entry.0 made.0 site.served entry.1 made.2);
+  few = λ o is. subst (λ o. AreFew g.linked known.address.owner o)
+      (same_Some made.0 o (sym made.1 ∙ is)) (few_globals known.address.owner site.served entry.1 made.2);
   evaluated = λ rest. go rest (slice_get (global_imports g.setting.named.tree) index) refl;
 }
   where
@@ -273,7 +261,7 @@ global_found g room calls index ty stack now m vars site at stands = record {
 
     entry : (tree : Module) × (module_at g.linked known.address.owner ≡ Some tree)
         × (slice_get (map (λ e. e.ty) tree.globals) known.address.number ≡ Some ty.0)
-    entry = global_entry g.linked known.address ty known.type_is
+    entry = global_entry g.linked known.address known.type_is
 
     made : (o : store.Objects) × (slice_get now.store known.address.owner ≡ Some o) × IsMade entry.0 o
     made = stands.together.ready.objects known.address.owner entry.0 (omega (arith, known.early, site.is_ready)) entry.1
@@ -299,11 +287,8 @@ global_found g room calls index ty stack now m vars site at stands = record {
         ap (λ (owner : ℕ). global_object g.linked (record { owner = owner; number = known.address.number })) own.0
         ∙ ap (λ n. record { unit = g.unit; name = global_name n }) own.1 in
         let value : value_of m (running g rest vars) (global_name index) ≡ Some (Number v.0) =
-        unit_value m (running g rest vars) (global_name index) (Number v.0) refl (stands.variables.globals_seen index)
-        (ap (machine.var_in m) (sym object) ∙ seen.0) in
-        ap (λ (imported : Option Import). evaluate_arg g.program m (running g rest vars)
-        (tree.Value (if is_some imported then tree.Star (pointer_name (global_name index)) else tree.Name (global_name index)))) is
-        ∙ ap found value
+        unit_value m (running g rest vars) _ refl (stands.variables.globals_seen index) (ap (machine.var_in m) (sym object) ∙ seen.0) in
+        rw is (ap found value)
     go rest (Some i) is =
         let pointer = ready.globals index i is in
         let same : pointer.0 ≡ known.address = same_Some pointer.0 known.address (sym pointer.1 ∙ known.address_is) in
@@ -311,20 +296,18 @@ global_found g room calls index ty stack now m vars site at stands = record {
         ≡ Some (Pointer (Some (global_object g.linked pointer.0))) =
         pointer_value m (running g rest vars) (global_name index) (global_object g.linked pointer.0)
         (stands.variables.pointers_seen (global_name index)) pointer.2 in
-        ap (λ (imported : Option Import). evaluate_arg g.program m (running g rest vars)
-        (tree.Value (if is_some imported then tree.Star (pointer_name (global_name index)) else tree.Name (global_name index)))) is
-        ∙ star_is g.program m (running g rest vars) (pointer_name (global_name index)) (global_object g.linked known.address) v.0
-        (points ∙ ap (λ a. Some (Pointer (Some (global_object g.linked a)))) same) seen.0
+        rw is (star_is g.program m (running g rest vars) (pointer_name (global_name index))
+        (points ∙ ap (λ a. Some (Pointer (Some (global_object g.linked a)))) same) seen.0)
 
 -- the statement that sets a global, at an operand that holds a number
-pub global_assigned : (g : Site) (room : ℕ) (calls : Calls) (index : ℕ) (ty : ValType × Bool) (stack : List Value) (now : store.State)
-    (m : state.Machine) (vars : state.Vars)
+pub global_assigned : {g : Site} {room : ℕ} {calls : Calls} {index : ℕ} {ty : ValType × Bool} {stack : List Value} {now : store.State}
+    {m : state.Machine} {vars : state.Vars}
     → IsSite g room calls → StandsAt g stack now m vars → (f : GlobalFound g index ty now.store m vars)
     → (operand : state.Name) (v : Value) → type_of f.value ≡ type_of v → (rest : List tree.Stmt)
     → ((rest : List tree.Stmt) → value_of m (running g rest vars) operand ≡ Some (Number v))
     → c_step g.program (state_at g m (set_global g.setting.named.tree index (tree.Name operand) ∷ rest) vars)
     ≡ Next (state_at g (machine.with_var m (global_object g.linked f.known.address) (Number v)) rest vars)
-global_assigned g room calls index ty stack now m vars site stands f operand v typed rest is =
+global_assigned {g} {index} {now} {m} {vars} site stands f operand v typed rest is =
     go (slice_get (global_imports g.setting.named.tree) index) refl
   where
     place : List tree.Stmt → state.Place
@@ -407,9 +390,9 @@ pub record MemoryFound (g : Site) (made : store.Store) (m : state.Machine) (vars
   pub evaluated : (rest : List tree.Stmt) → evaluate_arg g.program m (running g rest vars) (memory_arg g.setting.named.tree) ≡ Is
       (Pointer (Some (memory_object owner)))
 
-pub memory_found : (g : Site) (room : ℕ) (calls : Calls) (stack : List Value) (now : store.State) (m : state.Machine) (vars : state.Vars)
+pub memory_found : {g : Site} {room : ℕ} {calls : Calls} {stack : List Value} {now : store.State} {m : state.Machine} {vars : state.Vars}
     → IsSite g room calls → HasMemory g.setting.context → StandsAt g stack now m vars → MemoryFound g now.store m vars
-memory_found g room calls stack now m vars site has stands = go (slice_get (memory_imports g.setting.named.tree) 0) refl
+memory_found {g} {now} {m} {vars} site has stands = go (slice_get (memory_imports g.setting.named.tree) 0) refl
   where
     argument : List tree.Stmt → Option Import → Evaluated state.CValue
     argument rest imported = evaluate_arg g.program m (running g rest vars)
@@ -466,9 +449,9 @@ pub record TableFound (g : Site) (made : store.Store) (m : state.Machine) (vars 
   pub evaluated : (rest : List tree.Stmt) → evaluate_arg g.program m (running g rest vars) (table_arg g.setting.named.tree) ≡ Is
       (Pointer (Some (table_object owner)))
 
-pub table_found : (g : Site) (room : ℕ) (calls : Calls) (stack : List Value) (now : store.State) (m : state.Machine) (vars : state.Vars)
+pub table_found : {g : Site} {room : ℕ} {calls : Calls} {stack : List Value} {now : store.State} {m : state.Machine} {vars : state.Vars}
     → IsSite g room calls → HasTable g.setting.context → StandsAt g stack now m vars → TableFound g now.store m vars
-table_found g room calls stack now m vars site has stands = go (slice_get (table_imports g.setting.named.tree) 0) refl
+table_found {g} {now} {m} {vars} site has stands = go (slice_get (table_imports g.setting.named.tree) 0) refl
   where
     argument : List tree.Stmt → Option Import → Evaluated state.CValue
     argument rest imported = evaluate_arg g.program m (running g rest vars)
@@ -483,8 +466,7 @@ table_found g room calls stack now m vars site has stands = go (slice_get (table
         let h = table_owner g.linked g.unit g.setting.named 0 owner site.module_is is in
         let made = stands.together.ready.objects owner h.tree (omega (arith, h.early, site.is_ready)) h.tree_is in
         let table = is_there made.0.table (made.2.table 0 h.some) in
-        let table_is : store.table_in now.store owner ≡ Some table.0 = ap (λ (o : Option store.Objects). if_found o (λ o. o.table)) made.1
-        ∙ table.1 in
+        let table_is : store.table_in now.store owner ≡ Some table.0 = rw made.1 table.1 in
         let seen = table_seen g.program g.linked m now.store now.trail owner table.0 stands.together.agrees table_is in
         record {
           owner = owner;

@@ -10,8 +10,7 @@ use Rattle.body_meaning.proofs.Vars.{push}
 
 pub slots_are_low : (t : ValType) (c : Context) (code : Code) (height : ℕ) → has_slot t c code height ≡ true → height < most_operands c code
 slots_are_low t c code height e =
-    go (stands_low t height (values c.result)) (occurs_low t height c [] code)
-    (or_cases (stands t height (values c.result)) (occurs t height c [] code) e)
+    go (stands_low t height _) (occurs_low t height c [] code) (or_cases (stands t height (values c.result)) (occurs t height c [] code) e)
   where
     go : (stands t height (values c.result) ≡ true → height < length (values c.result))
         → (occurs t height c [] code ≡ true → height < peak c [] code)
@@ -21,9 +20,9 @@ slots_are_low t c code height e =
     go left right (inr is) = let low : height < peak c [] code = right is in omega (arith, low)
 
 -- the height of a slot that a site has
-pub slot_low : (g : Site) (room : ℕ) (calls : exec.Calls) → IsSite g room calls → (t : ValType) (height : ℕ) → g.slots t height ≡ true
+pub slot_low : {g : Site} {room : ℕ} {calls : exec.Calls} → IsSite g room calls → (t : ValType) (height : ℕ) → g.slots t height ≡ true
     → height < 2 ^ 32
-slot_low g room calls site t height e =
+slot_low {g} site t height e =
     let c : Context = g.setting.context in
     let low : height < max (length (values c.result)) (peak c [] site.entry.code) =
     slots_are_low t c site.entry.code height (sym (site.slots_are t height) ∙ e) in
@@ -36,7 +35,7 @@ SlotIsSet g = (v : Value) (stack locals : List Value) (vars : state.Vars)
     → g.slots (type_of v) (length (types_of stack)) ≡ true → IsNumber v → VarsAgree g.slots g.has_element stack locals vars
     → VarsAgree g.slots g.has_element (v ∷ stack) locals (with_named (slot (type_of v) (length (types_of stack))) (state.Number v) vars)
 
-pub slots_are_set : (g : Site) (room : ℕ) (calls : exec.Calls) → IsSite g room calls → SlotIsSet g
-slots_are_set g room calls site v stack locals vars there fits a =
-    let low : length (types_of stack) < 2 ^ 32 = slot_low g room calls site (type_of v) (length (types_of stack)) there in
-    push g.slots g.has_element stack locals vars v (omega (arith, low)) there fits a
+pub slots_are_set : {g : Site} {room : ℕ} {calls : exec.Calls} → IsSite g room calls → SlotIsSet g
+slots_are_set site v stack locals vars there fits a =
+    let low : length (types_of stack) < 2 ^ 32 = slot_low site (type_of v) (length (types_of stack)) there in
+    push v (omega (arith, low)) there fits a

@@ -46,11 +46,10 @@ start_vars c entry args = local_vars 0 (args ++ zeros (declared_locals entry.run
 bound : (k : ℕ) (types : List ValType) (args : List Value) → types_of args ≡ types
     → bind (param_names (params_from k types)) (map state.Number args) ≡ Some (local_vars k args)
 bound k [] [] e = refl
-bound k [] (v ∷ args) e = absurd cc
-bound k (t ∷ types) [] e = absurd cc
 bound k (t ∷ types) (v ∷ args) e =
     let others : types_of args ≡ types = cc in
     ap (option_map (λ (vars : state.Vars). (local_name k, state.Number v) ∷ vars)) (bound (suc k) types args others)
+bound k _ _ e = absurd cc
 
 params_bound : (types : List ValType) (args : List Value) → types_of args ≡ types
     → bind (param_names (params_of types)) (map state.Number args) ≡ Some (local_vars 0 args)
@@ -67,16 +66,14 @@ types_of_params : (types : List ValType) → param_types (params_of types) ≡ m
 types_of_params [] = refl
 types_of_params (t ∷ types) = types_from 0 (t ∷ types)
 
-args_fit : (types : List ValType) (args : List Value) → types_of args ≡ types
+args_fit : {types : List ValType} (args : List Value) → types_of args ≡ types
     → are_of_types (param_types (params_of types)) (map state.Number args) ≡ true
-args_fit types args e =
-    ap (λ wanted. are_of_types wanted (map state.Number args)) (types_of_params types ∙ ap (map c_type_of) (sym e))
-    ∙ numbers_of_their_types args
+args_fit {types} args e = rw (types_of_params types ∙ ap (map c_type_of) (sym e)) (numbers_of_their_types args)
 
-locals_join : (xs ys : List tree.Local) (vs ws : state.Vars) → locals_of xs ≡ Some vs → locals_of ys ≡ Some ws
+locals_join : (xs ys : List tree.Local) {vs ws : state.Vars} → locals_of xs ≡ Some vs → locals_of ys ≡ Some ws
     → locals_of (xs ++ ys) ≡ Some (vs ++ ws)
-locals_join [] ys vs ws e f = let same : [] ≡ vs = cc in f ∙ ap (λ us. Some (us ++ ws)) same
-locals_join (l ∷ xs) ys vs ws e f = of_value (initial_of l.0 l.2) e (λ us h. locals_join xs ys us ws h f)
+locals_join [] ys {vs} {ws} e f = let same : [] ≡ vs = cc in f ∙ ap (λ us. Some (us ++ ws)) same
+locals_join (l ∷ xs) ys {vs} {ws} e f = of_value (initial_of l.0 l.2) e (λ us h. locals_join xs ys h f)
   where
     of_others : (v : state.CValue) (o : Option state.Vars) → locals_of xs ≡ o
         → option_map (λ (vars : state.Vars). (l.1, v) ∷ vars) o ≡ Some vs
@@ -119,8 +116,7 @@ locals_joined : (k : ℕ) (xs ys : List Value) → local_vars k xs ++ local_vars
 locals_joined k [] ys = ap (λ n. local_vars n ys) (omega arith)
 locals_joined k (x ∷ xs) ys =
     let e : k + length (x ∷ xs) ≡ suc k + length xs = omega arith in
-    ap (λ n. (local_name k, state.Number x) ∷ (local_vars (suc k) xs ++ local_vars n ys)) e
-    ∙ ap (λ vars. (local_name k, state.Number x) ∷ vars) (locals_joined (suc k) xs ys)
+    rw (e, locals_joined (suc k) xs ys) refl
 
 -- a function that is called with such arguments begins with these variables
 pub first_vars_are : (m : link.NamedModule) (index item : ℕ) (ty : FuncType) (entry : BodyEntry) (args : List Value)
@@ -133,29 +129,19 @@ first_vars_are m index item ty entry args fit =
     let declared : List ValType = declared_locals entry.runs in
     let low : List tree.Local = slots_of type.I64 c code ++ element_local code in
     let all : List tree.Local = locals_from (length ty.params) declared ++ (slots_of type.I32 c code ++ low) in
-    let wide : state.Vars = slot_vars type.I64 (heights_of type.I64 c code) ++ element_vars (has_element code) in
     let behind : locals_of (slots_of type.I32 c code ++ low) ≡ Some (slots_behind c code) =
-    locals_join (slots_of type.I32 c code) low (slot_vars type.I32 (heights_of type.I32 c code)) wide
-    (zero_slots type.I32 (heights_of type.I32 c code))
-    (locals_join (slots_of type.I64 c code) (element_local code) (slot_vars type.I64 (heights_of type.I64 c code))
-    (element_vars (has_element code)) (zero_slots type.I64 (heights_of type.I64 c code)) (element_made code))
+    locals_join (slots_of type.I32 c code) low (zero_slots type.I32 (heights_of type.I32 c code))
+    (locals_join (slots_of type.I64 c code) (element_local code) (zero_slots type.I64 (heights_of type.I64 c code)) (element_made code))
     in
     let made : locals_of all ≡ Some (local_vars (length ty.params) (zeros declared) ++ slots_behind c code) =
-    locals_join (locals_from (length ty.params) declared) (slots_of type.I32 c code ++ low) (local_vars (length ty.params) (zeros declared))
-    (slots_behind c code) (zero_locals (length ty.params) declared) behind
+    locals_join (locals_from (length ty.params) declared) (slots_of type.I32 c code ++ low) (zero_locals (length ty.params) declared) behind
     in
     let long : length ty.params ≡ 0 + length args = omega (arith, ap length fit, types_many args) in
-    ap (λ fits. if fits
-    then if_found (bind (param_names (params_of ty.params)) (map state.Number args)) (λ params.
-    option_map (λ locals. params ++ locals) (locals_of all))
-    else None) (args_fit ty.params args fit)
-    ∙ (ap (λ (o : Option state.Vars). if_found o (λ params. option_map (λ locals. params ++ locals) (locals_of all)))
-    (params_bound ty.params args fit)
-    ∙ (ap (option_map (λ (locals : state.Vars). local_vars 0 args ++ locals)) made
+    rw (args_fit args fit, params_bound ty.params args fit) (ap (option_map (λ (locals : state.Vars). local_vars 0 args ++ locals)) made
     ∙ ap (λ (vars : state.Vars). Some vars)
     (ap (λ n. local_vars 0 args ++ (local_vars n (zeros declared) ++ slots_behind c code)) long
     ∙ (sym (append_assoc (local_vars 0 args) (local_vars (0 + length args) (zeros declared)) (slots_behind c code))
-    ∙ ap (λ vars. vars ++ slots_behind c code) (locals_joined 0 args (zeros declared))))))
+    ∙ ap (λ vars. vars ++ slots_behind c code) (locals_joined 0 args (zeros declared)))))
 
 -- ---- what their names hold
 
@@ -202,16 +188,12 @@ located before k (v ∷ locals) rest small free =
 unnamed_locals : (name : state.Name) (k : ℕ) (locals : List Value) → ((i : ℕ) → bytes_eq (local_name i) name ≡ false)
     → named name (local_vars k locals) ≡ None
 unnamed_locals name k [] differ = refl
-unnamed_locals name k (v ∷ locals) differ =
-    ap (λ b. if b then Some (state.Number v) else named name (local_vars (suc k) locals)) (differ k)
-    ∙ unnamed_locals name (suc k) locals differ
+unnamed_locals name k (v ∷ locals) differ = rw (differ k) (unnamed_locals name (suc k) locals differ)
 
 unnamed_slots : (name : state.Name) (t : ValType) (heights : List ℕ) → ((h : ℕ) → bytes_eq (slot t h) name ≡ false)
     → named name (slot_vars t heights) ≡ None
 unnamed_slots name t [] differ = refl
-unnamed_slots name t (h ∷ heights) differ =
-    ap (λ b. if b then Some (state.Number (value t 0)) else named name (slot_vars t heights)) (differ h)
-    ∙ unnamed_slots name t heights differ
+unnamed_slots name t (h ∷ heights) differ = rw (differ h) (unnamed_slots name t heights differ)
 
 unnamed : (c : Context) (entry : BodyEntry) (args : List Value) (name : state.Name) → ((i : ℕ) → bytes_eq (local_name i) name ≡ false)
     → ((t : ValType) (h : ℕ) → bytes_eq (slot t h) name ≡ false)
@@ -220,10 +202,9 @@ unnamed c entry args name no_local no_slot no_element =
     let narrow = slot_vars type.I32 (heights_of type.I32 c entry.code) in
     let wide = slot_vars type.I64 (heights_of type.I64 c entry.code) in
     let element = element_vars (has_element entry.code) in
-    named_behind name (local_vars 0 (args ++ zeros (declared_locals entry.runs))) (slots_behind c entry.code)
-    (unnamed_locals name 0 (args ++ zeros (declared_locals entry.runs)) no_local)
-    ∙ (named_behind name narrow (wide ++ element) (unnamed_slots name type.I32 (heights_of type.I32 c entry.code) (no_slot type.I32))
-    ∙ (named_behind name wide element (unnamed_slots name type.I64 (heights_of type.I64 c entry.code) (no_slot type.I64))
+    named_behind name _ _ (unnamed_locals name 0 _ no_local)
+    ∙ (named_behind name narrow _ (unnamed_slots name type.I32 _ (no_slot type.I32))
+    ∙ (named_behind name wide element (unnamed_slots name type.I64 _ (no_slot type.I64))
     ∙ no_variable (has_element entry.code)))
   where
     no_variable : (has : Bool) → named name (element_vars has) ≡ None
@@ -238,10 +219,7 @@ slot_there t test a (suc n) h passes from to = elim (cases_eq a h) [
   | inl same ↦
       let kept : test a ≡ true = ap test same ∙ passes in
       let found : bytes_eq (slot t a) (slot t h) ≡ true = ap (λ k. bytes_eq (slot t a) (slot t k)) (sym same) ∙ bytes_equal (slot t a) in
-      ap (λ keep. named (slot t h) (slot_vars t
-      (cond keep (a ∷ filter test (range_with_len (a + 1) n)) (filter test (range_with_len (a + 1) n))))) kept
-      ∙ ap (λ b. if b then Some (state.Number (value t 0)) else named (slot t h)
-      (slot_vars t (filter test (range_with_len (a + 1) n)))) found
+      rw (kept, found) refl
   | inr differ ↦ by_test (test a) (slot_there t test (a + 1) n h passes (omega (arith, from, differ)) (omega (arith, to)))
 ]
   where
@@ -260,11 +238,11 @@ slot_there t test a (suc n) h passes from to = elim (cases_eq a h) [
     by_test false e = e
 
 -- the arguments and zeros are its locals, and it has all its slots
-pub start_agrees : (c : Context) (entry : BodyEntry) (args : List Value) → BodyHasLimits entry → length args ≤ 60
+pub start_agrees : (c : Context) {entry : BodyEntry} (args : List Value) → BodyHasLimits entry → length args ≤ 60
     → AllByRecursion IsNumber args
     → VarsAgree (λ t height. has_slot t c entry.code height) (has_element entry.code) [] (args ++ zeros (declared_locals entry.runs))
     (start_vars c entry args)
-start_agrees c entry args within few numbers =
+start_agrees c {entry} args within few numbers =
     let declared : List ValType = declared_locals entry.runs in
     let locals : List Value = args ++ zeros declared in
     let long : length locals ≡ length args + length declared = length-append args (zeros declared)

@@ -6,10 +6,10 @@ use Rattle.w2c_base.proofs.Lists.{contains_kept}
 use Rattle.c_prelude.proofs.Functions.{listed}
 
 -- the body of one of the module's functions
-pub body_is_there : (g : Site) (i : ℕ) (entry : BodyEntry) → Serves g.program g.linked g.unit g.setting.named
+pub body_is_there : (g : Site) (i : ℕ) {entry : BodyEntry} → Serves g.program g.linked g.unit g.setting.named
     → slice_get g.setting.named.tree.bodies i ≡ Some entry → g.has_element ≡ has_element entry.code
     → IsThere g (λ test. any_in test entry.code)
-body_is_there g i entry serves at_it element_is = record {
+body_is_there g i {entry} serves at_it element_is = record {
   helpers = λ which is.
       let place = listed which in
       serves.helpers which

@@ -24,9 +24,9 @@ stacked_below [] ys vars h = h
 stacked_below (x ∷ xs) ys vars h = stacked_below xs ys vars h.1
 
 -- the operands under the uppermost ones
-pub under : (slots : ValType → ℕ → Bool) (has_element : Bool) (xs ys locals : List Value) (vars : state.Vars)
+pub agree_below : {slots : ValType → ℕ → Bool} {has_element : Bool} (xs ys : List Value) {locals : List Value} {vars : state.Vars}
     → VarsAgree slots has_element (xs ++ ys) locals vars → VarsAgree slots has_element ys locals vars
-under slots has_element xs ys locals vars a = record {
+agree_below xs ys {vars} a = record {
   stacked = stacked_below xs ys vars a.stacked;
   located = a.located;
   stack_numbers = all_behind IsNumber xs ys a.stack_numbers;
@@ -124,12 +124,12 @@ record Left (slots : ValType → ℕ → Bool) (has_element : Bool) (vars : stat
   globals_seen : (k : ℕ) → named (global_name k) vars ≡ None
   pointers_seen : (object : state.Name) → named (pointer_name object) vars ≡ None
 
-left_of : (slots : ValType → ℕ → Bool) (has_element : Bool) (stack locals : List Value) (vars : state.Vars) (name : List ℕ)
-    (new : state.CValue)
+left_of : {slots : ValType → ℕ → Bool}
+    {has_element : Bool} {stack locals : List Value} {vars : state.Vars} (name : List ℕ) (new : state.CValue)
     → ((k : ℕ) → name ≢ global_name k) → ((object : state.Name) → name ≢ pointer_name object)
     → Takes (named name vars) new
     → VarsAgree slots has_element stack locals vars → Left slots has_element (with_named name new vars)
-left_of slots has_element stack locals vars name new no_global no_pointer takes a = record {
+left_of {vars} name new no_global no_pointer takes a = record {
   declared = λ t h is. still_holds (HoldsNumber t) (slot t h) name new vars takes (another_number t (named name vars) new takes)
       (a.declared t h is);
   element = λ is. still_holds HoldsFunction element_name name new vars takes (another_function (named name vars) new takes)
@@ -141,41 +141,40 @@ left_of slots has_element stack locals vars name new no_global no_pointer takes 
 
 -- ---- what a local holds
 
-located_at : (k x : ℕ) (locals : List Value) (v : Value) (vars : state.Vars) → Located k locals vars → slice_get locals x ≡ Some v
+located_at : (k x : ℕ) (locals : List Value) {v : Value} (vars : state.Vars) → Located k locals vars → slice_get locals x ≡ Some v
     → named (local_name (k + x)) vars ≡ Some (state.Number v)
-located_at k x [] v vars s is = absurd cc
-located_at k zero (w ∷ locals) v vars s is =
+located_at k x [] vars s is = absurd cc
+located_at k zero (w ∷ locals) {v} vars s is =
     let e : k ≡ k + 0 = omega arith in
     let same : Some w ≡ Some v = is in
     subst (λ (i : ℕ). named (local_name i) vars ≡ Some (state.Number v)) e
     (s.0 ∙ ap (λ (o : Option Value). elim o [ None ↦ None | Some u ↦ Some (state.Number u) ]) same)
-located_at k (suc x) (w ∷ locals) v vars s is =
+located_at k (suc x) (w ∷ locals) {v} vars s is =
     let e : suc k + x ≡ k + suc x = omega arith in
-    subst (λ (i : ℕ). named (local_name i) vars ≡ Some (state.Number v)) e (located_at (suc k) x locals v vars s.1 is)
+    subst (λ (i : ℕ). named (local_name i) vars ≡ Some (state.Number v)) e (located_at (suc k) x locals vars s.1 is)
 
-pub local_at : (x : ℕ) (locals : List Value) (v : Value) (vars : state.Vars) → Located 0 locals vars → slice_get locals x ≡ Some v
+pub local_at : (x : ℕ) (locals : List Value) {v : Value} (vars : state.Vars) → Located 0 locals vars → slice_get locals x ≡ Some v
     → named (local_name x) vars ≡ Some (state.Number v)
-local_at x locals v vars s is =
+local_at x locals {v} vars s is =
     let e : 0 + x ≡ x = omega arith in
-    subst (λ (i : ℕ). named (local_name i) vars ≡ Some (state.Number v)) e (located_at 0 x locals v vars s is)
+    subst (λ (i : ℕ). named (local_name i) vars ≡ Some (state.Number v)) e (located_at 0 x locals vars s is)
 
-pub local_taken : (x : ℕ) (locals : List Value) (v old : Value) (vars : state.Vars) → Located 0 locals vars
+pub local_taken : (x : ℕ) (locals : List Value) (v : Value) {old : Value} (vars : state.Vars) → Located 0 locals vars
     → slice_get locals x ≡ Some old → type_of v ≡ type_of old → Takes (named (local_name x) vars) (state.Number v)
-local_taken x locals v old vars located is typed =
-    (state.Number old, local_at x locals old vars located is, numbers_of_one_type old v (sym typed))
+local_taken x locals v {old} vars located is typed =
+    (state.Number old, local_at x locals vars located is, numbers_of_one_type old v (sym typed))
 
 -- ---- assignments
 
 -- a value is put on top of the operands
-pub push : (slots : ValType → ℕ → Bool) (has_element : Bool) (stack locals : List Value) (vars : state.Vars) (v : Value)
+pub push : {slots : ValType → ℕ → Bool} {has_element : Bool} {stack locals : List Value} {vars : state.Vars} (v : Value)
     → height stack < 2 ^ 64 → slots (type_of v) (height stack) ≡ true → IsNumber v → VarsAgree slots has_element stack locals vars
     → VarsAgree slots has_element (v ∷ stack) locals (with_named (slot (type_of v) (height stack)) (state.Number v) vars)
-push slots has_element stack locals vars v small there fits a =
+push {slots} {has_element} {stack} {locals} {vars} v small there fits a =
     let name : List ℕ = slot (type_of v) (height stack) in
     let new : state.CValue = state.Number v in
     let left : Left slots has_element (with_named name new vars) =
-    left_of slots has_element stack locals vars name new (slot_is_no_global (type_of v) (height stack))
-    (slot_is_no_pointer (type_of v) (height stack))
+    left_of name new (slot_is_no_global (type_of v) (height stack)) (slot_is_no_pointer (type_of v) (height stack))
     (number_taken (type_of v) (named name vars) v (a.declared (type_of v) (height stack) there) refl) a
     in
     record {
@@ -194,15 +193,14 @@ push slots has_element stack locals vars v small there fits a =
     }
 
 -- the element that is about to be called
-pub set_element : (slots : ValType → ℕ → Bool) (has_element : Bool) (stack locals : List Value) (vars : state.Vars)
-    (to : Option state.FuncAddress)
+pub set_element : {slots : ValType → ℕ → Bool}
+    {has_element : Bool} {stack locals : List Value} {vars : state.Vars} (to : Option state.FuncAddress)
     → IsTrue has_element → VarsAgree slots has_element stack locals vars
     → VarsAgree slots has_element stack locals (with_named element_name (state.FuncPointer to) vars)
-set_element slots has_element stack locals vars to there a =
+set_element {slots} {has_element} {stack} {locals} {vars} to there a =
     let new : state.CValue = state.FuncPointer to in
     let left : Left slots has_element (with_named element_name new vars) =
-    left_of slots has_element stack locals vars element_name new element_is_no_global element_is_no_pointer
-    (function_taken (named element_name vars) to (a.element there)) a
+    left_of element_name new element_is_no_global element_is_no_pointer (function_taken (named element_name vars) to (a.element there)) a
     in
     record {
       stacked = stays_stacked element_name new stack vars (λ t h less. slot_is_no_element t h) a.stacked;
@@ -216,36 +214,37 @@ set_element slots has_element stack locals vars to there a =
     }
 
 -- the local with number x is set
-located_set : (k x y : ℕ) (locals : List Value) (v old : Value) (vars : state.Vars) → y ≡ k + x → length locals + k < 2 ^ 64
+located_set : (k x y : ℕ) (locals : List Value) (v : Value) {old : Value} (vars : state.Vars) → y ≡ k + x → length locals + k < 2 ^ 64
     → slice_get locals x ≡ Some old → Located k locals vars → Located k (slice_set locals x v)
     (with_named (local_name y) (state.Number v) vars)
-located_set k x y [] v old vars place few is s = absurd cc
-located_set k zero y (w ∷ locals) v old vars place few is s =
+located_set k x y [] v vars place few is s = absurd cc
+located_set k zero y (w ∷ locals) v vars place few is s =
     let e : k ≡ y = omega (arith, place) in
     subst (λ (i : ℕ). Located k (v ∷ locals) (with_named (local_name i) (state.Number v) vars)) e (
       named-with_named (local_name k) (state.Number v) vars (ap is_some s.0),
       stays_located (local_name k) (state.Number v) (suc k) locals vars
           (λ i from to. local_at_another_place i k (omega (arith, to, few)) (omega (arith, few)) (omega (arith, from))) s.1,
     )
-located_set k (suc x) y (w ∷ locals) v old vars place few is s =
+located_set k (suc x) y (w ∷ locals) v {old} vars place few is s =
     let within : x < length locals = slice_get_within locals x old is in (
       named-with_another (local_name k) (local_name y) (state.Number v) vars
           (local_at_another_place k y (omega (arith, few)) (omega (arith, few, place, within)) (omega (arith, place))) ∙ s.0,
-      located_set (suc k) x y locals v old vars (omega (arith, place)) (omega (arith, few)) is s.1,
+      located_set (suc k) x y locals v vars (omega (arith, place)) (omega (arith, few)) is s.1,
     )
 
-pub set_local : (slots : ValType → ℕ → Bool) (has_element : Bool) (stack locals : List Value) (vars : state.Vars) (x : ℕ) (v old : Value)
+pub set_local : {slots : ValType → ℕ → Bool}
+    {has_element : Bool} {stack locals : List Value} {vars : state.Vars} (x : ℕ) (v : Value) {old : Value}
     → length locals < 2 ^ 64 → slice_get locals x ≡ Some old → type_of v ≡ type_of old → IsNumber v
     → VarsAgree slots has_element stack locals vars
     → VarsAgree slots has_element stack (slice_set locals x v) (with_named (local_name x) (state.Number v) vars)
-set_local slots has_element stack locals vars x v old few is typed fits a =
+set_local {slots} {has_element} {stack} {locals} {vars} x v few is typed fits a =
     let left : Left slots has_element (with_named (local_name x) (state.Number v) vars) =
-    left_of slots has_element stack locals vars (local_name x) (state.Number v) (local_is_no_global x) (local_is_no_pointer x)
-    (local_taken x locals v old vars a.located is typed) a
+    left_of
+    (local_name x) (state.Number v) (local_is_no_global x) (local_is_no_pointer x) (local_taken x locals v vars a.located is typed) a
     in
     record {
       stacked = stays_stacked (local_name x) (state.Number v) stack vars (λ t h less. slot_is_no_local t h x) a.stacked;
-      located = located_set 0 x x locals v old vars (omega arith) (omega (arith, few)) is a.located;
+      located = located_set 0 x x locals v vars (omega arith) (omega (arith, few)) is a.located;
       stack_numbers = a.stack_numbers;
       local_numbers = all_set IsNumber locals x v fits a.local_numbers;
       declared = left.declared;
@@ -257,15 +256,15 @@ set_local slots has_element stack locals vars x v old few is typed fits a =
 -- ---- operands of a running function are taken
 
 -- what is shared may change
-pub lowered : (g : Site) (above whole : List Value) (now : store.State) (new : store.Store) (m after : state.Machine) (vars : state.Vars)
+pub lowered : {g : Site} (above whole : List Value) {now : store.State} {new : store.Store} {m after : state.Machine} {vars : state.Vars}
     → StandsAt g (above ++ whole) now m vars
     → Together g.program g.linked g.count (suc g.depth) after new now.trail → StandsAt g whole (exec.in_store now new) after vars
-lowered g above whole now new m after vars stood together = record {
+lowered above whole stood together = record {
   together = together;
-  variables = under g.slots g.has_element above whole now.locals vars stood.variables;
+  variables = agree_below above whole stood.variables;
   local_types = stood.local_types;
 }
 
-pub stands_below : (g : Site) (xs ys : List Value) (now : store.State) (m : state.Machine) (vars : state.Vars)
+pub stands_below : {g : Site} (xs ys : List Value) {now : store.State} {m : state.Machine} {vars : state.Vars}
     → StandsAt g (xs ++ ys) now m vars → StandsAt g ys now m vars
-stands_below g xs ys now m vars s = lowered g xs ys now now.store m m vars s s.together
+stands_below xs ys s = lowered xs ys s s.together

@@ -1,10 +1,10 @@
 -- However an operator is done, in C or by a helper, it gives what its instruction gives.
 use Rattle.body_meaning.proofs.Common.{◌≡◌, ℕ, ◌+◌, ◌-◌, ◌*◌, ◌%◌, ◌^◌, ◌<◌, Bool, not, [], ◌∷◌, nat_lt, nat_le, ◌==◌, bit_and, bit_or}
-use Rattle.body_meaning.proofs.Common.{bit_xor, refl, ap, ◌∙◌, bits, value, ValType, Value, I32, extend_type, extend_width, BinaryOp}
-use Rattle.body_meaning.proofs.Common.{CompareOp, ExtendOp, UnaryOp, COp, Answer, Gives, binary, compare, extend_s, shl, shr_u, truth}
-use Rattle.body_meaning.proofs.Common.{unary, Program, operate, operate_at, Evaluated, Is, Machine, Running, then_evaluate, evaluate}
-use Rattle.body_meaning.proofs.Common.{helper_right, evaluate-num, flagged, flagged-bit, operate-value, CallComesTo, helper_of, number}
-use Rattle.body_meaning.proofs.Common.{NumOp, binary_way, compare_way, extend_helper, unary_helper, Way, ByHelper, ByOperator, ByShift}
+use Rattle.body_meaning.proofs.Common.{bit_xor, refl, ap, ◌∙◌, bits, value, ValType, I32, extend_type, extend_width, BinaryOp, CompareOp}
+use Rattle.body_meaning.proofs.Common.{ExtendOp, UnaryOp, COp, Answer, Gives, binary, compare, extend_s, shl, shr_u, truth, unary, Program}
+use Rattle.body_meaning.proofs.Common.{operate_at, Is, Machine, Running, evaluate, helper_right, evaluate-num, flagged, flagged-bit}
+use Rattle.body_meaning.proofs.Common.{operate-value, CallComesTo, helper_of, number, NumOp, binary_way, compare_way, extend_helper}
+use Rattle.body_meaning.proofs.Common.{unary_helper, Way, ByHelper, ByOperator, ByShift}
 use Rattle.w2c_base.specs.declared.value.ValType.TheVariants as type
 use Rattle.wasm_tree.specs.declared.operators.UnaryOp.TheVariants as unary_op
 use Rattle.wasm_tree.specs.declared.operators.BinaryOp.TheVariants as binary_op
@@ -39,9 +39,7 @@ WayIsRight t u answer as_value (ByHelper which) = (m : Machine) (x y : ℕ) → 
 pub operated : (p : Program) (m : Machine) (r : Running) (t : ValType) (o : COp) (a b : tree.Expr) (x y : ℕ)
     → evaluate p m r a ≡ Is (value t x) → evaluate p m r b ≡ Is (value t y)
     → evaluate p m r (tree.Op o a b) ≡ operate_at t o x y
-operated p m r t o a b x y left right =
-    ap (λ (v : Evaluated Value). then_evaluate v (λ w. then_evaluate (evaluate p m r b) (λ z. operate o w z))) left
-    ∙ (ap (λ (v : Evaluated Value). then_evaluate v (λ z. operate o (value t x) z)) right ∙ operate-value t o x y)
+operated p m r t o a b x y left right = rw (left, right) (operate-value t o x y)
 
 by_operator : (t : ValType) (o : COp) (answer : ℕ → ℕ → Answer) (result : ℕ → ℕ → ℕ) → ((x y : ℕ) → answer x y ≡ Gives (result x y))
     → ((x y : ℕ) → operate_at t o x y ≡ Is (value t (result x y)))

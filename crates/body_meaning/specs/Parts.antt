@@ -1,6 +1,6 @@
 -- What each part of the proof of bodies shows, so that the parts can be proved apart: of one instruction, of
 -- code, and of a function that is called.
-use Rattle.std.specs.Prelude.{◌≡◌, ℕ, suc, ◌+◌, ◌<◌, ◌≤◌, ◌^◌, ◌||◌, Bool, true, false, List, [], ◌∷◌, ◌++◌, map, length, slice_get, Some}
+use Rattle.std.specs.Prelude.{◌≡◌, ℕ, suc, ◌+◌, ◌<◌, ◌≤◌, ◌^◌, Bool, true, false, List, [], ◌∷◌, ◌++◌, map, length, slice_get, Some}
 use Rattle.std.specs.Prelude.{⊤}
 use Rattle.w2c_base.specs.declared.value.ValType.{ValType}
 use Rattle.w2c_base.specs.declared.value.Value.{Value}
@@ -20,11 +20,11 @@ use Rattle.c_meaning.specs.Step.{after_label}
 use Rattle.alike.specs.CallsFollow.{CallsFollow}
 use Rattle.c_helpers.specs.declared.operation.Helper.{Helper}
 use Rattle.c_helpers.specs.Helpers.{helper_of}
-use Rattle.c_helpers.specs.Translated.{any_in, any_inside}
+use Rattle.c_helpers.specs.Translated.{any_in}
 use Rattle.c_helpers.specs.Needed.{calls_helper}
 use Rattle.body_emitter.specs.Branches.{Aim, exit_of}
-use Rattle.c_body.specs.Stack.{stands, occurs, occurs_in, after}
-use Rattle.c_body.specs.Labels.{labels_in, labels_of, targets as branches_to, targets_in}
+use Rattle.c_body.specs.Stack.{stands, occurs, after}
+use Rattle.c_body.specs.Labels.{labels_in, targets as branches_to}
 use Rattle.c_body.specs.Limits.{BodyHasLimits}
 use Rattle.c_body.specs.Code.{emit, emit_kind}
 use Rattle.c_body.specs.Body.{func_of, has_slot, has_element, is_return, is_indirect}
@@ -76,26 +76,37 @@ pub record IsExit (g : Site) (base : List Value) (returns : Bool) (t : Target) :
 abbrev pub aims_of : List Target → List Aim
 aims_of targets = map (λ t. t.aim) targets
 
+-- where an instruction stands: the targets and the operands outside its block, the number of the next label, the statements
+-- to come, the types of the operands behind it, and what it finds
+pub record Spot : Type 0 where
+  pub targets : List Target
+  pub base : List Value
+  pub label : ℕ
+  pub rest : List tree.Stmt
+  pub outs : Stack
+  pub now : store.State
+  pub machine : state.Machine
+  pub vars : state.Vars
+
 -- One instruction, which has a type for the operands of its block, over those of the blocks outside. The stack
--- behind it has its slots; and so has each stack inside.
+-- behind it has its slots.
+pub record IsHere (g : Site) (kind : Kind) (s : Spot) (stack : List Value) : Type 0 where
+  pub typed : KindHasType g.setting.context (map (λ t. t.aim.value) s.targets) kind (types_of stack) s.outs
+  pub slots : (t : ValType) (height : ℕ) → stands t height (after g.setting.context (types_of (stack ++ s.base)) kind) ≡ true
+      → g.slots t height ≡ true
+  pub narrow : has_wide kind ≡ false
+  pub placed : IsPlaced g.body.stmts (emit_kind g.setting (aims_of s.targets) (types_of (stack ++ s.base)) s.label kind) s.rest
+  pub stands : StandsAt g (stack ++ s.base) s.now s.machine s.vars
+
 abbrev pub KindFollows : Site → exec.Calls → Kind → Type 0
 KindFollows g calls kind =
-    (targets : List Target) (exit : Target) (base stack : List Value) (l n : ℕ) (rest : List tree.Stmt) (outs : Stack)
-    (now : store.State) (m : state.Machine) (vars : state.Vars)
-    → KindHasType g.setting.context (map (λ t. t.aim.value) targets) kind (types_of stack) outs
-    → AreTargets g base (λ k. targets_in k kind) 0 targets → IsExit g base (is_return kind || any_inside is_return kind) exit
-    → ((t : ValType) (height : ℕ) → stands t height (after g.setting.context (types_of (stack ++ base)) kind) ≡ true
-    → g.slots t height ≡ true)
-    → ((t : ValType) (height : ℕ) → occurs_in t height g.setting.context (types_of (stack ++ base)) kind ≡ true → g.slots t height ≡ true)
-    → l + labels_of kind < 2 ^ 32 → has_wide kind ≡ false → any_inside has_wide kind ≡ false
-    → IsPlaced g.body.stmts (emit_kind g.setting (aims_of targets) (types_of (stack ++ base)) l kind) rest
-    → StandsAt g (stack ++ base) now m vars
-    → Follows g 0 targets exit base rest outs
-    (at g m (emit_kind g.setting (aims_of targets) (types_of (stack ++ base)) l kind ++ rest) vars)
+    (s : Spot) (stack : List Value) → IsHere g kind s stack → (exit : Target) (n : ℕ)
+    → Follows g 0 s.targets exit s.base s.rest s.outs
+    (at g s.machine (emit_kind g.setting (aims_of s.targets) (types_of (stack ++ s.base)) s.label kind ++ s.rest) s.vars)
     n
-    (exec.exec_kind g.linked calls g.unit kind n stack now)
+    (exec.exec_kind g.linked calls g.unit kind n stack s.now)
 
--- the same of code
+-- code, of which each stack inside has its slots
 abbrev pub CodeFollows : Site → exec.Calls → Code → Type 0
 CodeFollows g calls code =
     (targets : List Target) (exit : Target) (base stack : List Value) (l n : ℕ) (rest : List tree.Stmt) (outs : Stack)

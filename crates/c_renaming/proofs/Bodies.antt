@@ -1,10 +1,9 @@
 -- Labels, parameters and locals, definitions and types under a renaming.
-use Rattle.c_renaming.proofs.Common.{◌≡◌, ℕ, ◌-◌, Bool, true, false, ◌&&◌, List, [], ◌∷◌, ◌++◌, map, if◌then◌else◌, Some, None, Option}
-use Rattle.c_renaming.proofs.Common.{option_map, bytes_eq, sym, refl, ap, ◌∙◌, length-map, map-append, if_found, Value, func_type_of, Num}
-use Rattle.c_renaming.proofs.Common.{Definition, initial_of, of_type, zero_of, CValue, FuncPointer, Name, Number, Pointer, Running, Vars}
-use Rattle.c_renaming.proofs.Common.{after_label, are_of_types, bind, equal_number, first_vars, label_of, locals_of, numbers, param_names}
-use Rattle.c_renaming.proofs.Common.{param_types, place_of, Each, Holds, KeptStmt, KeptValue, KeptVars, KeepsNames, Renaming, address}
-use Rattle.c_renaming.proofs.Common.{place}
+use Rattle.c_renaming.proofs.Common.{◌≡◌, ℕ, ◌-◌, ◌&&◌, List, [], ◌∷◌, ◌++◌, map, Some, None, Option, option_map, sym, refl, ap, ◌∙◌}
+use Rattle.c_renaming.proofs.Common.{length-map, map-append, if_found, Value, func_type_of, Num, Definition, initial_of, of_type, zero_of}
+use Rattle.c_renaming.proofs.Common.{CValue, FuncPointer, Name, Number, Pointer, Running, Vars, after_label, are_of_types, bind, first_vars}
+use Rattle.c_renaming.proofs.Common.{label_of, locals_of, numbers, param_names, param_types, place_of, Each, Holds, KeptStmt, KeptValue}
+use Rattle.c_renaming.proofs.Common.{KeptVars, KeepsNames, Renaming, place, arith}
 use Rattle.c_tree.specs.declared.tree.CType.{CType}
 use Rattle.c_tree.specs.declared.tree.CType.TheVariants as type
 use Rattle.c_tree.specs.declared.tree.Num.TheVariants.{N32, N64, Plain}
@@ -23,16 +22,8 @@ place-running ρ r rest = λ i. record {
 
 pub of_type-value : (ρ : Renaming) (ty : CType) (v : CValue) → of_type ty (renamed.value ρ v) ≡ of_type ty v
 of_type-value ρ ty (Number v) = refl
-of_type-value ρ ty (Pointer to) = of_pointers ty
-  where
-    of_pointers : (ty : CType) → of_type ty (Pointer (option_map ρ.object to)) ≡ of_type ty (Pointer to)
-    of_pointers type.U32 = refl
-    of_pointers _ = refl
-of_type-value ρ ty (FuncPointer to) = of_functions ty
-  where
-    of_functions : (ty : CType) → of_type ty (FuncPointer (option_map (address ρ) to)) ≡ of_type ty (FuncPointer to)
-    of_functions type.U32 = refl
-    of_functions _ = refl
+of_type-value ρ ty (Pointer to) = grind arith
+of_type-value ρ ty (FuncPointer to) = grind arith
 
 are_of_types-values : (ρ : Renaming) (types : List CType) (args : List CValue)
     → are_of_types types (map (renamed.value ρ) args) ≡ are_of_types types args
@@ -47,40 +38,19 @@ module _ (ρ : Renaming) (names : KeepsNames ρ) (u : ℕ) where
   pub after_label-stmts : (name : Name) (stmts : List tree.Stmt)
       → after_label (ρ.label u name) (map (renamed.stmt ρ u) stmts) ≡ option_map (map (renamed.stmt ρ u)) (after_label name stmts)
   after_label-stmts name [] = refl
-  after_label-stmts name (tree.Label x ∷ stmts) =
-      ap (λ b. if b then Some (map (renamed.stmt ρ u) stmts) else after_label (ρ.label u name) (map (renamed.stmt ρ u) stmts))
-      (names.labels u x name)
-      ∙ go (bytes_eq x name) (after_label-stmts name stmts)
-    where
-      go : (b : Bool) → after_label (ρ.label u name) (map (renamed.stmt ρ u) stmts)
-          ≡ option_map (map (renamed.stmt ρ u)) (after_label name stmts)
-          → (if b then Some (map (renamed.stmt ρ u) stmts) else after_label (ρ.label u name) (map (renamed.stmt ρ u) stmts))
-          ≡ option_map (map (renamed.stmt ρ u)) (if b then Some stmts else after_label name stmts)
-      go true behind = refl
-      go false behind = behind
+  after_label-stmts name (tree.Label x ∷ stmts) = grind (arith, names.labels u x name, after_label-stmts name stmts)
   after_label-stmts name (_ ∷ stmts) = after_label-stmts name stmts
 
   pub after_label-kept : (name : Name) (stmts : List tree.Stmt) → Each (KeptStmt ρ u) stmts
       → Holds (Each (KeptStmt ρ u)) (after_label name stmts)
   after_label-kept name [] kept = tt
-  after_label-kept name (tree.Label x ∷ stmts) kept = go (bytes_eq x name) (after_label-kept name stmts kept.1)
-    where
-      go : (b : Bool) → Holds (Each (KeptStmt ρ u)) (after_label name stmts)
-          → Holds (Each (KeptStmt ρ u)) (if b then Some stmts else after_label name stmts)
-      go true behind = kept.1
-      go false behind = behind
+  after_label-kept name (tree.Label x ∷ stmts) kept = grind (arith, after_label-kept name stmts kept.1)
   after_label-kept name (_ ∷ stmts) kept = after_label-kept name stmts kept.1
 
   pub label_of-cases : (v : Value) (cases : List tree.Case) (default : Name)
       → label_of v (map (renamed.case ρ u) cases) (ρ.label u default) ≡ ρ.label u (label_of v cases default)
   label_of-cases v [] default = refl
-  label_of-cases v (c ∷ cases) default = go (equal_number v c.0) (label_of-cases v cases default)
-    where
-      go : (b : Bool) → label_of v (map (renamed.case ρ u) cases) (ρ.label u default) ≡ ρ.label u (label_of v cases default)
-          → (if b then ρ.label u c.1 else label_of v (map (renamed.case ρ u) cases) (ρ.label u default))
-          ≡ ρ.label u (if b then c.1 else label_of v cases default)
-      go true behind = refl
-      go false behind = behind
+  label_of-cases v (c ∷ cases) default = grind (arith, label_of-cases v cases default)
 
 -- ---- parameters and locals
 
@@ -111,11 +81,7 @@ module _ (ρ : Renaming) (u : ℕ) where
 
   bind-kept : (names : List Name) (args : List CValue) → Each (KeptValue ρ) args → Holds (KeptVars ρ) (bind names args)
   bind-kept [] [] kept = tt
-  bind-kept (name ∷ names) (v ∷ args) kept = go (bind names args) (bind-kept names args kept.1)
-    where
-      go : (o : Option Vars) → Holds (KeptVars ρ) o → Holds (KeptVars ρ) (option_map (λ l. (name, v) ∷ l) o)
-      go None behind = tt
-      go (Some l) behind = (kept.0, behind)
+  bind-kept (name ∷ names) (v ∷ args) kept = grind (arith, bind-kept names args kept.1)
   bind-kept [] (v ∷ args) kept = tt
   bind-kept (name ∷ names) [] kept = tt
 
@@ -153,13 +119,7 @@ module _ (ρ : Renaming) (u : ℕ) where
 
   locals_of-kept : (locals : List tree.Local) → Holds (KeptVars ρ) (locals_of locals)
   locals_of-kept [] = tt
-  locals_of-kept (l ∷ locals) = go (initial_of l.0 l.2) (locals_of locals) (initial_plain l.0 l.2) (locals_of-kept locals)
-    where
-      go : (o : Option CValue) (rest : Option Vars) → Holds IsPlain o → Holds (KeptVars ρ) rest
-          → Holds (KeptVars ρ) (if_found o (λ v. option_map (λ vars. (l.1, v) ∷ vars) rest))
-      go None rest plain behind = tt
-      go (Some v) None plain behind = tt
-      go (Some v) (Some vars) plain behind = (plain.1, behind)
+  locals_of-kept (l ∷ locals) = grind (arith, initial_plain l.0 l.2, locals_of-kept locals)
 
   append-kept : (xs ys : Vars) → KeptVars ρ xs → KeptVars ρ ys → KeptVars ρ (xs ++ ys)
   append-kept [] ys first second = second
@@ -171,60 +131,15 @@ module _ (ρ : Renaming) (u : ℕ) where
       ≡ option_map (renamed.vars ρ u)
       (if_found (bind (param_names d.func.params) args)
       (λ params. option_map (λ locals. params ++ locals) (locals_of d.body.locals)))
-  bound_vars d args =
-      ap (λ ns. if_found (bind ns (map (renamed.value ρ) args))
-      (λ params. option_map (λ locals. params ++ locals) (locals_of (map (renamed.local ρ u) d.body.locals))))
-      (param_names-params d.func.params)
-      ∙ ap (λ o. if_found o (λ params. option_map (λ locals. params ++ locals)
-      (locals_of (map (renamed.local ρ u) d.body.locals)))) (bind-names (param_names d.func.params) args)
-      ∙ ap (λ o. if_found (option_map (renamed.vars ρ u) (bind (param_names d.func.params) args))
-      (λ params. option_map (λ locals. params ++ locals) o)) (locals_of-locals d.body.locals)
-      ∙ go (bind (param_names d.func.params) args) (locals_of d.body.locals)
-    where
-      go : (o rest : Option Vars)
-          → if_found (option_map (renamed.vars ρ u) o)
-          (λ params. option_map (λ locals. params ++ locals) (option_map (renamed.vars ρ u) rest))
-          ≡ option_map (renamed.vars ρ u) (if_found o (λ params. option_map (λ locals. params ++ locals) rest))
-      go None rest = refl
-      go (Some params) None = refl
-      go (Some params) (Some locals) = ap Some (sym (map-append (renamed.entry ρ u) params locals))
+  bound_vars d args = grind (arith, param_names-params, bind-names, locals_of-locals, map-append)
 
   pub first_vars-definition : (d : Definition) (args : List CValue)
       → first_vars (renamed.definition ρ u d) (map (renamed.value ρ) args) ≡ option_map (renamed.vars ρ u) (first_vars d args)
   first_vars-definition d args =
-      ap (λ b. if b then bound' else None)
-      (ap (λ types. are_of_types types (map (renamed.value ρ) args)) (param_types-params d.func.params)
-      ∙ are_of_types-values ρ (param_types d.func.params) args)
-      ∙ by_types (are_of_types (param_types d.func.params) args)
-    where
-      bound : Option Vars
-      bound = if_found (bind (param_names d.func.params) args) (λ params. option_map (λ locals. params ++ locals) (locals_of d.body.locals))
-
-      bound' : Option Vars
-      bound' = if_found (bind (param_names (map (renamed.param ρ u) d.func.params)) (map (renamed.value ρ) args)) (λ params.
-          option_map (λ locals. params ++ locals) (locals_of (map (renamed.local ρ u) d.body.locals)))
-
-      by_types : (b : Bool) → (if b then bound' else None) ≡ option_map (renamed.vars ρ u) (if b then bound else None)
-      by_types true = bound_vars d args
-      by_types false = refl
+      search (arith, param_types-params d.func.params, are_of_types-values ρ (param_types d.func.params) args, bound_vars d args)
 
   pub first_vars-kept : (d : Definition) (args : List CValue) → Each (KeptValue ρ) args → Holds (KeptVars ρ) (first_vars d args)
-  first_vars-kept d args kept = by_types (are_of_types (param_types d.func.params) args)
-      (go (bind (param_names d.func.params) args) (locals_of d.body.locals) (bind-kept (param_names d.func.params) args kept)
-      (locals_of-kept d.body.locals))
-    where
-      bound : Option Vars
-      bound = if_found (bind (param_names d.func.params) args) (λ params. option_map (λ locals. params ++ locals) (locals_of d.body.locals))
-
-      by_types : (b : Bool) → Holds (KeptVars ρ) bound → Holds (KeptVars ρ) (if b then bound else None)
-      by_types true holds = holds
-      by_types false holds = tt
-
-      go : (o rest : Option Vars) → Holds (KeptVars ρ) o → Holds (KeptVars ρ) rest
-          → Holds (KeptVars ρ) (if_found o (λ params. option_map (λ locals. params ++ locals) rest))
-      go None rest first second = tt
-      go (Some params) None first second = tt
-      go (Some params) (Some locals) first second = append-kept params locals first second
+  first_vars-kept d args kept = grind (arith, bind-kept (param_names d.func.params) args kept, locals_of-kept d.body.locals, append-kept)
 
   -- ---- types
 

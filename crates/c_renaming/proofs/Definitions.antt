@@ -1,9 +1,9 @@
 -- The definitions of a part, and what is found among them.
-use Rattle.c_renaming.proofs.Common.{◌≡◌, ℕ, ◌+◌, Bool, true, false, ◌&&◌, List, [], ◌∷◌, ◌++◌, map, length, is_some, if◌then◌else◌}
-use Rattle.c_renaming.proofs.Common.{slice_get, Some, None, filter, Option, option_map, zip, filter_map, bytes_eq, sym, refl, ap, ◌∙◌}
-use Rattle.c_renaming.proofs.Common.{subst, arith, filter-append, filter_map-append, bytes_eq-Decides, range_with_len, option_or}
-use Rattle.c_renaming.proofs.Common.{first-append, or_map, Definition, defined, defined_for_all, definition_of, is_external, typed, Name}
-use Rattle.c_renaming.proofs.Common.{Each, IsApart, Numbered, Placed, item_stays, part, Renaming, right_holds, or_none}
+use Rattle.c_renaming.proofs.Common.{◌≡◌, ℕ, ◌+◌, Bool, true, ◌&&◌, List, [], ◌∷◌, ◌++◌, map, length, slice_get, filter, Option, option_map}
+use Rattle.c_renaming.proofs.Common.{zip, filter_map, bytes_eq, sym, refl, ap, ◌∙◌, subst, arith, filter-append, filter_map-append}
+use Rattle.c_renaming.proofs.Common.{bytes_eq-Decides, range_with_len, option_or, first-append, or_map, Definition, defined}
+use Rattle.c_renaming.proofs.Common.{defined_for_all, definition_of, is_external, typed, Name, Each, IsApart, Numbered, Placed, part}
+use Rattle.c_renaming.proofs.Common.{Renaming, right_holds, or_none}
 use Rattle.std.proofs.Math.Bool.{and-false}
 use Rattle.c_tree.specs.Tree as tree
 use Rattle.c_meaning.proofs.Fronts.{zip_from}
@@ -34,59 +34,15 @@ module _ (ρ : Renaming) (u : ℕ) (stays : Name → Bool) where
   definitions_part k at [] numbers = refl
   definitions_part k at (tree.Array name count bytes ∷ items) numbers = definitions_part (k + 1) (at + 1) items numbers.1
   definitions_part k at (tree.Var ty name number ∷ items) numbers = definitions_part (k + 1) (at + 1) items numbers.1
-  definitions_part k at (tree.Function f ∷ items) numbers = go (stays f.name) refl f.body
-      (definitions_part (k + 1) (at + 1) items) (definitions_part (k + 1) at items) numbers.0 numbers.1
-    where
-      behind : List Definition
-      behind = filter (λ d. stays d.func.name) (definitions_from (k + 1) items)
-
-      here : Option tree.Body → tree.Func
-      here b = record { is_static = f.is_static; result = f.result; name = f.name; params = f.params; body = b }
-
-      go : (b : Bool) → stays f.name ≡ b → (body : Option tree.Body)
-          → (Numbered ρ u stays (k + 1) (at + 1) items
-          → definitions_from (at + 1) (part ρ u stays items) ≡ map (renamed.definition ρ u) behind)
-          → (Numbered ρ u stays (k + 1) at items → definitions_from at (part ρ u stays items) ≡ map (renamed.definition ρ u) behind)
-          → (b ≡ true → ρ.item u k ≡ at) → Numbered ρ u stays (k + 1) (if b then at + 1 else at) items
-          → definitions_from at (map (renamed.item ρ u)
-          (if b then tree.Function (here body) ∷ filter (item_stays stays) items else filter (item_stays stays) items))
-          ≡ map (renamed.definition ρ u) (filter (λ d. stays d.func.name) (definitions_from k (tree.Function (here body) ∷ items)))
-      go true is None kept dropped number rest = kept rest
-      go true is (Some body) kept dropped number rest =
-          (λ i. record { item = sym (number refl) i; func = renamed.func ρ u (here (Some body)); body = renamed.body ρ u body }
-          ∷ kept rest i)
-          ∙ ap (λ b. map (renamed.definition ρ u)
-          (if b then record { item = k; func = here (Some body); body = body } ∷ behind else behind)) (sym is)
-      go false is None kept dropped number rest = dropped rest
-      go false is (Some body) kept dropped number rest =
-          dropped rest
-          ∙ ap (λ b. map (renamed.definition ρ u)
-          (if b then record { item = k; func = here (Some body); body = body } ∷ behind else behind)) (sym is)
+  definitions_part k at (tree.Function f ∷ items) numbers =
+      grind (arith, definitions_part (k + 1) (at + 1) items, definitions_part (k + 1) at items)
 
   -- tests that tell the same find the same
   pub filter_part : (t t' : Definition → Bool) (ds : List Definition) → ((d : Definition) → t' (renamed.definition ρ u d) ≡ t d)
       → ((d : Definition) → t d ≡ true → stays d.func.name ≡ true)
       → filter t' (map (renamed.definition ρ u) (filter (λ d. stays d.func.name) ds)) ≡ map (renamed.definition ρ u) (filter t ds)
   filter_part t t' [] tells stay = refl
-  filter_part t t' (d ∷ ds) tells stay = go (stays d.func.name) (t d) refl refl (filter_part t t' ds tells stay)
-    where
-      rest : List Definition
-      rest = filter (λ d. stays d.func.name) ds
-
-      go : (b c : Bool) → stays d.func.name ≡ b → t d ≡ c
-          → filter t' (map (renamed.definition ρ u) rest) ≡ map (renamed.definition ρ u) (filter t ds)
-          → filter t' (map (renamed.definition ρ u) (if b then d ∷ rest else rest))
-          ≡ map (renamed.definition ρ u) (if c then d ∷ filter t ds else filter t ds)
-      go true true kept is behind =
-          ap (λ c. if c then renamed.definition ρ u d
-          ∷ filter t' (map (renamed.definition ρ u) rest) else filter t' (map (renamed.definition ρ u) rest)) (tells d ∙ is)
-          ∙ ap (λ l. renamed.definition ρ u d ∷ l) behind
-      go true false kept is behind =
-          ap (λ c. if c then renamed.definition ρ u d
-          ∷ filter t' (map (renamed.definition ρ u) rest) else filter t' (map (renamed.definition ρ u) rest)) (tells d ∙ is)
-          ∙ behind
-      go false true kept is behind = let must : stays d.func.name ≡ true = stay d is in cc
-      go false false kept is behind = behind
+  filter_part t t' (d ∷ ds) tells stay = grind (arith, filter_part t t' ds tells stay)
 
 -- ---- definitions that pass a test besides their name, which tells the same under the renaming
 
@@ -101,22 +57,7 @@ pub none_apart : (ρ : Renaming) (u : ℕ) (t : Definition → Bool) (x : Name) 
 none_apart ρ u t x is k [] apart = refl
 none_apart ρ u t x is k (tree.Array name count bytes ∷ ys) apart = none_apart ρ u t x is (k + 1) ys apart.1
 none_apart ρ u t x is k (tree.Var ty name number ∷ ys) apart = none_apart ρ u t x is (k + 1) ys apart.1
-none_apart ρ u t x is k (tree.Function f ∷ ys) apart = go f.body (none_apart ρ u t x is (k + 1) ys apart.1) (apart.0 x is)
-  where
-    here : Option tree.Body → tree.Func
-    here b = record { is_static = f.is_static; result = f.result; name = f.name; params = f.params; body = b }
-
-    rest : List Definition
-    rest = filter (passes t (ρ.func u x)) (definitions_from (k + 1) ys)
-
-    go : (body : Option tree.Body) → rest ≡ [] → (is_some body ≡ true → bytes_eq f.name (ρ.func u x) ≡ false)
-        → filter (passes t (ρ.func u x)) (definitions_from k (tree.Function (here body) ∷ ys)) ≡ []
-    go None behind differ = behind
-    go (Some body) behind differ =
-        ap (λ b. if b then d ∷ rest else rest) (ap (λ b. t d && b) (differ refl) ∙ and-false (t d)) ∙ behind
-      where
-        d : Definition
-        d = record { item = k; func = here (Some body); body = body }
+none_apart ρ u t x is k (tree.Function f ∷ ys) apart = grind (arith, none_apart ρ u t x is (k + 1) ys apart.1, apart.0 x is, and-false)
 
 -- ---- what a name of the unit stands for among the second's definitions
 

@@ -1,11 +1,11 @@
 -- A program that is made of another's renamed parts is renamed.
-use Rattle.c_renaming.proofs.Common.{◌≡◌, ℕ, ◌+◌, Bool, true, false, List, [], ◌∷◌, map, is_some, if◌then◌else◌, slice_get, Some, None}
-use Rattle.c_renaming.proofs.Common.{filter, Option, option_map, flat_map, filter_map, bytes_eq, sym, refl, ap, ◌∙◌, subst}
-use Rattle.c_renaming.proofs.Common.{bytes_eq-Decides, option_or, is_some_map, or_map, if_found, numbered, Host, func_type_of, Definition}
-use Rattle.c_renaming.proofs.Common.{HostSymbol, Program, array_bytes, array_named, defined, definition_at, external_func, func_named}
-use Rattle.c_renaming.proofs.Common.{func_type, host_symbol, host_symbols, typed, FuncAddress, Name, UnitFunc, Elsewhere, Here}
-use Rattle.c_renaming.proofs.Common.{KeepsExternals, StandsFor, definer, Each, Holds, KeptDefinition, KeptFunc, IsMadeOf, KeptBody}
-use Rattle.c_renaming.proofs.Common.{KeptItem, PlacedAt, KeepsNames, Renames, Renaming, address}
+use Rattle.c_renaming.proofs.Common.{◌≡◌, ℕ, ◌+◌, Bool, true, List, [], ◌∷◌, map, is_some, slice_get, Some, None, filter, Option}
+use Rattle.c_renaming.proofs.Common.{option_map, flat_map, filter_map, bytes_eq, sym, refl, ap, ◌∙◌, subst, bytes_eq-Decides, option_or}
+use Rattle.c_renaming.proofs.Common.{is_some_map, or_map, if_found, numbered, Host, func_type_of, Definition, HostSymbol, Program}
+use Rattle.c_renaming.proofs.Common.{array_bytes, array_named, defined, definition_at, external_func, func_named, func_type, host_symbol}
+use Rattle.c_renaming.proofs.Common.{host_symbols, typed, FuncAddress, Name, UnitFunc, Elsewhere, Here, KeepsExternals, StandsFor, definer}
+use Rattle.c_renaming.proofs.Common.{Each, Holds, KeptDefinition, KeptFunc, IsMadeOf, KeptItem, PlacedAt, KeepsNames, Renames, Renaming}
+use Rattle.c_renaming.proofs.Common.{address, arith}
 use Rattle.c_tree.specs.Tree as tree
 use Rattle.c_renaming.specs.Renamed as renamed
 use Rattle.c_renaming.proofs.Begins.{arrays_placed, fresh_same}
@@ -23,27 +23,8 @@ definition_kept : (ρ : Renaming) (u : ℕ) (stays : Name → Bool) (x : Name) �
 definition_kept ρ u stays x is k [] kept = tt
 definition_kept ρ u stays x is k (tree.Array name count bytes ∷ items) kept = definition_kept ρ u stays x is (k + 1) items kept.1
 definition_kept ρ u stays x is k (tree.Var ty name number ∷ items) kept = definition_kept ρ u stays x is (k + 1) items kept.1
-definition_kept ρ u stays x is k (tree.Function f ∷ items) kept = go f.body kept.0 (definition_kept ρ u stays x is (k + 1) items kept.1)
-  where
-    here : Option tree.Body → tree.Func
-    here b = record { is_static = f.is_static; result = f.result; name = f.name; params = f.params; body = b }
-
-    rest : List Definition
-    rest = filter (λ d. bytes_eq d.func.name x) (definitions_from (k + 1) items)
-
-    go : (body : Option tree.Body) → KeptBody ρ u stays (stays f.name) body → Holds (KeptDefinition ρ u) (first rest)
-        → Holds (KeptDefinition ρ u) (first (filter (λ d. bytes_eq d.func.name x) (definitions_from k (tree.Function (here body) ∷ items))))
-    go None holds behind = behind
-    go (Some body) holds behind = by_test (bytes_eq f.name x) refl
-      where
-        d : Definition
-        d = record { item = k; func = here (Some body); body = body }
-
-        by_test : (b : Bool) → bytes_eq f.name x ≡ b → Holds (KeptDefinition ρ u) (first (if b then d ∷ rest else rest))
-        by_test true same =
-            let stays_too : stays f.name ≡ true = subst (λ (n : Name). stays n ≡ true) (sym ((bytes_eq-Decides f.name x).0 same)) is in
-            subst (λ b. KeptBody ρ u stays b (Some body)) stays_too holds
-        by_test false differ = behind
+definition_kept ρ u stays x is k (tree.Function f ∷ items) kept =
+    grind (arith, definition_kept ρ u stays x is (k + 1) items kept.1, bytes_eq-Decides f.name x)
 
 -- ---- functions of hosts
 
@@ -61,11 +42,7 @@ each-flat P f holds (x ∷ xs) = each-append P (f x) (flat_map f xs) (holds x) (
 
 each-found : {A : Type 0} (P : A → Type 0) (t : A → Bool) (xs : List A) → Each P xs → Holds P (first (filter t xs))
 each-found P t [] each = tt
-each-found P t (x ∷ xs) each = go (t x) (each-found P t xs each.1)
-  where
-    go : (b : Bool) → Holds P (first (filter t xs)) → Holds P (first (if b then x ∷ filter t xs else filter t xs))
-    go true behind = each.0
-    go false behind = behind
+each-found P t (x ∷ xs) each = grind (arith, each-found P t xs each.1)
 
 are_hosts : (ρ : Renaming) (hosts : List Host) → Each (IsHosts ρ) (host_symbols hosts)
 are_hosts ρ hosts = each-flat (IsHosts ρ) _ (λ h. each-map (IsHosts ρ) _ (λ f. (refl, tt)) (numbered h.1.functions)) (numbered hosts)
@@ -81,20 +58,10 @@ own_or_external p u x d = option_or (option_map (λ d. UnitFunc u x) d) (externa
 
 named_there : (p : Program) (u : ℕ) (x : Name) → is_some (slice_get p.units u) ≡ true
     → func_named p u x ≡ own_or_external p u x (definition_at p u x)
-named_there p u x there = go (slice_get p.units u) there
-  where
-    go : (o : Option (List tree.Item)) → is_some o ≡ true
-        → if_found o (λ items. option_or (option_map (λ d. UnitFunc u x) (defined items x)) (external_func p x))
-        ≡ own_or_external p u x (if_found o (λ items. defined items x))
-    go None there = cc
-    go (Some items) there = refl
+named_there p u x there = grind arith
 
 defined_there : (p : Program) (u : ℕ) (x : Name) → is_some (definition_at p u x) ≡ true → is_some (slice_get p.units u) ≡ true
-defined_there p u x is = go (slice_get p.units u) is
-  where
-    go : (o : Option (List tree.Item)) → is_some (if_found o (λ items. defined items x)) ≡ true → is_some o ≡ true
-    go None is = cc
-    go (Some items) is = refl
+defined_there p u x is = grind arith
 
 some_own : (p : Program) (u : ℕ) (x : Name) (o : Option Definition) → is_some o ≡ true → own_or_external p u x o ≡ Some (UnitFunc u x)
 some_own p u x None is = cc
@@ -153,46 +120,22 @@ module _ (ρ : Renaming) (p q : Program) (names : KeepsNames ρ) (made : IsMadeO
   -- ---- functions
 
   unit_there : (u : ℕ) → is_some (slice_get p.units u) ≡ true → is_some (slice_get q.units (ρ.unit u)) ≡ true
-  unit_there u is = go (slice_get p.units u) (slice_get q.units (ρ.unit u)) (made.units u) is
-    where
-      go : (o o' : Option (List tree.Item)) → PlacedAt ρ u o o' → is_some o ≡ true → is_some o' ≡ true
-      go None o' placed there = cc
-      go (Some items) None placed there = absurd placed
-      go (Some items) (Some new) placed there = refl
+  unit_there u is = grind (arith, made.units u)
 
   module _ (ext : KeepsExternals ρ p q) where
     host_same : (x : Name) → option_map (λ (s : HostSymbol). s.address) (host_symbol q x)
         ≡ option_map (address ρ) (option_map (λ (s : HostSymbol). s.address) (host_symbol p x))
-    host_same x = ap (λ (hosts : List Host). option_map (λ (s : HostSymbol). s.address)
-        (first (filter (λ s. bytes_eq s.symbol x) (host_symbols hosts)))) ext.hosts ∙ go (host_symbol p x) (host_is ρ p x)
-      where
-        go : (o : Option HostSymbol) → Holds (IsHosts ρ) o
-            → option_map (λ (s : HostSymbol). s.address) o ≡ option_map (address ρ) (option_map (λ (s : HostSymbol). s.address) o)
-        go None is = refl
-        go (Some s) is = ap Some (sym is.0)
+    host_same x = grind (arith, ext.hosts, host_is ρ p x)
 
     host_kept : (x : Name) → Holds (KeptFunc ρ) (option_map (λ (s : HostSymbol). s.address) (host_symbol p x))
-    host_kept x = go (host_symbol p x) (host_is ρ p x)
-      where
-        go : (o : Option HostSymbol) → Holds (IsHosts ρ) o → Holds (KeptFunc ρ) (option_map (λ (s : HostSymbol). s.address) o)
-        go None is = tt
-        go (Some s) is = is.1
+    host_kept x = grind (arith, host_is ρ p x)
 
     calls_made : (x : Name) → option_map (λ u. UnitFunc u x) (definer q x)
         ≡ option_map (address ρ) (option_map (λ u. UnitFunc u x) (definer p x))
-    calls_made x = ap (option_map (λ u. UnitFunc u x)) (ext.definers x) ∙ go (definer p x) refl
-      where
-        go : (o : Option ℕ) → definer p x ≡ o
-            → option_map (λ u. UnitFunc u x) (option_map ρ.unit o) ≡ option_map (address ρ) (option_map (λ u. UnitFunc u x) o)
-        go None is = refl
-        go (Some u) is = ap (λ n. Some (UnitFunc (ρ.unit u) n)) (sym (ext.names x u is))
+    calls_made x = grind (arith, ext.definers x)
 
     calls_made_kept : (x : Name) → Holds (KeptFunc ρ) (option_map (λ u. UnitFunc u x) (definer p x))
-    calls_made_kept x = go (definer p x) refl
-      where
-        go : (o : Option ℕ) → definer p x ≡ o → Holds (KeptFunc ρ) (option_map (λ u. UnitFunc u x) o)
-        go None is = tt
-        go (Some u) is = ext.defined x u is
+    calls_made_kept x = grind arith
 
     pub external_same : (x : Name) → external_func q x ≡ option_map (address ρ) (external_func p x)
     external_same x =

@@ -1,10 +1,10 @@
 -- What names of functions stand for in the one unit that units become.
 use Rattle.c_renaming.proofs.Common.{◌≡◌, ℕ, suc, ◌+◌, Bool, true, false, not, ◌&&◌, List, [], ◌∷◌, ◌++◌, map, length, is_some}
-use Rattle.c_renaming.proofs.Common.{if◌then◌else◌, slice_get, Some, None, filter, Option, option_map, zip, flat_map, bytes_eq, sym, refl}
-use Rattle.c_renaming.proofs.Common.{ap, ◌∙◌, subst, append_assoc, arith, bytes_eq-Decides, range_with_len, ⊤, both_hold, if_found}
-use Rattle.c_renaming.proofs.Common.{Definition, Program, defined, defined_for_all, definition_at, is_external, is_init, primitive}
-use Rattle.c_renaming.proofs.Common.{FuncAddress, Name, UnitFunc, Elsewhere, Here, KeepsExternals, StandsFor, definer, Each, KeptFunc}
-use Rattle.c_renaming.proofs.Common.{Foreign, KeepsSeen, MayMerge, MayUse, Own, WhereDefined, joined, merged, merging, Renames, Renaming}
+use Rattle.c_renaming.proofs.Common.{if◌then◌else◌, slice_get, Some, None, filter, Option, zip, flat_map, bytes_eq, sym, refl, ap, ◌∙◌}
+use Rattle.c_renaming.proofs.Common.{subst, append_assoc, arith, bytes_eq-Decides, range_with_len, ⊤, both_hold, if_found, Definition}
+use Rattle.c_renaming.proofs.Common.{Program, defined, defined_for_all, definition_at, is_external, is_init, primitive, FuncAddress, Name}
+use Rattle.c_renaming.proofs.Common.{UnitFunc, Elsewhere, Here, KeepsExternals, StandsFor, definer, Each, KeptFunc, Foreign, KeepsSeen}
+use Rattle.c_renaming.proofs.Common.{MayMerge, MayUse, Own, WhereDefined, joined, merged, merging, Renames, Renaming}
 use Rattle.c_tree.specs.Tree as tree
 use Rattle.c_renaming.specs.Renamed as renamed
 use Rattle.c_renaming.proofs.Definitions.{definitions_from}
@@ -26,39 +26,19 @@ definitions_each : (P : tree.Func → Type 0) (k : ℕ) (items : List tree.Item)
 definitions_each P k [] each = tt
 definitions_each P k (tree.Array name count bytes ∷ items) each = definitions_each P (k + 1) items each.1
 definitions_each P k (tree.Var ty name number ∷ items) each = definitions_each P (k + 1) items each.1
-definitions_each P k (tree.Function f ∷ items) each = go f.body each.0 (definitions_each P (k + 1) items each.1)
-  where
-    here : Option tree.Body → tree.Func
-    here b = record { is_static = f.is_static; result = f.result; name = f.name; params = f.params; body = b }
-
-    go : (body : Option tree.Body) → (is_some body ≡ true → P (here body)) → Each (λ d. P d.func) (definitions_from (k + 1) items)
-        → Each (λ d. P d.func) (definitions_from k (tree.Function (here body) ∷ items))
-    go None holds behind = behind
-    go (Some b) holds behind = (holds refl, behind)
+definitions_each P k (tree.Function f ∷ items) each = grind (arith, definitions_each P (k + 1) items each.1)
 
 -- the first that passes one test passes another
 first_passes : {A : Type 0} (t t' : A → Bool) (P : A → Type 0) → ((a : A) → P a → t a ≡ true → t' a ≡ true) → (xs : List A) → Each P xs
     → is_some (first (filter t xs)) ≡ true → is_some (first (filter t' xs)) ≡ true
 first_passes t t' P passes [] each is = cc
-first_passes {A = A} t t' P passes (x ∷ xs) each is = go (t x) (t' x) refl refl (first_passes t t' P passes xs each.1) is
-  where
-    go : (b c : Bool) → t x ≡ b → t' x ≡ c → (is_some (first (filter t xs)) ≡ true → is_some (first (filter t' xs)) ≡ true)
-        → is_some (first (if b then x ∷ filter t xs else filter t xs)) ≡ true
-        → is_some (first (if c then x ∷ filter t' xs else filter t' xs)) ≡ true
-    go b true e f behind is = refl
-    go true false e f behind is = let yes : t' x ≡ true = passes x each.0 e in cc
-    go false false e f behind is = behind is
+first_passes {A = A} t t' P passes (x ∷ xs) each is = grind (arith, first_passes t t' P passes xs each.1)
 
 -- what is known of one that passes
 one_passes : {A : Type 0} (t : A → Bool) (P : A → Type 0) (Q : Type 0) → ((a : A) → P a → t a ≡ true → Q) → (xs : List A) → Each P xs
     → is_some (first (filter t xs)) ≡ true → Q
 one_passes t P Q gives [] each is = cc
-one_passes t P Q gives (x ∷ xs) each is = go (t x) refl (one_passes t P Q gives xs each.1) is
-  where
-    go : (b : Bool) → t x ≡ b → (is_some (first (filter t xs)) ≡ true → Q)
-        → is_some (first (if b then x ∷ filter t xs else filter t xs)) ≡ true → Q
-    go true e behind is = gives x each.0 e
-    go false e behind is = behind is
+one_passes t P Q gives (x ∷ xs) each is = grind (arith, one_passes t P Q gives xs each.1)
 
 each_unit : {A : Type 0} (P : A → Type 0) (xs : List A) → ((j : ℕ) (x : A) → slice_get xs j ≡ Some x → P x) → Each P xs
 each_unit P [] holds = tt
@@ -139,20 +119,7 @@ module _ (p : Program) (rename : ℕ → Name → Name) (is_seen : Name → Bool
   SeenIsExternal f = is_seen f.name ≡ true → f.is_static ≡ false
 
   item_external : (u : ℕ) (i : tree.Item) → KeepsSeen is_seen i → WhereDefined SeenIsExternal (renamed.item ρ u i)
-  item_external u (tree.Function f) seen = λ there is. go (is_seen f.name) refl is (seen (body_there f.body there))
-    where
-      body_there : (b : Option tree.Body) → is_some (option_map (renamed.body ρ u) b) ≡ true → is_some b ≡ true
-      body_there None is = cc
-      body_there (Some b) is = refl
-
-      not_true : (b : Bool) → true ≡ not b → b ≡ false
-      not_true true e = cc
-      not_true false e = refl
-
-      go : (b : Bool) → is_seen f.name ≡ b → is_seen (if b then f.name else rename u f.name) ≡ true
-          → is_seen f.name ≡ not f.is_static → f.is_static ≡ false
-      go true e is seen = not_true f.is_static (sym e ∙ seen)
-      go false e is seen = absurd (clash (is_seen (rename u f.name)) is (may.not_seen u f.name))
+  item_external u (tree.Function f) seen = grind (arith, may.not_seen u f.name, clash)
   item_external u _ seen = tt
 
   items_external : (u : ℕ) (items : List tree.Item) → Each (KeepsSeen is_seen) items
@@ -182,11 +149,7 @@ module _ (p : Program) (rename : ℕ → Name → Name) (is_seen : Name → Bool
   stands u x (Foreign there none seen) = Elsewhere there (seen_stays u x seen) none (seen_definer x seen)
 
   primitives_stay : (u : ℕ) (x : Name) → primitive (ρ.func u x) ≡ primitive x
-  primitives_stay u x = go (is_seen x) refl
-    where
-      go : (b : Bool) → is_seen x ≡ b → primitive (if b then x else rename u x) ≡ primitive x
-      go true e = refl
-      go false e = may.primitives (rename u x) (may.not_seen u x) ∙ sym (may.primitives x e)
+  primitives_stay u x = grind (arith, may.primitives (rename u x) (may.not_seen u x), may.not_seen u x)
 
   -- ---- init functions
 
@@ -198,14 +161,7 @@ module _ (p : Program) (rename : ℕ → Name → Name) (is_seen : Name → Bool
   found_among x [] ds d same =
       let e : bytes_eq d.func.name x ≡ true = (bytes_eq-Decides d.func.name x).1 same in
       ap (λ b. is_some (first (if b then d ∷ filter (λ d. bytes_eq d.func.name x) ds else filter (λ d. bytes_eq d.func.name x) ds))) e
-  found_among x (y ∷ before) ds d same = go (bytes_eq y.func.name x) (found_among x before ds d same)
-    where
-      rest : List Definition
-      rest = filter (λ d. bytes_eq d.func.name x) (before ++ d ∷ ds)
-
-      go : (b : Bool) → is_some (first rest) ≡ true → is_some (first (if b then y ∷ rest else rest)) ≡ true
-      go true behind = refl
-      go false behind = behind
+  found_among x (y ∷ before) ds d same = grind (arith, found_among x before ds d same)
 
   kept_from : (u : ℕ) (items : List tree.Item) → slice_get p.units u ≡ Some items → (before ds : List Definition)
       → definitions_from 0 items ≡ before ++ ds

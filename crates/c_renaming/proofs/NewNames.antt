@@ -53,14 +53,7 @@ split (d ∷ ds) (c ∷ es) x y first second e =
     record { digits = (λ i. head i ∷ behind.digits i); names = behind.names }
 
 parts : (u v : ℕ) (x y : Name) → name_in u x ≡ name_in v y → Same (decimal_text u) (decimal_text v) x y
-parts u v x y e = split (decimal_text u) (decimal_text v) x y (text_digits u) (text_digits v) tail
-  where
-    behind : List ℕ → List ℕ
-    behind [] = []
-    behind (b ∷ bs) = bs
-
-    tail : decimal_text u ++ 95 ∷ x ≡ decimal_text v ++ 95 ∷ y
-    tail = ap behind e
+parts u v x y e = grind (arith, text_digits u, text_digits v, split)
 
 pub new_names : TellsUnits name_in
 new_names = record {

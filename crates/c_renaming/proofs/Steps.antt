@@ -1,18 +1,18 @@
 -- One statement comes to the same on both sides.
-use Rattle.c_renaming.proofs.Common.{◌≡◌, ℕ, Bool, true, false, List, [], ◌∷◌, map, is_some, if◌then◌else◌, ◌==◌, slice_get, Some, None}
-use Rattle.c_renaming.proofs.Common.{Option, option_map, bytes_eq, sym, refl, ap, ◌∙◌, subst, is_some_map, if_found, named, with_named, Ask}
-use Rattle.c_renaming.proofs.Common.{Event, Gave, Host, HostTrapped, Reply, Trail, asked, equal_types, is_result, number_of, types_of}
-use Rattle.c_renaming.proofs.Common.{Value, I32, I64, same_func_type, Definition, Program, definition_at, func_named, func_type, host_type}
-use Rattle.c_renaming.proofs.Common.{var_in, with_depth, with_trail, with_var, Effect, Gives, IsUndefined, NoEffect, Traps, primitive, Asks}
-use Rattle.c_renaming.proofs.Common.{Bad, CValue, Evaluated, Frame, FuncAddress, FuncPointer, HostFunc, Is, Machine, Name, NoRule, Number}
-use Rattle.c_renaming.proofs.Common.{Place, Pointer, Running, State, Stuck, Trapped, Undefined, UnitFunc, Vars, found, of_one_type}
-use Rattle.c_renaming.proofs.Common.{then_evaluate, Step, Stops, act, after_label, as_object, ask, assign, assign_depth, at_rest, begin}
+use Rattle.c_renaming.proofs.Common.{ObjectAddress, ◌≡◌, ℕ, Bool, true, false, List, [], ◌∷◌, map, is_some, if◌then◌else◌, Some, None}
+use Rattle.c_renaming.proofs.Common.{Option, option_map, bytes_eq, sym, refl, ap, ◌∙◌, subst, is_some_map, named, with_named, Ask, Event}
+use Rattle.c_renaming.proofs.Common.{Gave, HostTrapped, Reply, asked, is_result, Value, I32, I64, same_func_type, Definition, Program}
+use Rattle.c_renaming.proofs.Common.{definition_at, func_named, func_type, var_in, with_depth, with_trail, with_var, Effect, Gives}
+use Rattle.c_renaming.proofs.Common.{IsUndefined, NoEffect, Traps, primitive, Asks, Bad, CValue, Evaluated, Frame, FuncAddress, FuncPointer}
+use Rattle.c_renaming.proofs.Common.{HostFunc, Is, Machine, Name, NoRule, Number, Place, Pointer, Running, State, Stuck, Trapped, Undefined}
+use Rattle.c_renaming.proofs.Common.{UnitFunc, found, then_evaluate, Step, Stops, act, as_object, ask, assign, assign_depth, at_rest, begin}
 use Rattle.c_renaming.proofs.Common.{c_step, call, call_callee, call_named, call_through, depth_name, evaluate, evaluate_arg, evaluate_args}
-use Rattle.c_renaming.proofs.Common.{first_vars, give, in_unit, is_returned, jump, label_of, next, numbers, place_of, put_in, replied}
-use Rattle.c_renaming.proofs.Common.{returned, take_effect, value_of, with_value, with_vars, Each, Holds, KeptArg, KeptCallee}
-use Rattle.c_renaming.proofs.Common.{KeptDefinition, KeptFrames, KeptFunc, KeptRunning, KeptStmt, KeptValue, KeptVars, KeepsMeanings}
-use Rattle.c_renaming.proofs.Common.{KeepsNames, Renaming, address, place, SameMachine, SameState, SameStep}
+use Rattle.c_renaming.proofs.Common.{give, in_unit, jump, label_of, next, place_of, put_in, replied, returned, take_effect, value_of}
+use Rattle.c_renaming.proofs.Common.{with_value, with_vars, Each, Holds, KeptArg, KeptCallee, KeptDefinition, KeptFrames, KeptFunc}
+use Rattle.c_renaming.proofs.Common.{KeptRunning, KeptStmt, KeptValue, KeepsMeanings, KeepsNames, Renaming, address, place, SameMachine}
+use Rattle.c_renaming.proofs.Common.{SameState, SameStep, arith}
 use Rattle.w2c_base.specs.declared.signature.FuncType.{FuncType}
+use Rattle.w2c_base.proofs.Tests.{by_test}
 use Rattle.c_tree.specs.Tree as tree
 use Rattle.c_renaming.specs.Renamed as renamed
 use Rattle.c_renaming.proofs.Bodies.{place-running, after_label-stmts, after_label-kept, label_of-cases, first_vars-definition}
@@ -20,7 +20,7 @@ use Rattle.c_renaming.proofs.Bodies.{first_vars-kept, numbers-values, of_type-va
 use Rattle.c_renaming.proofs.Changes.{same_var, same_depth, same_trail}
 use Rattle.c_renaming.proofs.Effects.{SameEffect, Simulates, primitives_simulate}
 use Rattle.c_renaming.proofs.Types.{func_type_same}
-use Rattle.c_renaming.proofs.Evaluation.{come_to, as_object-value, named-vars, with_named-vars, with_named-kept, is_depth, var_same}
+use Rattle.c_renaming.proofs.Evaluation.{come_to, as_object-value, named-vars, with_named-vars, with_named-kept, is_depth}
 use Rattle.c_renaming.proofs.Evaluation.{value_same, value_kept, evaluate_same, GivesKept, GiveKept, arg_same, arg_kept, args_same}
 use Rattle.c_renaming.proofs.Evaluation.{args_kept}
 
@@ -67,17 +67,7 @@ module _ (ρ : Renaming) (names : KeepsNames ρ) (m n : Machine) (same : SameMac
   pub jump_same : (r : Running) (name : Name) (below : List Frame) → KeptRunning ρ r → KeptFrames ρ below
       → SameStep ρ (jump m r name below) (jump n (renamed.running ρ r) (ρ.label r.unit name) (frames ρ below))
   jump_same r name below running rest =
-      subst (λ o. SameStep ρ (jump m r name below)
-      (elim o [ None ↦ Stops n Stuck | Some to ↦ next n (at_rest (renamed.running ρ r) to) (frames ρ below) ]))
-      (sym (after_label-stmts ρ names r.unit name r.stmts))
-      (go (after_label name r.stmts) (after_label-kept ρ names r.unit name r.stmts running.stmts))
-    where
-      go : (o : Option (List tree.Stmt)) → Holds (Each (KeptStmt ρ r.unit)) o
-          → SameStep ρ (elim o [ None ↦ Stops m Stuck | Some to ↦ next m (at_rest r to) below ])
-          (elim (option_map (map (renamed.stmt ρ r.unit)) o)
-          [ None ↦ Stops n Stuck | Some to ↦ next n (at_rest (renamed.running ρ r) to) (frames ρ below) ])
-      go None kept = stuck
-      go (Some to) kept = goes_on (at_rest r to) below (record { stmts = running.stmts; rest = kept; vars = running.vars }) rest
+      grind (arith, after_label-stmts ρ names r.unit name r.stmts, after_label-kept ρ names r.unit name r.stmts running.stmts, goes_on)
 
 -- ---- what changes the machine
 
@@ -94,109 +84,51 @@ module _ (ρ : Renaming) (p q : Program) (names : KeepsNames ρ) (meanings : Kee
   put_in_same : (o : Option CValue) (v : CValue) (x y : Step) → (is_some o ≡ true → SameStep ρ x y)
       → SameStep ρ (put_in m o v x) (put_in n (option_map (renamed.value ρ) o) (renamed.value ρ v) y)
   put_in_same None v x y does = (same, refl)
-  put_in_same (Some held) v x y does =
-      subst (λ b. SameStep ρ (if of_one_type held v then x else Stops m Stuck) (if b then y else Stops n Stuck))
-      (sym (one_type held v)) (by_test (of_one_type held v))
-    where
-      one_type : (held v : CValue) → of_one_type (renamed.value ρ held) (renamed.value ρ v) ≡ of_one_type held v
-      one_type (Number v) (Number w) = refl
-      one_type (Number v) (Pointer to) = refl
-      one_type (Number v) (FuncPointer f) = refl
-      one_type _ (Number w) = refl
-      one_type _ _ = refl
+  put_in_same (Some held) v x y does = grind (arith, does refl)
 
-      by_test : (b : Bool) → SameStep ρ (if b then x else Stops m Stuck) (if b then y else Stops n Stuck)
-      by_test true = does refl
-      by_test false = (same, refl)
+  -- an object of file scope, or a variable of the function's own, gets a value
+  file_same : (r : Running) (x : Name) (v : CValue) (below : List Frame) → bytes_eq x depth_name ≡ false → KeptRunning ρ r → KeptValue ρ v
+      → KeptFrames ρ below
+      → SameStep ρ (put_in m (var_in m (in_unit r x)) v (next (with_var m (in_unit r x) v) r below))
+      (put_in n (var_in n (in_unit (renamed.running ρ r) (ρ.var r.unit x))) (renamed.value ρ v)
+      (next (with_var n (in_unit (renamed.running ρ r) (ρ.var r.unit x)) (renamed.value ρ v)) (renamed.running ρ r) (frames ρ below)))
+  file_same r x v below apart running kept rest =
+      subst (λ (a : ObjectAddress). SameStep ρ (put_in m (var_in m (in_unit r x)) v (next (with_var m (in_unit r x) v) r below))
+      (put_in n (var_in n a) (renamed.value ρ v) (next (with_var n a (renamed.value ρ v)) (renamed.running ρ r) (frames ρ below))))
+      (names.object_names r.unit x apart) (rw (same.objects.vars (in_unit r x)) (put_in_same (var_in m (in_unit r x)) v _ _ (λ is.
+      goes_on ρ names _ _ (same_var ρ names m n same (in_unit r x) v is kept) r below running rest)))
+
+  local_same : (r : Running) (x : Name) (v : CValue) (below : List Frame) → KeptRunning ρ r → KeptValue ρ v → KeptFrames ρ below
+      → SameStep ρ (put_in m (named x r.vars) v (next m (with_vars r (with_named x v r.vars)) below))
+      (put_in n (option_map (renamed.value ρ) (named x r.vars)) (renamed.value ρ v)
+      (next n (with_vars (renamed.running ρ r) (renamed.vars ρ r.unit (with_named x v r.vars))) (frames ρ below)))
+  local_same r x v below running kept rest = put_in_same (named x r.vars) v _ _ (λ is.
+      goes_on ρ names m n same (with_vars r (with_named x v r.vars)) below
+      (record { stmts = running.stmts; rest = running.rest; vars = with_named-kept ρ x v r.vars running.vars kept }) rest)
 
   pub assign_same : (r : Running) (x : Name) (v : CValue) (below : List Frame) → KeptRunning ρ r → KeptValue ρ v → KeptFrames ρ below
       → SameStep ρ (assign m r x v below) (assign n (renamed.running ρ r) (ρ.var r.unit x) (renamed.value ρ v) (frames ρ below))
-  assign_same r x v below running kept rest =
-      subst (λ b. SameStep ρ (assign m r x v below)
-      (if b then assign_depth n r' v' below' else local n r' x' v' below' (is_some (named x' r'.vars))))
-      (sym (is_depth ρ names r.unit x))
-      (by_depth (bytes_eq x depth_name) refl)
-    where
-      r' : Running
-      r' = renamed.running ρ r
-
-      x' : Name
-      x' = ρ.var r.unit x
-
-      v' : CValue
-      v' = renamed.value ρ v
-
-      below' : List Frame
-      below' = frames ρ below
-
-      file : Machine → Running → Name → CValue → List Frame → Step
-      file m r x v below = put_in m (var_in m (in_unit r x)) v (next (with_var m (in_unit r x) v) r below)
-
-      local : Machine → Running → Name → CValue → List Frame → Bool → Step
-      local m r x v below b = if b then put_in m (named x r.vars) v (next m (with_vars r (with_named x v r.vars)) below) else
-          file m r x v below
-
-      by_file : bytes_eq x depth_name ≡ false → SameStep ρ (file m r x v below) (file n r' x' v' below')
-      by_file apart =
-          subst (λ o. SameStep ρ (file m r x v below) (put_in n o v' (next (with_var n (in_unit r' x') v') r' below')))
-          (sym (var_same ρ p q names meanings m n same r.unit x apart))
-          (put_in_same (var_in m (in_unit r x)) v (next (with_var m (in_unit r x) v) r below)
-          (next (with_var n (in_unit r' x') v') r' below') (λ is.
-          subst (λ a. SameStep ρ (next (with_var m (in_unit r x) v) r below) (next (with_var n a v') r' below'))
-          (names.object_names r.unit x apart)
-          (goes_on ρ names (with_var m (in_unit r x) v) (with_var n (ρ.object (in_unit r x)) v')
-          (same_var ρ names m n same (in_unit r x) v is kept) r below running rest)))
-
-      by_local : (b : Bool) → bytes_eq x depth_name ≡ false → SameStep ρ (local m r x v below b) (local n r' x' v' below' b)
-      by_local true apart =
-          subst (λ o. SameStep ρ (local m r x v below true)
-          (put_in n o v' (next n (with_vars r' (with_named x' v' r'.vars)) below'))) (sym (named-vars ρ names r.unit x r.vars))
-          (put_in_same (named x r.vars) v (next m (with_vars r (with_named x v r.vars)) below)
-          (next n (with_vars r' (with_named x' v' r'.vars)) below') (λ is.
-          subst (λ vars. SameStep ρ (next m (with_vars r (with_named x v r.vars)) below) (next n (with_vars r' vars) below'))
-          (sym (with_named-vars ρ names r.unit x v r.vars))
-          (goes_on ρ names m n same (with_vars r (with_named x v r.vars)) below
-          (record { stmts = running.stmts; rest = running.rest; vars = with_named-kept ρ x v r.vars running.vars kept }) rest)))
-      by_local false apart = by_file apart
-
-      by_depth : (b : Bool) → bytes_eq x depth_name ≡ b
-          → SameStep ρ (if b then assign_depth m r v below else local m r x v below (is_some (named x r.vars)))
-          (if b then assign_depth n r' v' below' else local n r' x' v' below' (is_some (named x' r'.vars)))
-      by_depth true is = assign_depth_same r v below running rest
-      by_depth false is =
-          subst (λ b. SameStep ρ (local m r x v below (is_some (named x r.vars))) (local n r' x' v' below' b))
-          (sym (ap is_some (named-vars ρ names r.unit x r.vars) ∙ is_some_map (renamed.value ρ) (named x r.vars)))
-          (by_local (is_some (named x r.vars)) is)
+  assign_same r x v below running kept rest = by_test (bytes_eq x depth_name)
+      (λ is. rw (is_depth ρ names r.unit x, is) (assign_depth_same r v below running rest))
+      (λ apart. rw (
+        is_depth ρ names r.unit x,
+        apart,
+        named-vars ρ names r.unit x r.vars,
+        is_some_map,
+        with_named-vars ρ names r.unit x v r.vars,
+      )
+      (by_test (is_some (named x r.vars)) (λ is. rw is (local_same r x v below running kept rest))
+      (λ is. rw is (file_same r x v below apart running kept rest))))
 
   pub give_same : (v : Option CValue) (below : List Frame) → Holds (KeptValue ρ) v → KeptFrames ρ below
       → SameStep ρ (give m v below) (give n (option_map (renamed.value ρ) v) (frames ρ below))
   give_same v [] kept rest = (same, refl, kept)
-  give_same v (f ∷ below) kept rest = go f.target v kept
-    where
-      go : (target : Option Name) (v : Option CValue) → Holds (KeptValue ρ) v
-          → SameStep ρ (give m v (record { target = target; running = f.running } ∷ below))
-          (give n (option_map (renamed.value ρ) v)
-          (renamed.frame ρ (record { target = target; running = f.running }) ∷ frames ρ below))
-      go None v kept = goes_on ρ names m n same f.running below rest.0 rest.1
-      go (Some x) None kept = (same, refl)
-      go (Some x) (Some v) kept = assign_same f.running x v below rest.0 kept rest.1
+  give_same v (f ∷ below) kept rest = grind (arith, assign_same)
 
   -- a value is returned, of the function's type
   pub returned_same : (r : Running) (v : Option CValue) (below : List Frame) → Holds (KeptValue ρ) v → KeptFrames ρ below
       → SameStep ρ (returned m r v below) (returned n (renamed.running ρ r) (option_map (renamed.value ρ) v) (frames ρ below))
-  returned_same r v below kept rest =
-      subst (λ b. SameStep ρ (returned m r v below)
-      (if b then give n (option_map (renamed.value ρ) v) (frames ρ below) else Stops n Stuck)) (sym (one_type v))
-      (by_test (is_returned r.result v))
-    where
-      one_type : (v : Option CValue) → is_returned r.result (option_map (renamed.value ρ) v) ≡ is_returned r.result v
-      one_type None = refl
-      one_type (Some v) = of_type-value ρ r.result v
-
-      by_test : (b : Bool) → SameStep ρ (if b then give m v below else Stops m Stuck)
-          (if b then give n (option_map (renamed.value ρ) v) (frames ρ below) else Stops n Stuck)
-      by_test true = give_same v below kept rest
-      by_test false = (same, refl)
+  returned_same r v below kept rest = grind (arith, of_type-value, give_same)
 
   begin_same : (o : Option Definition) (u : ℕ) (args : List CValue) (below : List Frame) → Holds (KeptDefinition ρ u) o
       → Each (KeptValue ρ) args → KeptFrames ρ below
@@ -204,34 +136,7 @@ module _ (ρ : Renaming) (p q : Program) (names : KeepsNames ρ) (meanings : Kee
       (begin (option_map (renamed.definition ρ u) o) (ρ.unit u) n (map (renamed.value ρ) args) (frames ρ below))
   begin_same None u args below defined kept rest = (same, refl)
   begin_same (Some d) u args below defined kept rest =
-      subst (λ o. SameStep ρ (begin (Some d) u m args below) (there o)) (sym (first_vars-definition ρ u d args))
-      (go (first_vars d args) (first_vars-kept ρ u d args kept))
-    where
-      here : Option Vars → Step
-      here o = elim o [
-        | None ↦ Stops m Stuck
-        | Some vars ↦ next m (record
-            { unit = u; item = d.item; result = d.func.result; stmts = d.body.stmts; rest = d.body.stmts; vars = vars }) below
-      ]
-
-      there : Option Vars → Step
-      there o = elim o [
-        | None ↦ Stops n Stuck
-        | Some vars ↦ next n (record {
-          unit = ρ.unit u;
-          item = ρ.item u d.item;
-          result = d.func.result;
-          stmts = map (renamed.stmt ρ u) d.body.stmts;
-          rest = map (renamed.stmt ρ u) d.body.stmts;
-          vars = vars;
-        }) (frames ρ below)
-      ]
-
-      go : (o : Option Vars) → Holds (KeptVars ρ) o → SameStep ρ (here o) (there (option_map (renamed.vars ρ u) o))
-      go None holds = (same, refl)
-      go (Some vars) holds = goes_on ρ names m n same
-          (record { unit = u; item = d.item; result = d.func.result; stmts = d.body.stmts; rest = d.body.stmts; vars = vars })
-          below (record { stmts = defined; rest = defined; vars = holds }) rest
+      grind (arith, first_vars-definition ρ u d args, first_vars-kept ρ u d args kept, goes_on)
 
 -- ---- calls
 
@@ -261,44 +166,7 @@ module _ (ρ : Renaming) (p q : Program) (names : KeepsNames ρ) (meanings : Kee
 
   ask_same : (h f : ℕ) (args : List CValue) (below : List Frame) → KeptFrames ρ below
       → SameStep ρ (ask p h f m args below) (ask q h f n (map (renamed.value ρ) args) (frames ρ below))
-  ask_same h f args below rest =
-      subst (λ ty. SameStep ρ (ask p h f m args below)
-      (told n (frames ρ below) n.trail ty (numbers (map (renamed.value ρ) args)))) (sym types)
-      (subst (λ vs. SameStep ρ (ask p h f m args below) (told n (frames ρ below) n.trail (host_type p h f) vs))
-      (sym (numbers-values ρ args))
-      (subst (λ (trail : Trail). SameStep ρ (ask p h f m args below)
-      (told n (frames ρ below) trail (host_type p h f) (numbers args))) (sym same.trail)
-      (go (host_type p h f) (numbers args))))
-    where
-      types : host_type q h f ≡ host_type p h f
-      types = ap (λ (hosts : List Host). if_found (slice_get hosts h)
-          (λ host. option_map (λ function. function.ty) (slice_get host.functions f))) meanings.hosts
-
-      told : Machine → List Frame → Trail → Option FuncType → Option (List Value) → Step
-      told m below trail ty values = elim ty [
-        | None ↦ Stops m Stuck
-        | Some ty ↦ elim values [
-          | None ↦ Stops m Stuck
-          | Some values ↦
-              if equal_types ty.params (types_of values)
-              then replied ty trail.replies trail.events (record { host = h; function = f; args = values }) m below
-              else Stops m Stuck
-        ]
-      ]
-
-      go : (ty : Option FuncType) (values : Option (List Value))
-          → SameStep ρ (told m below m.trail ty values) (told n (frames ρ below) m.trail ty values)
-      go None values = (same, refl)
-      go (Some ty) None = (same, refl)
-      go (Some ty) (Some values) = by_test (equal_types ty.params (types_of values))
-        where
-          a : Ask
-          a = record { host = h; function = f; args = values }
-
-          by_test : (b : Bool) → SameStep ρ (if b then replied ty m.trail.replies m.trail.events a m below else Stops m Stuck)
-              (if b then replied ty m.trail.replies m.trail.events a n (frames ρ below) else Stops n Stuck)
-          by_test true = replied_same ty m.trail.replies m.trail.events a below rest
-          by_test false = (same, refl)
+  ask_same h f args below rest = grind (arith, numbers-values ρ args, replied_same)
 
   pub call_same : (f : FuncAddress) (args : List CValue) (below : List Frame) → KeptFunc ρ f → Each (KeptValue ρ) args → KeptFrames ρ below
       → SameStep ρ (call p f m args below) (call q (address ρ f) n (map (renamed.value ρ) args) (frames ρ below))
@@ -407,12 +275,7 @@ module _ (ρ : Renaming) (p q : Program) (names : KeepsNames ρ) (meanings : Kee
   pointed_same : (r : Running) (x : Name)
       → then_evaluate (found (value_of n (renamed.running ρ r) (ρ.var r.unit x))) as_object
       ≡ come_to ρ.object (then_evaluate (found (value_of m r x)) as_object)
-  pointed_same r x = ap (λ o. then_evaluate (found o) as_object) (value_same ρ p q names meanings m n same r x) ∙ go (value_of m r x)
-    where
-      go : (o : Option CValue) → then_evaluate (found (option_map (renamed.value ρ) o)) as_object
-          ≡ come_to ρ.object (then_evaluate (found o) as_object)
-      go None = refl
-      go (Some v) = as_object-value ρ v
+  pointed_same r x = grind (arith, value_same ρ p q names meanings m n same r x, as_object-value)
 
   at_rest_kept : (r : Running) (rest : List tree.Stmt) → KeptRunning ρ r → Each (KeptStmt ρ r.unit) rest → KeptRunning ρ (at_rest r rest)
   at_rest_kept r rest running kept = record { stmts = running.stmts; rest = kept; vars = running.vars }
@@ -451,16 +314,15 @@ module _ (ρ : Renaming) (p q : Program) (names : KeepsNames ρ) (meanings : Kee
       (call_callee_same f (place_of r rest) r vs (record { target = target; running = at_rest r rest } ∷ below) kept.0.0 running
       (given_all r args running kept.0.1 vs is) (at_rest_kept r rest running kept.1, frames_kept)))
   act_same r (tree.Goto name ∷ rest) below running kept frames_kept = jump_same ρ names m n same r name below running frames_kept
-  act_same r (tree.If op left right name ∷ rest) below running kept frames_kept =
-      with_value_same ρ names m n same (λ v. v) _ _ _ _ _ _ (place-running ρ r rest)
-      (evaluate_same ρ p q names meanings m n same r (tree.Op op left right)
-      ∙ come_to_itself (evaluate p m r (tree.Op op left right))) (λ v is. by_test (number_of v == 0))
-    where
-      by_test : (b : Bool) → SameStep ρ (if b then next m (at_rest r rest) below else jump m r name below)
-          (if b then next n (at_rest (renamed.running ρ r) (map (renamed.stmt ρ r.unit) rest)) (frames ρ below) else jump n
-          (renamed.running ρ r) (ρ.label r.unit name) (frames ρ below))
-      by_test true = goes_on ρ names m n same (at_rest r rest) below (at_rest_kept r rest running kept.1) frames_kept
-      by_test false = jump_same ρ names m n same r name below running frames_kept
+  act_same r (tree.If op left right name ∷ rest) below running kept frames_kept = grind (
+    arith,
+    place-running ρ r rest,
+    evaluate_same ρ p q names meanings m n same r (tree.Op op left right),
+    come_to_itself (evaluate p m r (tree.Op op left right)),
+    at_rest_kept r rest running kept.1,
+    jump_same ρ names m n same r name below running frames_kept,
+    with_value_same,
+  )
   act_same r (tree.Switch e cases default ∷ rest) below running kept frames_kept =
       with_value_same ρ names m n same (λ v. v) _ _ _ _ _ _ (place-running ρ r rest)
       (evaluate_same ρ p q names meanings m n same r e ∙ come_to_itself (evaluate p m r e)) (λ v is.

@@ -1,9 +1,7 @@
 -- Types of functions, and which calls fit, are the same on both sides.
-use Rattle.c_renaming.proofs.Common.{◌≡◌, Bool, false, ◌&&◌, List, [], ◌∷◌, slice_get, Some, None, Option, option_map, refl, ap, ◌∙◌}
-use Rattle.c_renaming.proofs.Common.{list_all, list_any, if_found, Host, is_number, types_of, same_type, same_types, U32, U64, Void}
-use Rattle.c_renaming.proofs.Common.{Program, SymbolCall, c_func_type_of, c_params_of, called_func, fits, func_type, FuncAddress, HostFunc}
-use Rattle.c_renaming.proofs.Common.{UnitFunc, Holds, KeptFunc, KeepsMeanings, Renames, Renaming, address}
-use Rattle.c_tree.specs.Tree as tree
+use Rattle.c_renaming.proofs.Common.{◌≡◌, List, slice_get, Some, None, Option, option_map, refl, ap, if_found, Host, Program, SymbolCall}
+use Rattle.c_renaming.proofs.Common.{c_func_type_of, fits, func_type, FuncAddress, HostFunc, UnitFunc, Holds, KeptFunc, KeepsMeanings}
+use Rattle.c_renaming.proofs.Common.{Renames, Renaming, address, arith}
 
 module _ (ρ : Renaming) (p q : Program) (meanings : KeepsMeanings ρ p q) where
   pub func_type_same : (f : FuncAddress) → KeptFunc ρ f → func_type q (address ρ f) ≡ func_type p f
@@ -19,14 +17,4 @@ module _ (ρ : Renaming) (p q : Program) (meanings : KeepsMeanings ρ p q) where
   type_found (Some f) kept = func_type_same f kept
 
 pub calls_fit : (ρ : Renaming) (p q : Program) → Renames ρ p q → (c : SymbolCall) → fits q c ≡ fits p c
-calls_fit ρ p q is c =
-    ap fits_by (ap (λ o. if_found o (func_type q)) (is.begins.calls c)
-    ∙ type_found ρ p q is.meanings (called_func p c) (is.begins.calls_kept c))
-  where
-    fits_by : Option tree.FuncType → Bool
-    fits_by o = elim o [
-      | None ↦ false
-      | Some ty ↦ same_types ty.params (c_params_of (types_of c.args))
-          && list_any (same_type ty.result) (Void ∷ U32 ∷ U64 ∷ [])
-          && list_all is_number c.args
-    ]
+calls_fit ρ p q is c = grind (arith, is.begins.calls c, is.begins.calls_kept c)

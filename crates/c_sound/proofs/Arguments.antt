@@ -4,10 +4,10 @@ use Rattle.c_sound.proofs.Common.{◌∙◌, subst, and_parts, false≢true, or_
 use Rattle.c_sound.proofs.Common.{Value, I32, I64, arg_has_type, arg_suits, arg_uses, args_suit, expr_uses, has_same_type, has_type}
 use Rattle.c_sound.proofs.Common.{is_known, same_type, HasType, Scope, Typing, common_type, file_functions, file_variables, is_comparison}
 use Rattle.c_sound.proofs.Common.{is_number_type, is_object_type, may_be_narrowed, number_type, op_typing, pointed_by, pointer_to, type_of}
-use Rattle.c_sound.proofs.Common.{typed_if, typing_of, value_type, value_typing, variables, COp, CType, N32, N64, Plain, Program, is_object}
-use Rattle.c_sound.proofs.Common.{memory_in, of_type, table_in, var_in, CValue, FuncPointer, Is, Machine, Name, Number, ObjectAddress}
-use Rattle.c_sound.proofs.Common.{Pointer, Running, then_evaluate, evaluate, evaluate_arg, evaluate_args, in_unit, value_of, OfType}
-use Rattle.c_sound.proofs.Common.{OfTypes, ScopeOf, TypedMachine, VarsOf, own_variables, type_at}
+use Rattle.c_sound.proofs.Common.{typed_if, typing_of, value_typing, variables, COp, CType, N32, N64, Plain, Program, is_object, memory_in}
+use Rattle.c_sound.proofs.Common.{table_in, var_in, CValue, FuncPointer, Is, Machine, Name, Number, ObjectAddress, Pointer, Running}
+use Rattle.c_sound.proofs.Common.{then_evaluate, evaluate, evaluate_arg, evaluate_args, in_unit, value_of, OfType, OfTypes, ScopeOf}
+use Rattle.c_sound.proofs.Common.{TypedMachine, VarsOf, own_variables, type_at, arith}
 use Rattle.c_tree.specs.declared.tree.CType.TheVariants as type
 use Rattle.c_tree.specs.Tree as tree
 use Rattle.c_sound.proofs.Choices.{by_option}
@@ -22,14 +22,7 @@ such_is_value p _ _ h = absurd h
 -- a pointer to an object
 pointer_is : (p : Program) (a : ObjectAddress) (target t : CType) → type_at p a ≡ Some target → pointer_to target ≡ Some t
     → OfType p t (Pointer (Some a))
-pointer_is p a target t there e = record { is = is target t e; points = (target, there, e) }
-  where
-    is : (target t : CType) → pointer_to target ≡ Some t → of_type t (Pointer (Some a)) ≡ true
-    is type.U32 type.PtrU32 e = refl
-    is type.U64 type.PtrU64 e = refl
-    is type.Mem type.PtrMem e = refl
-    is type.Tab type.PtrTab e = refl
-    is _ _ e = absurd cc
+pointer_is p a target t there e = grind arith
 
 -- what is pointed to is there
 object_there : (p : Program) (m : Machine) (a : ObjectAddress) (target t : CType) → TypedMachine p m → type_at p a ≡ Some target
@@ -47,11 +40,7 @@ object_there p m a _ t machine there e = absurd cc
 
 pub has_it : (s : Scope) (e : tree.Expr) (t : CType) → has_type s e ≡ true → has_same_type (type_of s e) t ≡ true
     → typing_of s e ≡ HasType t
-has_it s e t typed suits = go (typing_of s e) typed suits
-  where
-    go : (n : Typing) → is_some (value_type n) ≡ true → has_same_type (value_type n) t ≡ true → n ≡ HasType t
-    go (HasType u) typed suits = ap HasType (sym (type_same t u suits))
-    go _ typed suits = absurd (false≢true typed)
+has_it s e t typed suits = grind (arith, type_same)
 
 module _ (p : Program) (m : Machine) (r : Running) (s : Scope) (machine : TypedMachine p m) (scope : ScopeOf p r.unit s)
     (vars : VarsOf p (own_variables s) r.vars) where

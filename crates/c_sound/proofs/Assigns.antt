@@ -1,9 +1,8 @@
 -- A value goes where one of its type is taken: at an assignment, and at the end of a call.
-use Rattle.c_sound.proofs.Common.{◌≡◌, true, false, List, [], ◌∷◌, Some, None, Option, bytes_eq, sym, refl, ap, ◌∙◌, subst, both_ways}
-use Rattle.c_sound.proofs.Common.{by_test, named, with_named, is_void, is_object_type, variables, CType, Program, with_var, CValue, Frame}
-use Rattle.c_sound.proofs.Common.{Machine, Name, Running, Stuck, Vars, Stops, assign, assign_depth, give, in_unit, is_returned, next}
-use Rattle.c_sound.proofs.Common.{returned, with_vars, Gives, OfType, Takes, TypedBelow, TypedMachine, TypedRunning, TypedStep, VarsOf}
-use Rattle.c_sound.proofs.Common.{own_variables}
+use Rattle.c_sound.proofs.Common.{◌≡◌, true, false, List, [], ◌∷◌, Some, None, Option, bytes_eq, sym, refl, ap, ◌∙◌, subst, by_test, named}
+use Rattle.c_sound.proofs.Common.{with_named, is_object_type, variables, CType, Program, with_var, CValue, Frame, Machine, Name, Running}
+use Rattle.c_sound.proofs.Common.{Vars, assign, assign_depth, give, in_unit, is_returned, next, returned, with_vars, Gives, OfType}
+use Rattle.c_sound.proofs.Common.{TypedBelow, TypedMachine, TypedRunning, TypedStep, VarsOf, own_variables, arith}
 use Rattle.c_sound.proofs.Evaluates.{Stands, IsDepth, IsOwn, IsOfFile, stands, own_holds, own_not}
 use Rattle.c_sound.proofs.Changes.{one_type_of, var_keeps, depth_keeps}
 use Rattle.c_sound.proofs.Primitives.{narrow}
@@ -72,22 +71,7 @@ module _ (p : Program) (last : CType) where
   pub give_typed : (m : Machine) (t : CType) (value : Option CValue) (below : List Frame) → TypedMachine p m → Gives p t value
       → TypedBelow p last t below → TypedStep p last (give m value below)
   give_typed m t value [] machine gives is_below = (machine, subst (λ (x : CType). Gives p x value) is_below gives)
-  give_typed m t value (f ∷ below) machine gives is_below = go f.target is_below.1
-    where
-      run : TypedRunning p f.running
-      run = is_below.0
-
-      given : (name : Name) (value : Option CValue) → Gives p t value → Takes run.scope t (Some name)
-          → TypedStep p last (elim value [ None ↦ Stops m Stuck | Some v ↦ assign m f.running name v below ])
-      given name None gives takes = absurd (both_ways (is_void t) takes.2 gives)
-      given name (Some v) gives takes = assign_typed m f.running name t v below machine run takes.0 takes.1 gives is_below.2
-
-      go : (target : Option Name) → Takes run.scope t target → TypedStep p last (elim target [
-        | None ↦ next m f.running below
-        | Some name ↦ elim value [ None ↦ Stops m Stuck | Some v ↦ assign m f.running name v below ]
-      ])
-      go None takes = record { machine = machine; running = run; below = is_below.2 }
-      go (Some name) takes = given name value gives takes
+  give_typed m t value (f ∷ below) machine gives is_below = grind (arith, assign_typed)
 
   returns_it : (t : CType) (value : Option CValue) → Gives p t value → is_returned t value ≡ true
   returns_it t None gives = gives

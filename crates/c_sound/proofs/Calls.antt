@@ -1,17 +1,17 @@
 -- A function that takes arguments of its parameters' types begins, or its host is asked.
 use Rattle.c_sound.proofs.Common.{◌≡◌, ℕ, Bool, true, false, List, [], ◌∷◌, ◌++◌, map, is_some, if◌then◌else◌, Some, None, Option}
 use Rattle.c_sound.proofs.Common.{option_map, sym, refl, ap, ◌∙◌, subst, and_parts, false≢true, list_all, named, Ask, Event, Gave}
-use Rattle.c_sound.proofs.Common.{HostTrapped, Reply, asked, is_number, types_of, ValType, Value, I32, I64, number_suits, proper_types}
-use Rattle.c_sound.proofs.Common.{same_func_type, Scope, file_functions, functions, local_variables, param_variables, CType, Num, N32, N64}
-use Rattle.c_sound.proofs.Common.{Plain, Definition, Program, c_func_type_of, c_params_of, c_result_of, c_type_of, func_named, func_type}
+use Rattle.c_sound.proofs.Common.{HostTrapped, Reply, asked, types_of, ValType, Value, I32, I64, number_suits, proper_types, same_func_type}
+use Rattle.c_sound.proofs.Common.{Scope, file_functions, functions, local_variables, param_variables, CType, Num, N32, N64, Plain}
+use Rattle.c_sound.proofs.Common.{Definition, Program, c_func_type_of, c_params_of, c_result_of, c_type_of, func_named, func_type}
 use Rattle.c_sound.proofs.Common.{host_type, initial_of, with_trail, Asks, CValue, Frame, FuncAddress, FuncPointer, HostFunc, Machine, Name}
 use Rattle.c_sound.proofs.Common.{Number, Place, Pointer, Stuck, Undefined, UnitFunc, Vars, Step, Stops, are_of_types, ask, begin, bind}
 use Rattle.c_sound.proofs.Common.{call, call_named, call_through, first_vars, give, locals_of, next, numbers, param_names, param_types}
 use Rattle.c_sound.proofs.Common.{replied, take_effect, Callable, Gives, OfType, OfTypes, ScopeOf, TypedBelow, TypedMachine, TypedProgram}
-use Rattle.c_sound.proofs.Common.{TypedStep, VarsOf}
+use Rattle.c_sound.proofs.Common.{TypedStep, VarsOf, arith}
 use Rattle.w2c_base.specs.declared.value.ValType.TheVariants as val
 use Rattle.w2c_base.specs.declared.signature.FuncType.{FuncType}
-use Rattle.w2c_base.specs.Values.{type_of, equal_type, equal_types, is_result}
+use Rattle.w2c_base.specs.Values.{equal_types, is_result}
 use Rattle.c_tree.specs.declared.tree.CType.TheVariants as type
 use Rattle.c_tree.specs.Tree as tree
 use Rattle.c_tree.specs.Runtime as header
@@ -111,13 +111,7 @@ host_gives : (p : Program) (t : Option ValType) (v : Option Value) → is_result
 host_gives p None None e = refl
 host_gives p None (Some v) e = absurd (false≢true e)
 host_gives p (Some t) None e = absurd (false≢true e)
-host_gives p (Some t) (Some v) e = go t v (and_parts (equal_type t (type_of v)) (is_number v) e).0
-  where
-    go : (t : ValType) (v : Value) → equal_type t (type_of v) ≡ true → OfType p (c_type_of t) (Number v)
-    go val.I32 (I32 n) same = record { is = refl; points = tt }
-    go val.I64 (I64 n) same = record { is = refl; points = tt }
-    go val.I32 (I64 n) same = absurd (false≢true same)
-    go val.I64 (I32 n) same = absurd (false≢true same)
+host_gives p (Some t) (Some v) e = grind arith
 
 module _ (p : Program) (program : TypedProgram p) (last : CType) (m : Machine) (machine : TypedMachine p m) where
   begin_typed : (u : ℕ) (d : Definition) (ty : tree.FuncType) (args : List CValue) (below : List Frame) → Callable p u d ty

@@ -1,24 +1,15 @@
 -- A machine stays typed where an object gets another value of its type.
 use Rattle.c_sound.proofs.Common.{◌≡◌, ℕ, zero, suc, true, ◌≢◌, ◌⊎◌, List, [], ◌∷◌, is_some, slice_get, slice_set, Some, None, Option}
 use Rattle.c_sound.proofs.Common.{bytes_eq, sym, refl, ap, ◌∙◌, subst, inl, inr, cases_eq, bytes_eq-Decides, by_test, if_found, named}
-use Rattle.c_sound.proofs.Common.{with_named, Trail, I32, I64, CType, named-with_another, named-with_named, Program, memory_in, of_type}
-use Rattle.c_sound.proofs.Common.{table_in, var_in, with_depth, with_memory, with_objects, with_table, with_trail, with_var, CValue}
-use Rattle.c_sound.proofs.Common.{FuncPointer, Machine, Memory, Name, Number, ObjectAddress, Objects, Pointer, Table, of_one_type}
-use Rattle.c_sound.proofs.Common.{HoldFuncs, OfType, TypedMachine, type_at}
+use Rattle.c_sound.proofs.Common.{with_named, Trail, CType, named-with_another, named-with_named, Program, memory_in, table_in, var_in}
+use Rattle.c_sound.proofs.Common.{with_depth, with_memory, with_objects, with_table, with_trail, with_var, CValue, Machine, Memory, Name}
+use Rattle.c_sound.proofs.Common.{ObjectAddress, Objects, Table, of_one_type, HoldFuncs, OfType, TypedMachine, type_at, arith}
 use Rattle.w2c_base.proofs.Places.{set_there}
-use Rattle.c_tree.specs.declared.tree.CType.TheVariants as type
 use Rattle.c_sound.proofs.Choices.{by_option, same_some}
 
 -- values of one type
 pub one_type_of : (p : Program) (t : CType) (v w : CValue) → OfType p t v → OfType p t w → of_one_type v w ≡ true
-one_type_of p t v w h k = go t v w h.is k.is
-  where
-    go : (t : CType) (v w : CValue) → of_type t v ≡ true → of_type t w ≡ true → of_one_type v w ≡ true
-    go type.U32 (Number (I32 n)) (Number (I32 k)) e f = refl
-    go type.U64 (Number (I64 n)) (Number (I64 k)) e f = refl
-    go t (Pointer a) (Pointer b) e f = refl
-    go t (FuncPointer a) (FuncPointer b) e f = refl
-    go _ _ _ e f = absurd cc
+one_type_of p t v w h k = grind arith
 
 -- ---- lists of which one element is set
 

@@ -1,7 +1,7 @@
 -- What proofs of this crate cite of std, of the crates below and of specs/, passed on from one place. Declares nothing.
 pub use Rattle.std.proofs.Common.{◌≡◌, ℕ, zero, suc, ◌+◌, ◌*◌, ◌/◌, ◌%◌, ◌^◌, ◌<◌, min, Bool, true, false, not, ◌&&◌, ◌||◌, ◌≢◌, ◌⊎◌, List}
 pub use Rattle.std.proofs.Common.{[], ◌∷◌, ◌++◌, map, length, take, replicate, is_some, if◌then◌else◌, nat_lt, nat_le, ◌==◌, slice_get}
-pub use Rattle.std.proofs.Common.{slice_set, Some, None, codes, filter, Option, option_map, find, zip, flat_map, filter_map, bytes_eq, sym}
+pub use Rattle.std.proofs.Common.{slice_set, Some, None, codes, filter, Option, option_map, zip, flat_map, filter_map, bytes_eq, sym}
 pub use Rattle.std.proofs.Common.{refl, ap, ◌∙◌, subst, inl, inr, append_assoc, append-nil, arith}
 pub use Rattle.std.proofs.lemmas.Bool.{and_parts, both_ways, cases_eq, cases_order, false≢true, not-true, or_cases, or_left, or_right}
 pub use Rattle.std.proofs.lemmas.List.Folds.{list_all-append}
@@ -15,9 +15,7 @@ pub use Rattle.w2c_base.proofs.OfEach.{all_append, all_at, all_from}
 pub use Rattle.w2c_base.proofs.Tests.{by_test}
 pub use Rattle.w2c_base.specs.Lookup.{if_found, named, numbered, with_named}
 pub use Rattle.w2c_base.specs.Run.{Ask, Asked, Call, CallEnded, Event, Gave, HostTrapped, Init, Phase, Reply, Trail, asked, call_ended}
-pub use Rattle.w2c_base.specs.Trap.{code_of}
 pub use Rattle.w2c_base.specs.Values.{bits, is_number, number_of, types_of, value}
-pub use Rattle.w2c_base.specs.declared.trap.TrapKind.{TrapKind}
 pub use Rattle.w2c_base.specs.declared.value.ValType.{ValType}
 pub use Rattle.w2c_base.specs.declared.value.Value.{Value}
 pub use Rattle.w2c_base.specs.declared.value.Value.TheVariants.{I32, I64}

@@ -1,9 +1,9 @@
 -- The definitions of a unit that keeps the rules: those of one name are one, and its declarations have its type.
 use Rattle.c_sound.proofs.Common.{◌≡◌, ℕ, zero, suc, ◌<◌, Bool, true, false, not, ◌&&◌, ◌||◌, List, [], ◌∷◌, take, is_some, slice_get, Some}
-use Rattle.c_sound.proofs.Common.{option_map, bytes_eq, sym, refl, ap, ◌∙◌, subst, inl, inr, and_parts, cases_order, false≢true, or_cases}
+use Rattle.c_sound.proofs.Common.{option_map, bytes_eq, sym, refl, ap, ◌∙◌, inl, inr, and_parts, cases_order, false≢true, or_cases}
 use Rattle.c_sound.proofs.Common.{bytes_eq-Decides, list_all, list_any, option_or, numbered_at, numbered, KeepsRules, are_alike, defines}
 use Rattle.c_sound.proofs.Common.{has_body, may_both_stand, same_func_type, func_type_of, name_of, Definition, defined, defined_for_all}
-use Rattle.c_sound.proofs.Common.{definition_of, definitions, is_external, typed, Name}
+use Rattle.c_sound.proofs.Common.{definition_of, definitions, is_external, typed, Name, arith}
 use Rattle.c_tree.specs.Tree as tree
 use Rattle.c_sound.proofs.Choices.{by_option}
 use Rattle.c_tree.proofs.SameTypes.{func_types_same}
@@ -32,17 +32,7 @@ module _ (items : List tree.Item) where
 
   definition_is : (i : ℕ) (item : tree.Item) (d : Definition) → slice_get items i ≡ Some item → definition_of (i, item) ≡ Some d
       → IsDefinition d
-  definition_is i (tree.Function f) d at e = by_option f.body
-      (λ none. absurd (let g = rw none at e in cc))
-      (λ b there.
-      let same : record { item = i; func = f; body = b } ≡ d = some_same (sym (ap (option_map with_body) there) ∙ e) in
-      subst IsDefinition same (record { at = at; body = there }))
-    where
-      with_body : tree.Body → Definition
-      with_body b = record { item = i; func = f; body = b }
-
-      some_same : {x y : Definition} → Some x ≡ Some y → x ≡ y
-      some_same e = cc
+  definition_is i (tree.Function f) d at e = grind (arith, by_option)
   definition_is i _ d at e = absurd cc
 
   pub listed_is : (j : ℕ) (d : Definition) → slice_get (definitions items) j ≡ Some d → IsDefinition d

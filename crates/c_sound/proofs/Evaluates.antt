@@ -1,14 +1,14 @@
 -- An expression that has a type evaluates to a value of it, or to what is undefined.
 use Rattle.c_sound.proofs.Common.{◌≡◌, ℕ, ◌*◌, ◌/◌, ◌%◌, ◌^◌, Bool, true, false, ◌&&◌, List, [], ◌∷◌, ◌++◌, is_some, if◌then◌else◌, nat_lt}
-use Rattle.c_sound.proofs.Common.{◌==◌, slice_get, Some, None, Option, bytes_eq, sym, refl, ap, ◌∙◌, subst, append_assoc, and_parts}
-use Rattle.c_sound.proofs.Common.{both_ways, false≢true, list_all-append, bytes_eq-Decides, list_all, ⊤, by_test, if_found, named, bits}
-use Rattle.c_sound.proofs.Common.{number_of, value, ValType, Value, I32, I64, expr_uses, is_known, same_type, Compares, HasType, IllTyped}
-use Rattle.c_sound.proofs.Common.{IsElement, Scope, Typing, arrays, common_type, file_variables, is_among, is_number_type, is_object_type}
+use Rattle.c_sound.proofs.Common.{◌==◌, Some, None, Option, bytes_eq, sym, refl, ap, ◌∙◌, subst, append_assoc, and_parts, both_ways}
+use Rattle.c_sound.proofs.Common.{false≢true, list_all-append, bytes_eq-Decides, list_all, ⊤, by_test, if_found, named, bits, number_of}
+use Rattle.c_sound.proofs.Common.{value, ValType, Value, I32, I64, expr_uses, is_known, same_type, Compares, HasType, IllTyped, IsElement}
+use Rattle.c_sound.proofs.Common.{Scope, Typing, arrays, common_type, file_variables, is_among, is_number_type, is_object_type}
 use Rattle.c_sound.proofs.Common.{local_variables, may_be_narrowed, name_typing, number_type, op_typing, param_variables, pointed_by}
 use Rattle.c_sound.proofs.Common.{pointer_to, typed_if, typing_of, value_typing, variables, COp, CType, N32, N64, Plain, bytes_differ}
-use Rattle.c_sound.proofs.Common.{Program, array_named, c_type_of, var_in, Bad, CValue, Evaluated, Is, Machine, Name, NoRule}
-use Rattle.c_sound.proofs.Common.{Number, Pointer, Running, Vars, found, then_evaluate, as_number, as_object, depth_name, element, evaluate}
-use Rattle.c_sound.proofs.Common.{in_unit, number_in, value_of, OfType, ScopeOf, TypedMachine, VarsOf, own_variables, type_at}
+use Rattle.c_sound.proofs.Common.{Program, array_named, c_type_of, var_in, Bad, CValue, Evaluated, Is, Machine, Name, NoRule, Number}
+use Rattle.c_sound.proofs.Common.{Pointer, Running, Vars, found, then_evaluate, as_number, as_object, depth_name, element, evaluate}
+use Rattle.c_sound.proofs.Common.{in_unit, number_in, value_of, OfType, ScopeOf, TypedMachine, VarsOf, own_variables, type_at, arith}
 use Rattle.w2c_base.specs.declared.value.ValType.TheVariants as val
 use Rattle.c_tree.specs.declared.tree.CType.TheVariants as type
 use Rattle.c_tree.specs.declared.tree.COp.TheVariants as op
@@ -267,18 +267,10 @@ module _ (p : Program) (m : Machine) (r : Running) (s : Scope) (machine : TypedM
       number_found p u (var_in m a) kinds.0 target.0 target.1 target.2)))
 
   element_comes : (bytes : List ℕ) (index : ℕ) → Comes (IsSuch IsElement) (element bytes index)
-  element_comes bytes index = go (slice_get bytes index)
-    where
-      go : (o : Option ℕ) → Comes (IsSuch IsElement) (elim o [ None ↦ Bad 3 | Some byte ↦ Is (I32 byte) ])
-      go None = tt
-      go (Some byte) = tt
+  element_comes bytes index = grind arith
 
   array_found : (name : Name) → is_among name (arrays s) ≡ true → Comes (λ (bytes : List ℕ). ⊤) (found (array_named p r.unit name))
-  array_found name there = go (array_named p r.unit name) (scope.arrays_are name there)
-    where
-      go : (o : Option (List ℕ)) → is_some o ≡ true → Comes (λ (bytes : List ℕ). ⊤) (found o)
-      go None e = absurd (false≢true e)
-      go (Some bytes) e = tt
+  array_found name there = grind (arith, scope.arrays_are name there)
 
   may_be : (n : Typing) → is_some (number_type n) ≡ true → may_be_narrowed n ≡ true
   may_be (HasType t) e = by_test (is_number_type t) (λ is. is) (λ is. absurd (let f = rw is at e in false≢true f))

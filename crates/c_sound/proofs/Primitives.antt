@@ -1,10 +1,10 @@
 -- A primitive that takes arguments of its parameters' types has an effect, and gives a value of its type.
 use Rattle.c_sound.proofs.Common.{◌≡◌, ℕ, zero, suc, ◌+◌, ◌*◌, ◌/◌, min, Bool, true, false, ◌||◌, List, [], ◌∷◌, ◌++◌, length, replicate}
-use Rattle.c_sound.proofs.Common.{is_some, if◌then◌else◌, nat_lt, nat_le, ◌==◌, slice_get, slice_set, Some, None, Option, option_map, find}
-use Rattle.c_sound.proofs.Common.{bytes_eq, sym, refl, ap, ◌∙◌, subst, false≢true, ⊤, by_test, named, code_of, value, TrapKind, ValType}
-use Rattle.c_sound.proofs.Common.{I32, I64, proper_types, pointer_to, CType, Program, c_type_of, func_type, memory_in, table_in}
-use Rattle.c_sound.proofs.Common.{with_memory, with_table, CValue, Element, FuncAddress, FuncPointer, Machine, Memory, Name, Number}
-use Rattle.c_sound.proofs.Common.{ObjectAddress, Pointer, Table, Gives, HoldFuncs, HoldsFunc, OfType, OfTypes, TypedMachine}
+use Rattle.c_sound.proofs.Common.{is_some, if◌then◌else◌, nat_lt, nat_le, slice_get, slice_set, Some, None, Option, option_map, bytes_eq}
+use Rattle.c_sound.proofs.Common.{sym, refl, ap, ◌∙◌, subst, false≢true, ⊤, by_test, named, value, ValType, I32, I64, proper_types}
+use Rattle.c_sound.proofs.Common.{pointer_to, CType, Program, c_type_of, func_type, memory_in, table_in, with_memory, with_table, CValue}
+use Rattle.c_sound.proofs.Common.{Element, FuncAddress, FuncPointer, Machine, Memory, Name, Number, ObjectAddress, Pointer, Table, Gives}
+use Rattle.c_sound.proofs.Common.{HoldFuncs, HoldsFunc, OfType, OfTypes, TypedMachine, arith}
 use Rattle.w2c_base.specs.declared.value.ValType.TheVariants as val
 use Rattle.w2c_base.specs.LittleEndian.{little_endian, low_bytes, bytes_at, with_bytes}
 use Rattle.c_tree.specs.declared.tree.CType.TheVariants as type
@@ -131,12 +131,7 @@ module _ (p : Program) where
     -- ---- the primitives
 
     trap_typed : Typed (type.U32 ∷ []) type.Void prim.trap
-    trap_typed = given_all (type.U32 ∷ []) (λ args. TypedEffect p type.Void (prim.trap args m))
-        (λ code. by (find (λ kind. code_of kind == code) prim.trap_kinds))
-      where
-        by : (o : Option TrapKind) → TypedEffect p type.Void (elim o [ None ↦ prim.IsUndefined 8 | Some kind ↦ prim.Traps kind ])
-        by None = tt
-        by (Some kind) = tt
+    trap_typed = grind (arith, given_all)
 
     mem_new_typed : Typed (type.PtrMem ∷ type.U32 ∷ type.U64 ∷ []) type.Void prim.mem_new
     mem_new_typed = given_all (type.PtrMem ∷ type.U32 ∷ type.U64 ∷ []) (λ args. TypedEffect p type.Void (prim.mem_new args m))
@@ -254,20 +249,7 @@ module _ (p : Program) where
     element_typed : (a : ObjectAddress) (table : Table) (place : ℕ) (f : FuncAddress) (signature : ℕ) → table_in m a ≡ Some table
         → HoldFuncs p table.elements → is_some (func_type p f) ≡ true
         → TypedEffect p type.Void (prim.set_element m a table place f signature)
-    element_typed a table place f signature there holds is = by (slice_get table.elements place)
-      where
-        by : (o : Option (Option Element)) → TypedEffect p type.Void (elim o [
-          | None ↦ prim.IsUndefined 7
-          | Some old ↦ if signature == 0 then prim.IsUndefined 8 else prim.Gives
-              (with_table m a (prim.with_element table place (record { func = f; signature = signature }))) None
-        ])
-        by None = tt
-        by (Some old) = if_typed type.Void (signature == 0) (prim.IsUndefined 8)
-            (prim.Gives (with_table m a (prim.with_element table place (record { func = f; signature = signature }))) None) tt (
-              table_keeps p m a table (prim.with_element table place (record { func = f; signature = signature })) machine there
-                  (held_set p table.elements place (Some (record { func = f; signature = signature })) holds is),
-              refl,
-            )
+    element_typed a table place f signature there holds is = grind (arith, if_typed, table_keeps, held_set)
 
     tab_set_typed : Typed (type.PtrTab ∷ type.U64 ∷ type.FnPtr ∷ type.U64 ∷ []) type.Void prim.tab_set
     tab_set_typed = given_all (type.PtrTab ∷ type.U64 ∷ type.FnPtr ∷ type.U64 ∷ [])

@@ -7,8 +7,8 @@ use Rattle.c_sound.proofs.Common.{Program, SymbolCall, c_params_of, c_type_of, c
 use Rattle.c_sound.proofs.Common.{init_functions, fresh, of_type, CRun, Ended, Entry, Going, OutOfSteps, Outcome, Over, Pending, Progress}
 use Rattle.c_sound.proofs.Common.{Stopped, after, begin_entry, begun, c_start, came_back, entries_of, go_on, over, run_of, told_end, CValue}
 use Rattle.c_sound.proofs.Common.{FuncAddress, FuncPointer, Machine, Number, ObjectAddress, Pointer, State, Stop, Stuck, UnitFunc, Vars}
-use Rattle.c_sound.proofs.Common.{Back, Next, Step, Stops, begin, c_step, call, first_vars, next, AllFit, NeverStuck, Begins, Gives, IsVoid}
-use Rattle.c_sound.proofs.Common.{OfType, OfTypes, TypedMachine, TypedPhase, TypedProgram, TypedRun, TypedStep, may_end}
+use Rattle.c_sound.proofs.Common.{Back, Next, Step, Stops, begin, c_step, call, next, AllFit, NeverStuck, Begins, Gives, IsVoid, OfType}
+use Rattle.c_sound.proofs.Common.{OfTypes, TypedMachine, TypedPhase, TypedProgram, TypedRun, TypedStep, may_end, arith}
 use Rattle.w2c_base.specs.Values.{type_of}
 use Rattle.c_tree.specs.declared.tree.CType.TheVariants as type
 use Rattle.c_tree.specs.Tree as tree
@@ -45,14 +45,7 @@ stops_well p last m _ h e = false≢true (ap is_stuck e)
 -- ---- what a run gives back
 
 void_gives_none : (p : Program) (t : CType) (v : CValue) → is_void t ≡ true → OfType p t v → ⊥
-void_gives_none p t v void h =
-    let is : of_type type.Void v ≡ true = subst (λ (x : CType). of_type x v ≡ true) (type_same t type.Void void) h.is in
-    no v is
-  where
-    no : (v : CValue) → of_type type.Void v ≡ true → ⊥
-    no (Number (I32 n)) e = false≢true e
-    no (Number (I64 n)) e = false≢true e
-    no _ e = false≢true e
+void_gives_none p t v void h = grind (arith, type_same t type.Void void)
 
 no_pointer : (t : CType) (a : Option ObjectAddress) → list_any (same_type t) (type.Void ∷ type.U32 ∷ type.U64 ∷ []) ≡ true
     → of_type t (Pointer a) ≡ true → ⊥
@@ -114,11 +107,7 @@ module _ (p : Program) (program : TypedProgram p) where
       → may_end pending.phase t ≡ true → AllByRecursion (Begins p) pending.entries
       → TypedStep p t (begin o u m args []) → Well p (begun pending (begin o u m args []))
   begins pending t None u m args ends entries h = absurd h
-  begins pending t (Some d) u m args ends entries h = go (first_vars d args) h
-    where
-      go : (o : Option Vars) → TypedStep p t (started u d m o) → Well p (begun pending (started u d m o))
-      go None h = absurd h
-      go (Some vars) h = record { now = record { last = t; ends = ends; state = h }; entries = entries }
+  begins pending t (Some d) u m args ends entries h = grind arith
 
   entry_well : (m : Machine) (last : Phase) (entries : List Entry) → TypedMachine p m → AllByRecursion (Begins p) entries
       → Well p (begin_entry p m last entries)
@@ -246,11 +235,7 @@ module _ (p : Program) (program : TypedProgram p) where
       → may_end pending.phase t ≡ true → pending.entries ≡ []
       → TypedStep p t (begin o u m args []) → TypedRun p (begun pending (begin o u m args []))
   began pending t None u m args ends none h = absurd h
-  began pending t (Some d) u m args ends none h = go (first_vars d args) h
-    where
-      go : (o : Option Vars) → TypedStep p t (started u d m o) → TypedRun p (begun pending (started u d m o))
-      go None h = absurd h
-      go (Some vars) h = (record { last = t; ends = ends; state = h }, none)
+  began pending t (Some d) u m args ends none h = grind arith
 
   pub entry_typed : (m : Machine) (last : Phase) (e : Entry) → TypedMachine p m → Begins p e
       → TypedRun p (begin_entry p m last (e ∷ []))
@@ -281,11 +266,7 @@ module _ (p : Program) (program : TypedProgram p) where
   back_typed pending t m (Call k) (Some (FuncPointer f)) machine none ends gives = absurd (no_function t f ends gives.is)
 
   not_ended : (why : Stop) → Stopped why ≡ Ended → ⊥
-  not_ended why e = false≢true (ap is_stopped (sym e))
-    where
-      is_stopped : Outcome → Bool
-      is_stopped (Stopped why) = true
-      is_stopped _ = false
+  not_ended why e = grind arith
 
   on_typed : (pending : Pending) (t : CType) (step : Step) → may_end pending.phase t ≡ true → pending.entries ≡ []
       → TypedStep p t step → TypedRun p (go_on p pending step)

@@ -1,18 +1,18 @@
 -- A statement of a typed state is never stuck, and the next state is typed.
 use Rattle.c_sound.proofs.Common.{◌≡◌, Bool, true, false, not, ◌&&◌, ◌≢◌, List, [], ◌∷◌, ◌++◌, map, is_some, if◌then◌else◌, ◌==◌, Some}
-use Rattle.c_sound.proofs.Common.{None, codes, Option, find, flat_map, bytes_eq, sym, refl, ap, ◌∙◌, subst, inl, inr, and_parts, both_ways}
-use Rattle.c_sound.proofs.Common.{false≢true, not-true, or_cases, list_all-append, bytes_eq-Decides, list_all, by_test, named, code_of}
-use Rattle.c_sound.proofs.Common.{number_of, TrapKind, Value, I32, arg_has_type, arg_suits, arg_uses, args_suit, call_suits, callee_type}
-use Rattle.c_sound.proofs.Common.{callee_uses, cases_suit, ends_body, expr_uses, has_same_type, has_type, if_any, is_known, is_void}
-use Rattle.c_sound.proofs.Common.{labels_of, may_be_assigned, may_be_called, number_suits, points_to_number, proper_types, target_suits}
-use Rattle.c_sound.proofs.Common.{target_uses, same_type, HasType, Scope, Typing, common_type, file_functions, functions, is_among}
-use Rattle.c_sound.proofs.Common.{is_comparison, is_number_type, is_object_type, may_be_narrowed, pointed_by, type_of, typing_of}
-use Rattle.c_sound.proofs.Common.{value_type, variables, COp, CType, Program, var_in, with_var, Bad, CValue, Evaluated, Frame, Is, Machine}
-use Rattle.c_sound.proofs.Common.{Name, NoRule, Number, Place, Running, State, Stuck, found, then_evaluate, Step, Stops, act, after_label}
-use Rattle.c_sound.proofs.Common.{as_object, assign, at_rest, c_step, call_callee, call_through, equal_number, evaluate, evaluate_arg}
-use Rattle.c_sound.proofs.Common.{evaluate_args, jump, label_of, next, place_of, put_in, returned, take_effect, value_of, with_value}
-use Rattle.c_sound.proofs.Common.{OfType, OfTypes, Sound, SoundStmt, Takes, TypedBelow, TypedMachine, TypedProgram, TypedRunning}
-use Rattle.c_sound.proofs.Common.{TypedState, TypedStep, type_at}
+use Rattle.c_sound.proofs.Common.{None, codes, Option, flat_map, bytes_eq, sym, refl, ap, ◌∙◌, subst, inl, inr, and_parts, both_ways}
+use Rattle.c_sound.proofs.Common.{false≢true, not-true, or_cases, list_all-append, bytes_eq-Decides, list_all, by_test, named, number_of}
+use Rattle.c_sound.proofs.Common.{Value, I32, arg_has_type, arg_suits, arg_uses, args_suit, call_suits, callee_type, callee_uses}
+use Rattle.c_sound.proofs.Common.{cases_suit, ends_body, expr_uses, has_same_type, has_type, if_any, is_known, is_void, labels_of}
+use Rattle.c_sound.proofs.Common.{may_be_assigned, may_be_called, number_suits, points_to_number, proper_types, target_suits, target_uses}
+use Rattle.c_sound.proofs.Common.{same_type, HasType, Scope, Typing, common_type, file_functions, functions, is_among, is_comparison}
+use Rattle.c_sound.proofs.Common.{is_number_type, is_object_type, may_be_narrowed, pointed_by, type_of, typing_of, value_type, variables}
+use Rattle.c_sound.proofs.Common.{COp, CType, Program, var_in, with_var, Bad, CValue, Evaluated, Frame, Is, Machine, Name, NoRule, Number}
+use Rattle.c_sound.proofs.Common.{Place, Running, State, Stuck, found, then_evaluate, Step, Stops, act, after_label, as_object, assign}
+use Rattle.c_sound.proofs.Common.{at_rest, c_step, call_callee, call_through, equal_number, evaluate, evaluate_arg, evaluate_args, jump}
+use Rattle.c_sound.proofs.Common.{label_of, next, place_of, put_in, returned, take_effect, value_of, with_value, OfType, OfTypes, Sound}
+use Rattle.c_sound.proofs.Common.{SoundStmt, Takes, TypedBelow, TypedMachine, TypedProgram, TypedRunning, TypedState, TypedStep, type_at}
+use Rattle.c_sound.proofs.Common.{arith}
 use Rattle.c_tree.specs.declared.tree.CType.TheVariants as type
 use Rattle.c_tree.specs.Tree as tree
 use Rattle.c_tree.specs.Runtime as header
@@ -236,12 +236,7 @@ module _ (p : Program) (program : TypedProgram p) (last : CType) (m : Machine) (
   -- a trap does not come back
   trap_ends : (t : CType) (args : List CValue) (place : Place) (behind : List Frame) → TypedEffect p t (prim.trap args m)
       → TypedStep p last (take_effect (prim.trap args m) place m behind)
-  trap_ends t (Number (I32 code) ∷ []) place behind h = by (find (λ kind. code_of kind == code) prim.trap_kinds)
-    where
-      by : (o : Option TrapKind)
-          → TypedStep p last (take_effect (elim o [ None ↦ prim.IsUndefined 8 | Some kind ↦ prim.Traps kind ]) place m behind)
-      by None = tt
-      by (Some kind) = tt
+  trap_ends t (Number (I32 code) ∷ []) place behind h = grind arith
   trap_ends t _ place behind h = absurd h
 
   abbrev trap_name : Name

@@ -58,7 +58,7 @@ pub use Rattle.wasm_typing.specs.ModuleFaults.{unknown_import_type}
 pub use Rattle.wasm_typing.specs.Verdict.{bodies_of}
 pub use Rattle.c_tree.proofs.Tested.{at_front}
 pub use Rattle.c_tree.specs.Rules.{is_symbol}
-pub use Rattle.c_tree.specs.Scope.{Name, function_of, is_among}
+pub use Rattle.c_tree.specs.Scope.{Name, is_among}
 pub use Rattle.c_tree.specs.Scope.{name_of, variable_of}
 pub use Rattle.c_tree.specs.Tree.{Array, Function}
 pub use Rattle.c_tree.specs.TypesInC.{c_params_of, c_result_of, c_type_of}
@@ -110,7 +110,7 @@ pub use Rattle.c_symbols.specs.Objects.{callee, pointers_of}
 pub use Rattle.body_emitter.specs.Variables.{params_of}
 pub use Rattle.c_tree.proofs.DeclaredNames.{past_none, named_in}
 pub use Rattle.c_tree.proofs.NameClasses.{class_lettered, class_pointer, classes_differ, lettered}
-pub use Rattle.c_tree.specs.DeclaredNames.{funcs_in, vars_in}
+pub use Rattle.c_tree.specs.DeclaredNames.{vars_in}
 pub use Rattle.c_tree.specs.NameClasses.{class}
 pub use Rattle.c_init.specs.Init.{data_name, init_func}
 pub use Rattle.c_unit.specs.Accepted.{IsAccepted}

@@ -3,7 +3,7 @@ use Rattle.c_unit.proofs.Common.{◌≡◌, ℕ, zero, suc, ◌+◌, ◌-◌, �
 use Rattle.c_unit.proofs.Common.{slice_get, Some, None, filter, zip, flat_map, bytes_eq, sym, refl, ap, ◌∙◌, subst}
 use Rattle.c_unit.proofs.Common.{arith, filter_map-append, same_Some, slice_get_within, range_with_len, named, ValType, global_of_import}
 use Rattle.c_unit.proofs.Common.{is_global_import, Import, ImportKind, ImportFunc, ImportGlobal, ImportMemory, ImportTable, Name}
-use Rattle.c_unit.proofs.Common.{function_of, variable_of, CType, bytes_equal, funcs_in, past_none, vars_in, class, classes_differ}
+use Rattle.c_unit.proofs.Common.{variable_of, CType, bytes_equal, past_none, vars_in, class, classes_differ}
 use Rattle.c_unit.proofs.Common.{named_in, add-zero}
 use Rattle.c_tree.specs.Tree as tree
 use Rattle.c_unit.proofs.Sections.{AllClass}
@@ -14,9 +14,6 @@ use Rattle.c_init.proofs.Small.{some_same}
 vars-append : (xs ys : List tree.Item) → vars_in (xs ++ ys) ≡ vars_in xs ++ vars_in ys
 vars-append xs ys = filter_map-append variable_of xs ys
 
-funcs-append : (xs ys : List tree.Item) → funcs_in (xs ++ ys) ≡ funcs_in xs ++ funcs_in ys
-funcs-append xs ys = filter_map-append function_of xs ys
-
 -- where no name is the one, none is found
 pub no_var : (q : Name) (k : ℕ) (items : List tree.Item) → AllClass k items → k ≢ class q → named q (vars_in items) ≡ None
 no_var q k [] all ne = refl
@@ -24,24 +21,11 @@ no_var q k (tree.Array name count bytes ∷ items) all ne = no_var q k items all
 no_var q k (tree.Var t name number ∷ items) all ne = rw (classes_differ name q (λ e. ne (sym all.0 ∙ e))) (no_var q k items all.1 ne)
 no_var q k (tree.Function f ∷ items) all ne = no_var q k items all.1 ne
 
-pub no_func : (q : Name) (k : ℕ) (items : List tree.Item) → AllClass k items → k ≢ class q → named q (funcs_in items) ≡ None
-no_func q k [] all ne = refl
-no_func q k (tree.Array name count bytes ∷ items) all ne = no_func q k items all.1 ne
-no_func q k (tree.Var t name number ∷ items) all ne = no_func q k items all.1 ne
-no_func q k (tree.Function f ∷ items) all ne = rw (classes_differ f.name q (λ e. ne (sym all.0 ∙ e))) (no_func q k items all.1 ne)
-
 pub past_vars : (q : Name) (xs ys : List tree.Item) → named q (vars_in xs) ≡ None → named q (vars_in (xs ++ ys)) ≡ named q (vars_in ys)
 past_vars q xs ys e = ap (named q) (vars-append xs ys) ∙ past_none q (vars_in xs) (vars_in ys) e
 
-pub past_funcs : (q : Name) (xs ys : List tree.Item) → named q (funcs_in xs) ≡ None → named q (funcs_in (xs ++ ys)) ≡ named q (funcs_in ys)
-past_funcs q xs ys e = ap (named q) (funcs-append xs ys) ∙ past_none q (funcs_in xs) (funcs_in ys) e
-
 pub in_vars : (q : Name) (xs ys : List tree.Item) (t : CType) → named q (vars_in xs) ≡ Some t → named q (vars_in (xs ++ ys)) ≡ Some t
 in_vars q xs ys t e = ap (named q) (vars-append xs ys) ∙ named_in q (vars_in xs) (vars_in ys) t e
-
-pub in_funcs : (q : Name) (xs ys : List tree.Item) (t : tree.FuncType) → named q (funcs_in xs) ≡ Some t
-    → named q (funcs_in (xs ++ ys)) ≡ Some t
-in_funcs q xs ys t e = ap (named q) (funcs-append xs ys) ∙ named_in q (funcs_in xs) (funcs_in ys) t e
 
 -- ---- numbered variables
 

@@ -1,8 +1,8 @@
 -- The sections of a module's unit, each as the list of its items.
-use Rattle.c_unit.proofs.Common.{ℕ, ◌+◌, ◌++◌, List, [], ◌∷◌, map, None, numbered, imported_globals, GlobalEntry, Import, LimitsEntry, Name}
+use Rattle.c_unit.proofs.Common.{ℕ, ◌+◌, List, [], ◌∷◌, map, None, numbered, imported_globals, GlobalEntry, Import, LimitsEntry, Name}
 use Rattle.c_unit.proofs.Common.{CType, NamedModule, c_type_of, global_name, memory_name, table_name, helper_of, declared_symbols}
 use Rattle.c_unit.proofs.Common.{global_imports, import_type, memory_imports, table_imports, pointer_name, helpers_of, pointers_of}
-use Rattle.c_unit.proofs.Common.{export_func, bodies, data_of, declaration, objects_of, part_items, prototype, init_func}
+use Rattle.c_unit.proofs.Common.{export_func, bodies, declaration, objects_of, part_items, prototype, init_func}
 use Rattle.c_tree.specs.declared.tree.CType.TheVariants as type
 use Rattle.c_tree.specs.Tree as tree
 
@@ -63,26 +63,3 @@ parts m = part_items m.tree
 
 abbrev pub init : NamedModule → List tree.Item
 init m = tree.Function (init_func m) ∷ []
-
--- ---- what stands before a section, and behind it
-
-abbrev pub before_declarations : NamedModule → List tree.Item
-before_declarations m = objects m ++ data_of m.tree
-
-abbrev pub before_prototypes : NamedModule → List tree.Item
-before_prototypes m = before_declarations m ++ declarations m
-
-abbrev pub before_helpers : NamedModule → List tree.Item
-before_helpers m = before_prototypes m ++ prototypes m
-
-abbrev pub before_functions : NamedModule → List tree.Item
-before_functions m = before_helpers m ++ helpers m
-
-abbrev pub before_exports : NamedModule → List tree.Item
-before_exports m = before_functions m ++ functions_of m
-
-abbrev pub before_parts : NamedModule → List tree.Item
-before_parts m = before_exports m ++ exports m
-
-abbrev pub before_init : NamedModule → List tree.Item
-before_init m = before_parts m ++ parts m

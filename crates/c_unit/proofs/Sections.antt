@@ -1,5 +1,5 @@
 -- The sections of a module's unit: the classes of their names, and that no two of their items clash.
-use Rattle.c_unit.proofs.Common.{◌≡◌, ℕ, ◌+◌, ◌-◌, ◌^◌, ◌<◌, ◌≤◌, Bool, true, false, ◌≢◌, List, [], ◌∷◌, ◌++◌, map, length, slice_get, Some}
+use Rattle.c_unit.proofs.Common.{◌≡◌, ℕ, ◌+◌, ◌-◌, ◌^◌, ◌<◌, ◌≤◌, Bool, true, false, List, [], ◌∷◌, ◌++◌, map, length, slice_get, Some}
 use Rattle.c_unit.proofs.Common.{None, Option, flat_map, bytes_eq, sym, refl, ap, ◌∙◌, subst, arith, length-append, map-append}
 use Rattle.c_unit.proofs.Common.{AllByRecursion, all_append, all_map, numbered, ValType, export_symbol_of-parts, init_symbol_of-parts}
 use Rattle.c_unit.proofs.Common.{export_symbol_of, init_symbol_of, SymbolKind, global_type_in, imported_funcs, imported_globals}
@@ -305,7 +305,3 @@ module _ (m : NamedModule) (a : IsAccepted m) where
   pub exports_class : AllClass 6 (map (λ e. tree.Function (export_func m e)) t.exports)
   exports_class = all_images (λ o. class (name_of o) ≡ 6) (λ e. tree.Function (export_func m e)) t.exports
       (λ e. ap class (export_name m e) ∙ of_export (λ n. class n ≡ 6) m (symbol_class m.name) e)
-
--- symbols are no names of a function's own variables
-pub six_not_nine : (n : ℕ) → n ≡ 6 → n ≢ 9
-six_not_nine n e f = absurd (omega (arith, e, f))

@@ -1,17 +1,16 @@
 -- All imports are taken: then the pointers of the unit are set.
 use Rattle.init_meaning.proofs.Common.{◌≡◌, ℕ, suc, ◌+◌, ◌^◌, ◌<◌, Bool, true, false, ◌||◌, List, [], ◌∷◌, ◌++◌, map, length, if◌then◌else◌}
-use Rattle.init_meaning.proofs.Common.{slice_get, Some, codes, filter, sym, refl, ap, ◌∙◌, subst, append_assoc, arith, none-some}
-use Rattle.init_meaning.proofs.Common.{slice_get_within, AllByRecursion, Trail, imported_globals, is_func_import, is_global_import}
-use Rattle.init_meaning.proofs.Common.{is_memory_import, is_table_import, Import, ImportKind, ImportFunc, ImportGlobal, ImportMemory}
-use Rattle.init_meaning.proofs.Common.{ImportTable, LinkedSet, NamedModule, Take, Task, global_name, memory_name, table_name}
-use Rattle.init_meaning.proofs.Common.{global_imports, memory_imports, table_imports, asks_something, has_test, set_pointer, take_stmts}
-use Rattle.init_meaning.proofs.Common.{takes_from, test_limits}
+use Rattle.init_meaning.proofs.Common.{slice_get, Some, codes, filter, refl, ap, ◌∙◌, append_assoc, arith, none-some, slice_get_within}
+use Rattle.init_meaning.proofs.Common.{AllByRecursion, Trail, imported_globals, is_func_import, is_global_import, is_memory_import}
+use Rattle.init_meaning.proofs.Common.{is_table_import, Import, ImportKind, ImportFunc, ImportGlobal, ImportMemory, ImportTable, LinkedSet}
+use Rattle.init_meaning.proofs.Common.{NamedModule, Take, Task, global_name, memory_name, table_name, global_imports, memory_imports}
+use Rattle.init_meaning.proofs.Common.{table_imports, has_test, set_pointer, take_stmts, takes_from, test_limits}
 use Rattle.std.proofs.Math.Bool.{or-true, or-false}
 use Rattle.wasm_meaning.specs.Store as store
 use Rattle.c_tree.specs.Tree as c
 use Rattle.c_meaning.specs.State as state
 use Rattle.init_meaning.proofs.InitStatements.{Seat}
-use Rattle.init_meaning.proofs.InitRuns.{FollowsTask, FollowsTasks, and_others}
+use Rattle.init_meaning.proofs.InitRuns.{FollowsTask, FollowsTasks, and_just, at_stage}
 use Rattle.init_meaning.specs.Taken.{IsTakenAs, AreTaken, next_number, is_taken}
 use Rattle.init_meaning.proofs.TakeTasks.{IsLow, IsTaking, table_follows, memory_follows, global_follows}
 use Rattle.init_meaning.proofs.LimitTests.{CanTest}
@@ -36,42 +35,21 @@ import_follows : (s : LinkedSet) (g : Seat) (m : NamedModule) (table memory : Bo
 import_follows s g m table memory number i rest few taken can low = go i.kind refl taken low
   where
     tests : ImportKind → Bool
-    tests kind = elim kind
-        [ ImportFunc t ↦ false | ImportTable l ↦ asks_something l | ImportMemory l ↦ asks_something l | ImportGlobal t mutable ↦ false ]
+    tests kind = has_test (record i { kind = kind })
 
-    flagged : (x y t u : Bool) (n : ℕ) (stmts : List c.Stmt) → t ≡ x → u ≡ y
-        → FollowsTask s g (IsTaking s g m table memory number) (Take i) (IsTaking s g m x y n) stmts rest
-        → FollowsTask s g (IsTaking s g m table memory number) (Take i) (IsTaking s g m t u n) stmts rest
-    flagged x y t u n stmts a b h =
-        subst (λ x. FollowsTask s g (IsTaking s g m table memory number) (Take i) (IsTaking s g m x u n) stmts rest) (sym a)
-        (subst (λ y. FollowsTask s g (IsTaking s g m table memory number) (Take i) (IsTaking s g m x y n) stmts rest) (sym b) h)
+    Follows : ImportKind → Type 0
+    Follows kind = FollowsTask s g (IsTaking s g m table memory number) (Take i)
+        (IsTaking s g m (table || is_table kind) (memory || is_memory kind) (if is_global kind then suc number else number))
+        (stmts_as m number i kind ++ rest) rest
 
-    go : (kind : ImportKind) → i.kind ≡ kind → IsTakenAs g.program s g.unit m number i kind → IsLow kind
-        → FollowsTask s g (IsTaking s g m table memory number) (Take i)
-        (IsTaking s g m (table || is_table_import i) (memory || is_memory_import i) (next_number number i))
-        (take_stmts m number i ++ rest) rest
+    go : (kind : ImportKind) → i.kind ≡ kind → IsTakenAs g.program s g.unit m number i kind → IsLow kind → Follows kind
     go (ImportFunc t) e h low = absurd h
-    go (ImportTable l) e h low =
-        subst (λ kind. FollowsTask s g (IsTaking s g m table memory number) (Take i)
-        (IsTaking s g m (table || is_table kind) (memory || is_memory kind) (if is_global kind then suc number else number))
-        (stmts_as m number i kind ++ rest) rest) (sym e)
-        (flagged true memory (table || true) (memory || false) number (stmts_as m number i (ImportTable l) ++ rest) (or-true table)
-        (or-false memory)
-        (table_follows s g m i l table memory number rest e h (λ is. can (ap tests e ∙ is)) low))
-    go (ImportMemory l) e h low =
-        subst (λ kind. FollowsTask s g (IsTaking s g m table memory number) (Take i)
-        (IsTaking s g m (table || is_table kind) (memory || is_memory kind) (if is_global kind then suc number else number))
-        (stmts_as m number i kind ++ rest) rest) (sym e)
-        (flagged table true (table || false) (memory || true) number (stmts_as m number i (ImportMemory l) ++ rest) (or-false table)
-        (or-true memory)
-        (memory_follows s g m i l table memory number rest e h (λ is. can (ap tests e ∙ is)) low))
-    go (ImportGlobal t mutable) e h low =
-        subst (λ kind. FollowsTask s g (IsTaking s g m table memory number) (Take i)
-        (IsTaking s g m (table || is_table kind) (memory || is_memory kind) (if is_global kind then suc number else number))
-        (stmts_as m number i kind ++ rest) rest) (sym e)
-        (flagged table memory (table || false) (memory || false) (suc number) (stmts_as m number i (ImportGlobal t mutable) ++ rest)
-        (or-false table) (or-false memory)
-        (global_follows s g m i t mutable table memory number rest e h few))
+    go (ImportTable l) e h low = rw (or-true table, or-false memory)
+        (table_follows s g m i l table memory number rest e h (λ is. can (ap tests e ∙ is)) low)
+    go (ImportMemory l) e h low = rw (or-false table, or-true memory)
+        (memory_follows s g m i l table memory number rest e h (λ is. can (ap tests e ∙ is)) low)
+    go (ImportGlobal t mutable) e h low = rw (or-false table, or-false memory)
+        (global_follows s g m i t mutable table memory number rest e h few)
 
 -- ---- imports in order
 
@@ -92,12 +70,7 @@ takes_follow : (s : LinkedSet) (g : Seat) (m : NamedModule) (spare : ℕ) (table
     → FollowsTasks s g spare (IsTaking s g m table memory number) (takes_from m number imports ++ rest) (map Take imports ++ tasks)
 takes_follow s g m spare table memory number [] rest tasks few taken can low behind = behind
 takes_follow s g m spare table memory number (i ∷ imports) rest tasks few taken can low behind =
-    subst (λ stmts. FollowsTasks s g spare (IsTaking s g m table memory number) stmts (Take i ∷ (map Take imports ++ tasks)))
-    (sym (append_assoc (take_stmts m number i) (takes_from m (next_number number i) imports) rest))
-    (and_others s g spare (IsTaking s g m table memory number) (Take i)
-    (IsTaking s g m (table || is_table_import i) (memory || is_memory_import i) (next_number number i))
-    (take_stmts m number i ++ (takes_from m (next_number number i) imports ++ rest)) (takes_from m (next_number number i) imports ++ rest)
-    (map Take imports ++ tasks) refl
+    rw (append_assoc (take_stmts m number i) (takes_from m (next_number number i) imports) rest) (and_just refl
     (import_follows s g m table memory number i (takes_from m (next_number number i) imports ++ rest) few taken.0 can.0 low.0)
     (takes_follow s g m spare (table || is_table_import i) (memory || is_memory_import i)
     (next_number number i) imports rest tasks few taken.1 can.1 low.1 behind))
@@ -139,34 +112,19 @@ number_is number (i ∷ imports) apart = go (number_is number imports apart) (nu
     go same more false is true func = rw (func, is) same
     go same more false is false func = rw (func, is) same
 
-global_is_taken : (i : Import) → is_global_import i ≡ true → is_func_import i ≡ false
-global_is_taken i = go i.kind
-  where
-    go : (kind : ImportKind) → is_global kind ≡ true → is_func kind ≡ false
-    go (ImportFunc t) e = absurd cc
-    go _ e = refl
+-- what is of another kind is no function
+is_taken_kind : (test : ImportKind → Bool) → ((t : ℕ) → test (ImportFunc t) ≡ false) → (kind : ImportKind) → test kind ≡ true
+    → is_func kind ≡ false
+is_taken_kind test none (ImportFunc t) e = let no : test (ImportFunc t) ≡ false = none t in absurd cc
+is_taken_kind test none _ e = refl
 
-table_is_taken : (i : Import) → is_table_import i ≡ true → is_func_import i ≡ false
-table_is_taken i = go i.kind
-  where
-    go : (kind : ImportKind) → is_table kind ≡ true → is_func kind ≡ false
-    go (ImportFunc t) e = absurd cc
-    go _ e = refl
-
-memory_is_taken : (i : Import) → is_memory_import i ≡ true → is_func_import i ≡ false
-memory_is_taken i = go i.kind
-  where
-    go : (kind : ImportKind) → is_memory kind ≡ true → is_func kind ≡ false
-    go (ImportFunc t) e = absurd cc
-    go _ e = refl
-
-taken_is_making : (s : LinkedSet) (g : Seat) (m : NamedModule) (table memory : Bool) (number : ℕ) (mach : state.Machine)
-    (made : store.Store) (trail : Trail) (vars : state.Vars)
+taken_is_making : (s : LinkedSet) (g : Seat) (m : NamedModule) (table memory : Bool) (number : ℕ)
     → ((i : Import) → slice_get (table_imports m.tree) 0 ≡ Some i → table ≡ true)
     → ((i : Import) → slice_get (memory_imports m.tree) 0 ≡ Some i → memory ≡ true)
     → number ≡ imported_globals m.tree
+    → (mach : state.Machine) (made : store.Store) (trail : Trail) (vars : state.Vars)
     → IsTaking s g m table memory number mach made trail vars → IsMaking s g m false false [] mach made trail vars
-taken_is_making s g m table memory number mach made trail vars tables memories count here = record {
+taken_is_making s g m table memory number tables memories count mach made trail vars here = record {
   o = store.no_objects;
   x = here.x;
   own = record {
@@ -194,11 +152,11 @@ pub taking_follows : (s : LinkedSet) (g : Seat) (m : NamedModule) (spare : ℕ) 
     → FollowsTasks s g spare (IsTaking s g m false false 0) (takes_from m 0 (filter is_taken m.tree.imports) ++ rest)
     (map Take (filter is_taken m.tree.imports) ++ tasks)
 taking_follows s g m spare rest tasks few taken can low behind =
-    takes_follow s g m spare false false 0 (filter is_taken m.tree.imports) rest tasks few taken can low
-    (λ n made trail mach vars here. behind n made trail mach vars
-    (taken_is_making s g m (flag_after is_table_import false (filter is_taken m.tree.imports))
-    (flag_after is_memory_import false (filter is_taken m.tree.imports))
-    (number_after 0 (filter is_taken m.tree.imports)) mach made trail vars
-    (λ i e. flag_found is_table_import table_is_taken false m.tree.imports i e)
-    (λ i e. flag_found is_memory_import memory_is_taken false m.tree.imports i e)
-    (number_is 0 m.tree.imports global_is_taken ∙ omega arith) here))
+    let all : List Import = m.tree.imports in
+    let imports : List Import = filter is_taken all in
+    takes_follow s g m spare false false 0 imports rest tasks few taken can low
+    (at_stage (taken_is_making s g m (flag_after is_table_import false imports) (flag_after is_memory_import false imports)
+    (number_after 0 imports)
+    (λ i e. flag_found is_table_import (λ i. is_taken_kind is_table (λ t. refl) i.kind) false all i e)
+    (λ i e. flag_found is_memory_import (λ i. is_taken_kind is_memory (λ t. refl) i.kind) false all i e)
+    (number_is 0 all (λ i. is_taken_kind is_global (λ t. refl) i.kind) ∙ omega arith)) behind)

@@ -10,12 +10,12 @@ pub use Rattle.std.proofs.lemmas.Option.{none-some, same_Some, slice_get_within}
 pub use Rattle.std.specs.List.{AllByRecursion, list_any, range_with_len}
 pub use Rattle.std.specs.Option.{option_or}
 pub use Rattle.std.specs.Prelude.{⊤}
-pub use Rattle.w2c_base.proofs.Lists.{all_behind, all_front, all_set, all_weaker, get_behind, still_all, unseen}
+pub use Rattle.w2c_base.proofs.Lists.{all_behind, all_front, all_set, all_weaker, still_all, unseen}
 pub use Rattle.w2c_base.proofs.OfEach.{all_at, all_push}
 pub use Rattle.w2c_base.proofs.Places.{get_within, set_same, set_there}
 pub use Rattle.w2c_base.specs.Lookup.{if_found, named, numbered, with_named}
 pub use Rattle.w2c_base.specs.Run.{Trail}
-pub use Rattle.w2c_base.specs.Values.{IsNumber, number_of, pattern_of, type_of, types_of, value}
+pub use Rattle.w2c_base.specs.Values.{IsNumber, pattern_of, type_of, types_of, value}
 pub use Rattle.w2c_base.specs.declared.signature.FuncType.{FuncType}
 pub use Rattle.w2c_base.specs.declared.trap.TrapKind.{TrapKind}
 pub use Rattle.w2c_base.specs.declared.trap.TrapKind.TheVariants.{ImportLimits, SegmentOut}
@@ -48,7 +48,7 @@ pub use Rattle.c_tree.specs.Scope.{Name}
 pub use Rattle.c_tree.specs.declared.tree.COp.{COp}
 pub use Rattle.c_tree.specs.declared.tree.CType.TheVariants.{Void}
 pub use Rattle.wasm_meaning.specs.Execution.{of_type}
-pub use Rattle.wasm_meaning.specs.LinkedSet.{GlobalAddress, LinkedSet, ModuleFunc, as_memory, as_table, func_at, global_at, import_at}
+pub use Rattle.wasm_meaning.specs.LinkedSet.{GlobalAddress, LinkedSet, ModuleFunc, global_at}
 pub use Rattle.wasm_meaning.specs.LinkedSet.{memory_at, module_at, table_at}
 pub use Rattle.wasm_meaning.specs.Run.{Begin, CallStart, MakeGlobal, MakeMemory, MakeTable, Take, Task, TestData, TestElements, WriteByte}
 pub use Rattle.wasm_meaning.specs.Run.{WriteElement, as_offset, constant_of, do_task, done, is_free, limits_fit, max_fits}
@@ -58,14 +58,14 @@ pub use Rattle.c_meaning.proofs.Ways.{join, stays, step}
 pub use Rattle.c_meaning.specs.Linking.{Program, array_named, func_named}
 pub use Rattle.c_meaning.specs.Machine.{var_in, with_var}
 pub use Rattle.c_meaning.specs.Operators.{operate, truth}
-pub use Rattle.c_meaning.specs.Primitives.{Effect, Gives, IsUndefined, NoEffect, gives, mem_len, mem_max, mem_new, primitive, put, put_at}
+pub use Rattle.c_meaning.specs.Primitives.{Effect, Gives, NoEffect, gives, mem_len, mem_max, mem_new, primitive, put, put_at}
 pub use Rattle.c_meaning.specs.Primitives.{set_element, tab_len, tab_max, tab_new, tab_set, with_content, with_element}
 pub use Rattle.c_meaning.specs.Reaches.{Reaches}
 pub use Rattle.c_meaning.specs.Run.{Going, Over, Pending, Progress, Stopped, go_on, over}
-pub use Rattle.c_meaning.specs.State.{CValue, Frame, FuncAddress, Is, Machine, Number, ObjectAddress, Pointer, Running, State, Stuck, Vars}
-pub use Rattle.c_meaning.specs.Step.{Next, Step, Stops, after_label, as_object, assign, assign_depth, at_rest, begin, c_step, call}
-pub use Rattle.c_meaning.specs.Step.{call_callee, element, evaluate, evaluate_arg, evaluate_args, give, in_unit, jump, locals_of, next}
-pub use Rattle.c_meaning.specs.Step.{number_in, place_of, put_in, take_effect, value_of, with_value, with_vars}
+pub use Rattle.c_meaning.specs.State.{CValue, Frame, FuncAddress, Is, Machine, Number, ObjectAddress, Pointer, Running, State, Vars}
+pub use Rattle.c_meaning.specs.Step.{Next, Step, Stops, after_label, assign, begin, c_step, call}
+pub use Rattle.c_meaning.specs.Step.{element, evaluate, evaluate_arg, evaluate_args, give, jump, locals_of}
+pub use Rattle.c_meaning.specs.Step.{number_in, put_in, value_of}
 pub use Rattle.alike.specs.Agree.{Agrees, AreReady, ElementAgrees, ElementsAgree, IsCallable, IsCallableIfAny, IsMade, MemoriesAgree}
 pub use Rattle.alike.specs.Agree.{MemoryAgrees, ObjectsAgree, PointersAreSet, PointsTo, TableAgrees, TablesAgree}
 pub use Rattle.alike.specs.Alike.{GlobalsAlike, first_global}

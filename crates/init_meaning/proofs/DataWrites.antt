@@ -1,32 +1,33 @@
 -- The loops that write data segments against the task WriteByte (WebAssembly Core 1.0, 4.5.4).
-use Rattle.init_meaning.proofs.Common.{all_behind, as_offset, constant_of, if_found, ◌≡◌, ℕ, zero, suc, ◌+◌, ◌%◌, ◌^◌, ◌<◌, ◌≤◌, Bool, true}
-use Rattle.init_meaning.proofs.Common.{false, ◌||◌, ◌≢◌, ◌⊎◌, List, [], ◌∷◌, ◌++◌, map, length, take, drop, if◌then◌else◌, nat_lt, nat_le}
-use Rattle.init_meaning.proofs.Common.{slice_get, slice_set, Some, None, codes, Option, zip, flat_map, sym, refl, ap, ◌∙◌, subst, inl, inr}
+use Rattle.init_meaning.proofs.Common.{put_at, element, all_behind, ◌≡◌, ℕ, zero, suc, ◌+◌, ◌%◌, ◌^◌, ◌<◌, ◌≤◌, Bool, true, false, ◌||◌}
+use Rattle.init_meaning.proofs.Common.{List, [], ◌∷◌, ◌++◌, map, length, take, drop, if◌then◌else◌, nat_lt, nat_le, slice_get, slice_set}
+use Rattle.init_meaning.proofs.Common.{Some, None, codes, zip, flat_map, sym, refl, ap, ◌∙◌, subst, inl, inr, slice_get_within}
 use Rattle.init_meaning.proofs.Common.{append_assoc, arith, length-set, or_right, AllByRecursion, list_any, range_with_len, all_at, named}
-use Rattle.init_meaning.proofs.Common.{numbered, with_named, Trail, number_of, Value, I32, I64, Code, ElementEntry, SegmentEntry, Module}
-use Rattle.init_meaning.proofs.Common.{LinkedSet, NamedModule, memory_at, Task, WriteByte, do_task, done, named-with_named, join}
-use Rattle.init_meaning.proofs.Common.{array_named, truth, Gives, IsUndefined, NoEffect, put, put_at, with_content, Reaches, after_label}
-use Rattle.init_meaning.proofs.Common.{element, sides, all_set, memory_object, together_memory, MemoryAgrees, label_name, memory_arg}
-use Rattle.init_meaning.proofs.Common.{byte_name, data_name, has_bytes, loop_label, n64, place_expr, write_data}
+use Rattle.init_meaning.proofs.Common.{numbered, with_named, Trail, Value, I32, I64, Code, ElementEntry, SegmentEntry, Module, LinkedSet}
+use Rattle.init_meaning.proofs.Common.{NamedModule, memory_at, Task, WriteByte, do_task, done, named-with_named, array_named, truth, Gives}
+use Rattle.init_meaning.proofs.Common.{put, with_content, Reaches, after_label, sides, all_set, memory_object, together_memory}
+use Rattle.init_meaning.proofs.Common.{MemoryAgrees, label_name, memory_arg, byte_name, data_name, has_bytes, loop_label, n64, place_expr}
+use Rattle.init_meaning.proofs.Common.{write_data}
 use Rattle.std.proofs.Common.{length-append}
 use Rattle.w2c_base.proofs.Places.{right_behind}
 use Rattle.alike.proofs.Placed.{placed_back, placed_front}
 use Rattle.w2c_base.specs.declared.value.ValType.TheVariants as type
-use Rattle.w2c_base.specs.LittleEndian.{with_bytes, low_bytes}
+use Rattle.w2c_base.specs.LittleEndian.{with_bytes}
 use Rattle.w2c_base.proofs.Numbers.{below_is_found}
 use Rattle.wasm_meaning.specs.Store as store
 use Rattle.c_tree.specs.declared.tree.COp.TheVariants as op
 use Rattle.c_tree.specs.Tree as c
 use Rattle.alike.specs.Placed.{IsPlaced}
+use Rattle.c_meaning.specs.Primitives.{on_memory}
 use Rattle.c_meaning.specs.State as state
 use Rattle.c_meaning.specs.Machine as machine
 use Rattle.c_init.specs.Instantiable.{DataIsValid}
-use Rattle.init_meaning.proofs.SegmentTests.{within_object, size_there, with_all, memory_size, DataFits, AreTested}
+use Rattle.init_meaning.proofs.SegmentTests.{within_object, size_there, memory_size, DataFits, AreTested}
 use Rattle.c_init.proofs.Small.{at_least}
 use Rattle.init_meaning.proofs.Held.{held_there}
-use Rattle.init_meaning.proofs.InitStatements.{Seat, at, Evaluates, Gets, GetsAll, gets_one, effect_goes, effect_behind_label}
-use Rattle.init_meaning.proofs.InitStatements.{set_local_goes, test_goes, test_jumps}
-use Rattle.init_meaning.proofs.InitRuns.{Stage, FollowsTask, FollowsTasks, and_others, and_others_gaining}
+use Rattle.init_meaning.proofs.InitStatements.{Seat, at, Evaluates, Gets, GetsAll, effect_goes, effect_behind_label}
+use Rattle.init_meaning.proofs.InitStatements.{joined, set_local_goes, test_goes, test_jumps}
+use Rattle.init_meaning.proofs.InitRuns.{Stage, FollowsTask, FollowsTasks, and_others, gained, more_gained, more_spare}
 use Rattle.init_meaning.proofs.InitConstants.{OffsetFound, place_gets}
 use Rattle.init_meaning.proofs.InitTests.{IsWide, locals_kept, local_evaluates, operates}
 use Rattle.init_meaning.specs.Owners.{MemoryOwner}
@@ -53,11 +54,7 @@ puts_byte : (m : state.Machine) (a : state.ObjectAddress) (memory : state.Memory
     → put 1 type.I32 (state.Pointer (Some a) ∷ state.Number (I64 place) ∷ state.Number (I32 b) ∷ []) m
     ≡ Gives (machine.with_memory m a (with_content memory (slice_set memory.bytes place b))) None
 puts_byte m a memory place b there is within small =
-    ap (λ (o : Option state.Memory). elim o [ None ↦ NoEffect | Some memory ↦ put_at 1 place b m a memory ]) there
-    ∙ ap (λ t. if t then Gives (machine.with_memory m a (with_content memory (with_bytes memory.bytes place (low_bytes 1 b)))) None else
-    IsUndefined 6) is
-    ∙ ap (λ x. Gives (machine.with_memory m a (with_content memory (with_bytes memory.bytes place (x ∷ [])))) None) (small_byte b small)
-    ∙ ap (λ bytes. Gives (machine.with_memory m a (with_content memory bytes)) None) (byte_set memory.bytes place b within)
+    rw (there, put, on_memory) (rw (is, put_at) (rw (small_byte b small, byte_set memory.bytes place b within) refl))
 
 -- ---- the statements
 
@@ -130,25 +127,21 @@ byte_written s g m elements segments k d i b n j start rest mach made trail firs
   machine = after;
   new = store.with_memory made o.owner new;
   locals = vars';
-  does = λ n. with_all {A = store.Memory} (memory_at s g.unit d.memory) (store.memory_in made)
-      (if_found (constant_of s g.unit made d.offset) as_offset) made trail
-      (λ owner m offset. done n (store.with_memory made owner (record { bytes = slice_set m.bytes (offset + i) b; max = m.max })) trail)
-      o.owner found.memory offset.offset owner_is found.memory_is offset.is;
+  does = λ n. rw (owner_is, found.memory_is, offset.is) refl;
   next = record {
     tested = with_local s g m elements segments byte_name (i + 1) after
         (store.with_memory made o.owner new) trail vars byte_wide still;
     byte_is = named-with_named byte_name (state.Number (I64 (i + 1))) vars
         (held_there byte_name vars (state.Number (I64 0)) byte_wide);
   };
-  way = join g.program j 1 (at g mach start first_vars) (at g after (counts k n rest) vars)
-      (at g after (c.If op.Lt (c.Name byte_name) (n64 n) (label_name (loop_label k)) ∷ rest) vars')
+  way = joined
       (first after values gets (puts_byte mach (memory_object o.owner) found.other place b found.other_is is_within within small))
       (set_local_goes g after byte_name (c.Value next_byte) (state.Number (I64 (i + 1)))
       (c.If op.Lt (c.Name byte_name) (n64 n) (label_name (loop_label k)) ∷ rest) vars refl byte_wide number_gets);
 }
   where
     o : MemoryOwner s g.unit m.tree
-    o = a.memory w.valid.there
+    o = a.known.memory w.valid.there
 
     found : MemoryFound s g m mach made vars o.owner
     found = memory_found s g m mach made trail vars a here.tested.filled o
@@ -217,38 +210,24 @@ byte_written s g m elements segments k d i b n j start rest mach made trail firs
     number m = local_evaluates g m vars byte_name (I64 i) refl here.byte_is
 
     number_gets : Gets g after vars (c.Value next_byte) (state.Number (I64 (i + 1)))
-    number_gets rest = ap (λ x. state.then_evaluate x (λ (v : Value). state.Is (state.Number v)))
-        (operates g after vars op.Add (c.Name byte_name) (n64 1) (I64 i) (I64 1) (I64 (i + 1)) (number after) (λ rest. refl)
-        (ap (λ k. state.Is (I64 k)) (next_fits i few)) rest)
+    number_gets rest = rw (number after rest, next_fits i few) refl
 
     values : List state.CValue
     values = state.Pointer (Some (memory_object o.owner)) ∷ state.Number (I64 place) ∷ state.Number (I32 b) ∷ []
 
     byte_gets : Gets g mach vars (c.Value (c.To32 (c.At (data_name k) (c.Name byte_name)))) (state.Number (I32 b))
-    byte_gets rest =
-        ap (λ x. state.then_evaluate (state.then_evaluate
-        (state.then_evaluate x (λ i. state.then_evaluate (state.found (array_named g.program g.unit (data_name k)))
-        (λ bytes. element bytes (number_of i)))) (λ v. state.Is (I32 (number_of v % 2 ^ 32)))) (λ (v : Value). state.Is (state.Number v)))
-        (number mach rest)
-        ∙ ap (λ x. state.then_evaluate (state.then_evaluate (state.then_evaluate (state.found x) (λ bytes. element bytes i))
-        (λ v. state.Is (I32 (number_of v % 2 ^ 32)))) (λ (v : Value). state.Is (state.Number v))) w.array
-        ∙ ap (λ (x : Option ℕ). state.then_evaluate
-        (state.then_evaluate (elim x [ None ↦ state.Bad 3 | Some byte ↦ state.Is (I32 byte) ]) (λ v. state.Is (I32 (number_of v % 2 ^ 32))))
-        (λ (v : Value). state.Is (state.Number v))) b_is
-        ∙ ap (λ b. state.Is (state.Number (I32 b))) (small_32 b small)
+    byte_gets rest = rw (number mach rest, w.array) (rw (b_is, element) (rw (small_32 b small) refl))
 
     gets : GetsAll g mach vars (byte_args m.tree k d.offset) values
-    gets =
-        gets_one g mach vars (memory_arg m.tree) (c.Value (place_expr m.tree d.offset (c.Name byte_name)) ∷ c.Value
-        (c.To32 (c.At (data_name k) (c.Name byte_name))) ∷ [])
-        (state.Pointer (Some (memory_object o.owner))) (state.Number (I64 place) ∷ state.Number (I32 b) ∷ []) found.gets
-        (gets_one g mach vars (c.Value (place_expr m.tree d.offset (c.Name byte_name)))
-        (c.Value (c.To32 (c.At (data_name k) (c.Name byte_name))) ∷ []) (state.Number (I64 place)) (state.Number (I32 b) ∷ [])
-        (place_gets g m.tree mach vars d.offset (c.Name byte_name) offset.offset i offset.evaluates (number mach) offset.small few)
-        (gets_one g mach vars (c.Value (c.To32 (c.At (data_name k) (c.Name byte_name)))) [] (state.Number (I32 b)) [] byte_gets
-        (λ rest. refl)))
+    gets rest =
+        let at_place : Gets g mach vars (c.Value (place_expr m.tree d.offset (c.Name byte_name))) (state.Number (I64 place)) =
+        place_gets g m.tree mach vars d.offset (c.Name byte_name) offset.offset i offset.evaluates (number mach) offset.small few in
+        rw (found.gets rest, at_place rest, byte_gets rest) refl
 
 -- ---- the loop
+
+byte_at : (i b : ℕ) (bytes : List ℕ) → slice_get bytes (i + 0) ≡ Some b → slice_get bytes i ≡ Some b
+byte_at i b bytes is = let e : i ≡ i + 0 = omega arith in ap (slice_get bytes) e ∙ is
 
 turn_test : (s : LinkedSet) (g : Seat) (m : NamedModule) (elements : List ElementEntry) (segments : List SegmentEntry) (i n : ℕ) (t : Bool)
     (mach : state.Machine) (made : store.Store) (trail : Trail) (vars : state.Vars)
@@ -285,8 +264,7 @@ module _ (s : LinkedSet) (g : Seat) (m : NamedModule) (elements : List ElementEn
       byte_is = named-with_named byte_name (state.Number (I64 0)) vars
           (held_there byte_name vars (state.Number (I64 0)) wide);
     },
-    λ after values gets gives. join g.program 1 1
-        (at g mach (c.Set byte_name (c.Value (n64 0)) ∷ labelled) vars) (at g mach labelled vars') (at g after (counts k n rest) vars')
+    λ after values gets gives. joined
         (set_local_goes g mach byte_name (c.Value (n64 0)) (state.Number (I64 0)) labelled vars refl wide (λ rest. refl))
         (effect_behind_label g mach after (label_name (loop_label k)) (codes "w2c_put1") (byte_args m.tree k d.offset)
         (counts k n rest) vars' values (put 1 type.I32) gets refl gives),
@@ -301,109 +279,70 @@ module _ (s : LinkedSet) (g : Seat) (m : NamedModule) (elements : List ElementEn
       wide : IsWide byte_name vars
       wide = here.filled.locals.byte used
 
-  -- the last byte, and one behind which there are more
-  last_byte : (from : Stage) (i b n j : ℕ) (start : List c.Stmt) → j ≤ 2 → Surroundings s g m → IsWritten g m elements segments k d
-      → slice_get d.bytes i ≡ Some b
-      → i + 1 ≡ length d.bytes → n ≡ length d.bytes → Enters from n i j start
-      → FollowsTask s g from (WriteByte d i b) (AreTested s g m elements segments) start rest
-  last_byte from i b n j start few a w b_is end n_is enters mach made trail first_vars here = inl (record {
+  -- behind a byte the loop's next turn stands, or what is behind the loop
+  abbrev Behind : Bool → ℕ → Stage
+  Behind true i = InLoop s g m elements segments i
+  Behind false i = AreTested s g m elements segments
+
+  abbrev behind_byte : Bool → ℕ → List c.Stmt
+  behind_byte true n = loop m.tree k d.offset n rest
+  behind_byte false n = rest
+
+  abbrev LoopIsFound : ℕ → Type 0
+  LoopIsFound n = after_label (label_name (loop_label k)) g.stmts ≡ Some (loop m.tree k d.offset n rest)
+
+  byte_follows : (more : Bool) (from : Stage) (i b n j : ℕ) (start : List c.Stmt) → j ≤ 2 → Surroundings s g m
+      → IsWritten g m elements segments k d → slice_get d.bytes i ≡ Some b → nat_lt (i + 1) n ≡ more → Enters from n i j start
+      → LoopIsFound n → FollowsTask s g from (WriteByte d i b) (Behind more (i + 1)) start (behind_byte more n)
+  byte_follows more from i b n j start few a w b_is more_is enters found mach made trail first_vars here = inl (record {
     machine = r.machine;
     new = r.new;
     locals = r.locals;
     does = r.does;
-    reached = r.next.tested;
+    reached = reached more;
     statements = j + 1 + 1;
     some = omega arith;
     few = omega (arith, few);
-    way = join g.program (j + 1) 1 (at g mach start first_vars)
-        (at g r.machine (c.If op.Lt (c.Name byte_name) (n64 n) (label_name (loop_label k)) ∷ rest) r.locals) (at g r.machine rest r.locals)
-        r.way
-        (test_goes g r.machine op.Lt (c.Name byte_name) (n64 n) (label_name (loop_label k)) rest r.locals
-        (turn_test s g m elements segments (i + 1) n false r.machine r.new trail r.locals r.next
-        (at_least (i + 1) n (omega (arith, end, n_is)))));
+    way = joined r.way (turn more more_is);
   })
     where
       e : (vars : state.Vars) × InLoop s g m elements segments i mach made trail vars × First g m k d n j start rest mach first_vars vars
       e = enters mach made trail first_vars here
 
       r : ByteWritten s g m elements segments k d i b n j start rest mach made trail first_vars
-      r = byte_written s g m elements segments k d i b n j start rest mach made trail first_vars e.0 a w b_is (omega (arith, end)) e.2 e.1
+      r = byte_written s g m elements segments k d i b n j start rest mach made trail first_vars e.0 a w b_is
+          (slice_get_within d.bytes i b b_is) e.2 e.1
 
-  next_turn : (from : Stage) (i b n j : ℕ) (start : List c.Stmt) → j ≤ 2 → Surroundings s g m → IsWritten g m elements segments k d
-      → slice_get d.bytes i ≡ Some b
-      → i + 1 < length d.bytes → n ≡ length d.bytes → Enters from n i j start
-      → after_label (label_name (loop_label k)) g.stmts ≡ Some (loop m.tree k d.offset n rest)
-      → FollowsTask s g from (WriteByte d i b) (InLoop s g m elements segments (i + 1)) start (loop m.tree k d.offset n rest)
-  next_turn from i b n j start few a w b_is more n_is enters found mach made trail first_vars here = inl (record {
-    machine = r.machine;
-    new = r.new;
-    locals = r.locals;
-    does = r.does;
-    reached = r.next;
-    statements = j + 1 + 1;
-    some = omega arith;
-    few = omega (arith, few);
-    way = join g.program (j + 1) 1 (at g mach start first_vars)
-        (at g r.machine (c.If op.Lt (c.Name byte_name) (n64 n) (label_name (loop_label k)) ∷ rest) r.locals)
-        (at g r.machine (loop m.tree k d.offset n rest) r.locals)
-        r.way
-        (test_jumps g r.machine op.Lt (c.Name byte_name) (n64 n) (label_name (loop_label k)) (loop m.tree k d.offset n rest) rest r.locals
-        (turn_test s g m elements segments (i + 1) n true r.machine r.new trail r.locals r.next
-        (below_is_found (i + 1) n (omega (arith, more, n_is)))) found);
-  })
-    where
-      e : (vars : state.Vars) × InLoop s g m elements segments i mach made trail vars × First g m k d n j start rest mach first_vars vars
-      e = enters mach made trail first_vars here
+      reached : (more : Bool) → Behind more (i + 1) r.machine r.new trail r.locals
+      reached true = r.next
+      reached false = r.next.tested
 
-      r : ByteWritten s g m elements segments k d i b n j start rest mach made trail first_vars
-      r = byte_written s g m elements segments k d i b n j start rest mach made trail first_vars e.0 a w b_is (omega (arith, more)) e.2 e.1
+      turn : (more : Bool) → nat_lt (i + 1) n ≡ more
+          → Reaches g.program 1 (at g r.machine (c.If op.Lt (c.Name byte_name) (n64 n) (label_name (loop_label k)) ∷ rest) r.locals)
+          (at g r.machine (behind_byte more n) r.locals)
+      turn true is = test_jumps g r.machine op.Lt (c.Name byte_name) (n64 n) (label_name (loop_label k)) (loop m.tree k d.offset n rest)
+          rest r.locals (turn_test s g m elements segments (i + 1) n true r.machine r.new trail r.locals r.next is) found
+      turn false is = test_goes g r.machine op.Lt (c.Name byte_name) (n64 n) (label_name (loop_label k)) rest r.locals
+          (turn_test s g m elements segments (i + 1) n false r.machine r.new trail r.locals r.next is)
 
-  -- the bytes from number i on
+  -- the bytes from number i on, which leave two statements to spare
   bytes_from : (from : Stage) (spare n i b j : ℕ) (bytes : List ℕ) (start : List c.Stmt) (tasks : List Task) → j ≤ 2
       → Surroundings s g m → IsWritten g m elements segments k d
-      → i + suc (length bytes) ≡ length d.bytes → n ≡ length d.bytes → ((j : ℕ) → slice_get (b ∷ bytes) j ≡ slice_get d.bytes (i + j))
-      → Enters from n i j start → after_label (label_name (loop_label k)) g.stmts ≡ Some (loop m.tree k d.offset n rest)
-      → FollowsTasks s g spare (AreTested s g m elements segments) rest tasks
-      → FollowsTasks s g spare from start
-      (map (λ (b : ℕ × ℕ). WriteByte d b.0 b.1) (zip (range_with_len i (suc (length bytes))) (b ∷ bytes)) ++ tasks)
-  bytes_from from spare n i b j [] start tasks few a w end n_is same enters found behind =
-      and_others s g spare from (WriteByte d i b) (AreTested s g m elements segments) start rest tasks refl
-      (last_byte from i b n j start few a w (let e : i + 0 ≡ i = omega arith in sym (same 0 ∙ ap (slice_get d.bytes) e))
-      (omega (arith, end)) n_is enters)
-      behind
-  bytes_from from spare n i b j (x ∷ bytes) start tasks few a w end n_is same enters found behind =
-      and_others s g spare from (WriteByte d i b) (InLoop s g m elements segments (i + 1)) start (loop m.tree k d.offset n rest)
-      (map (λ (b : ℕ × ℕ). WriteByte d b.0 b.1) (zip (range_with_len (i + 1) (suc (length bytes))) (x ∷ bytes)) ++ tasks) refl
-      (next_turn from i b n j start few a w (let e : i + 0 ≡ i = omega arith in sym (same 0 ∙ ap (slice_get d.bytes) e))
-      (omega (arith, end)) n_is enters found)
-      (bytes_from (InLoop s g m elements segments (i + 1)) spare n (i + 1) x 1 bytes (loop m.tree k d.offset n rest) tasks (omega arith) a w
-      (omega (arith, end)) n_is
-      (λ j. let e : i + suc j ≡ i + 1 + j = omega arith in same (suc j) ∙ ap (slice_get d.bytes) e)
-      (enters_loop n (i + 1)) found behind)
-
-  -- the first of them leaves two statements to spare
-  bytes_gain : (from : Stage) (spare n i b j : ℕ) (bytes : List ℕ) (start : List c.Stmt) (tasks : List Task) → j ≤ 2
-      → Surroundings s g m → IsWritten g m elements segments k d
-      → i + suc (length bytes) ≡ length d.bytes → n ≡ length d.bytes → ((j : ℕ) → slice_get (b ∷ bytes) j ≡ slice_get d.bytes (i + j))
-      → Enters from n i j start → after_label (label_name (loop_label k)) g.stmts ≡ Some (loop m.tree k d.offset n rest)
+      → n ≡ i + suc (length bytes) → ((j : ℕ) → slice_get (b ∷ bytes) j ≡ slice_get d.bytes (i + j))
+      → Enters from n i j start → LoopIsFound n
       → FollowsTasks s g (spare + 2) (AreTested s g m elements segments) rest tasks
       → FollowsTasks s g spare from start
       (map (λ (b : ℕ × ℕ). WriteByte d b.0 b.1) (zip (range_with_len i (suc (length bytes))) (b ∷ bytes)) ++ tasks)
-  bytes_gain from spare n i b j [] start tasks few a w end n_is same enters found behind =
-      and_others_gaining s g spare from (WriteByte d i b) (AreTested s g m elements segments) start rest tasks refl
-      (last_byte from i b n j start few a w (let e : i + 0 ≡ i = omega arith in sym (same 0 ∙ ap (slice_get d.bytes) e))
-      (omega (arith, end)) n_is enters)
-      behind
-  bytes_gain from spare n i b j (x ∷ bytes) start tasks few a w end n_is same enters found behind =
-      and_others_gaining s g spare from (WriteByte d i b) (InLoop s g m elements segments (i + 1)) start (loop m.tree k d.offset n rest)
-      (map (λ (b : ℕ × ℕ). WriteByte d b.0 b.1) (zip (range_with_len (i + 1) (suc (length bytes))) (x ∷ bytes)) ++ tasks) refl
-      (next_turn from i b n j start few a w (let e : i + 0 ≡ i = omega arith in sym (same 0 ∙ ap (slice_get d.bytes) e))
-      (omega (arith, end)) n_is enters found)
+  bytes_from from spare n i b j [] start tasks few a w end same enters found behind =
+      and_others refl (byte_follows false from i b n j start few a w (byte_at i b d.bytes (sym (same 0)))
+      (at_least (i + 1) n (omega (arith, end))) enters found) behind
+  bytes_from from spare n i b j (x ∷ bytes) start tasks few a w end same enters found behind =
+      and_others refl (byte_follows true from i b n j start few a w (byte_at i b d.bytes (sym (same 0)))
+      (below_is_found (i + 1) n (omega (arith, end))) enters found)
       (bytes_from (InLoop s g m elements segments (i + 1)) (spare + 2) n (i + 1) x 1 bytes (loop m.tree k d.offset n rest) tasks
-      (omega arith) a w
-      (omega (arith, end)) n_is
+      (omega arith) a w (omega (arith, end))
       (λ j. let e : i + suc j ≡ i + 1 + j = omega arith in same (suc j) ∙ ap (slice_get d.bytes) e)
-      (enters_loop n (i + 1)) found behind)
+      (enters_loop n (i + 1)) found (more_spare (omega arith) behind))
 
 -- ---- all segments
 
@@ -413,151 +352,80 @@ write_bytes m k offset bytes = elim bytes [
   | b ∷ bytes ↦ c.Set byte_name (c.Value (n64 0)) ∷ c.Label (label_name (loop_label k)) ∷ loop m k offset (suc (length bytes)) []
 ]
 
-module _ (s : LinkedSet) (g : Seat) (m : NamedModule) (elements : List ElementEntry) (segments : List SegmentEntry) where
-  segment_written : (spare k : ℕ) (d : SegmentEntry) (bytes : List ℕ) (rest : List c.Stmt) (tasks : List Task) → d.bytes ≡ bytes
-      → Surroundings s g m → DataIsValid m.tree d → ((P : SegmentEntry → Type 0) → AllByRecursion P segments → P d)
-      → (0 < length d.bytes → array_named g.program g.unit (data_name k) ≡ Some d.bytes)
-      → (0 < length bytes → list_any has_bytes m.tree.segments ≡ true)
-      → IsPlaced g.stmts (write_bytes m.tree k d.offset bytes) rest
-      → FollowsTasks s g spare (AreTested s g m elements segments) rest tasks
-      → FollowsTasks s g spare (AreTested s g m elements segments) (write_bytes m.tree k d.offset bytes ++ rest)
-      (map (λ (b : ℕ × ℕ). WriteByte d b.0 b.1) (numbered bytes) ++ tasks)
-  segment_written spare k d [] rest tasks is a valid among array counted placed behind = behind
-  segment_written spare k d (b ∷ bytes) rest tasks is a valid among array counted placed behind =
-      let size : length d.bytes ≡ suc (length bytes) = ap length is in
-      let w : IsWritten g m elements segments k d = record
-      { valid = valid; among = among; array = array (omega (arith, size)); counted = counted (omega arith) } in
-      bytes_from s g m elements segments k d rest (AreTested s g m elements segments) spare (suc (length bytes)) 0 b 2 bytes
-      (c.Set byte_name (c.Value (n64 0)) ∷ c.Label (label_name (loop_label k)) ∷ loop m.tree k d.offset (suc (length bytes)) rest) tasks
-      (omega arith) a w (omega (arith, size)) (sym size)
-      (λ j. let e : j ≡ 0 + j = omega arith in ap (λ bytes. slice_get bytes j) (sym is) ∙ ap (slice_get d.bytes) e)
-      (enters_first s g m elements segments k d rest (suc (length bytes)) w.counted) placed.0 behind
+any_middle : (front : List SegmentEntry) (d : SegmentEntry) (ds : List SegmentEntry) → has_bytes d ≡ true
+    → list_any has_bytes (front ++ d ∷ ds) ≡ true
+any_middle [] d ds is = ap (λ t. t || list_any has_bytes ds) is
+any_middle (x ∷ front) d ds is = or_right (has_bytes x) (list_any has_bytes (front ++ d ∷ ds)) (any_middle front d ds is)
 
-  -- a segment with bytes leaves two statements to spare
-  segment_gains : (spare k : ℕ) (d : SegmentEntry) (b : ℕ) (bytes : List ℕ) (rest : List c.Stmt) (tasks : List Task) → d.bytes ≡ b ∷ bytes
-      → Surroundings s g m → DataIsValid m.tree d → ((P : SegmentEntry → Type 0) → AllByRecursion P segments → P d)
-      → (0 < length d.bytes → array_named g.program g.unit (data_name k) ≡ Some d.bytes)
-      → list_any has_bytes m.tree.segments ≡ true
-      → IsPlaced g.stmts (write_bytes m.tree k d.offset (b ∷ bytes)) rest
-      → FollowsTasks s g (spare + 2) (AreTested s g m elements segments) rest tasks
-      → FollowsTasks s g spare (AreTested s g m elements segments) (write_bytes m.tree k d.offset (b ∷ bytes) ++ rest)
+abbrev pub tasks_of : List SegmentEntry → List Task
+tasks_of ds = flat_map (λ (d : SegmentEntry). map (λ (b : ℕ × ℕ). WriteByte d b.0 b.1) (numbered d.bytes)) ds
+
+module _ (s : LinkedSet) (g : Seat) (m : NamedModule) (a : Surroundings s g m) where
+  abbrev stage : Stage
+  stage = AreTested s g m m.tree.elements m.tree.segments
+
+  -- one with bytes, which stands among others
+  segment_written : (spare k : ℕ) (front : List SegmentEntry) (d : SegmentEntry) (behind : List SegmentEntry) (b : ℕ) (bytes : List ℕ)
+      (rest : List c.Stmt) (tasks : List Task) → d.bytes ≡ b ∷ bytes → m.tree.segments ≡ front ++ d ∷ behind → k ≡ length front
+      → DataIsValid m.tree d → IsPlaced g.stmts (write_bytes m.tree k d.offset (b ∷ bytes)) rest
+      → FollowsTasks s g (spare + 2) stage rest tasks
+      → FollowsTasks s g spare stage (write_bytes m.tree k d.offset (b ∷ bytes) ++ rest)
       (map (λ (b : ℕ × ℕ). WriteByte d b.0 b.1) (numbered (b ∷ bytes)) ++ tasks)
-  segment_gains spare k d b bytes rest tasks is a valid among array counted placed behind =
+  segment_written spare k front d behind b bytes rest tasks is whole at valid placed follows =
       let size : length d.bytes ≡ suc (length bytes) = ap length is in
-      let w : IsWritten g m elements segments k d = record
-      { valid = valid; among = among; array = array (omega (arith, size)); counted = counted } in
-      bytes_gain s g m elements segments k d rest (AreTested s g m elements segments) spare (suc (length bytes)) 0 b 2 bytes
+      let w : IsWritten g m m.tree.elements m.tree.segments k d = record {
+        valid = valid;
+        among = λ P all. (all_behind P front (d ∷ behind) (subst (AllByRecursion P) whole all)).0;
+        array = a.known.array k d (ap (λ ds. slice_get ds k) whole ∙ ap (slice_get (front ++ d ∷ behind)) at ∙ right_behind front d behind)
+            (omega (arith, size));
+        counted = ap (list_any has_bytes) whole
+            ∙ any_middle front d behind (ap (λ (bytes : List ℕ). elim bytes [ [] ↦ false | b ∷ rest ↦ true ]) is);
+      } in
+      bytes_from s g m m.tree.elements m.tree.segments k d rest stage spare (suc (length bytes)) 0 b 2 bytes
       (c.Set byte_name (c.Value (n64 0)) ∷ c.Label (label_name (loop_label k)) ∷ loop m.tree k d.offset (suc (length bytes)) rest) tasks
-      (omega arith) a w (omega (arith, size)) (sym size)
+      (omega arith) a w (omega arith)
       (λ j. let e : j ≡ 0 + j = omega arith in ap (λ bytes. slice_get bytes j) (sym is) ∙ ap (slice_get d.bytes) e)
-      (enters_first s g m elements segments k d rest (suc (length bytes)) w.counted) placed.0 behind
-
-  any_middle : (front : List SegmentEntry) (d : SegmentEntry) (ds : List SegmentEntry) → has_bytes d ≡ true
-      → list_any has_bytes (front ++ d ∷ ds) ≡ true
-  any_middle [] d ds is = ap (λ t. t || list_any has_bytes ds) is
-  any_middle (x ∷ front) d ds is = or_right (has_bytes x) (list_any has_bytes (front ++ d ∷ ds)) (any_middle front d ds is)
-
-  has_some : (d : SegmentEntry) → 0 < length d.bytes → has_bytes d ≡ true
-  has_some d some = go d.bytes some
-    where
-      go : (bytes : List ℕ) → 0 < length bytes → elim bytes [ [] ↦ false | b ∷ bytes ↦ true ] ≡ true
-      go [] some = absurd (omega (arith, some))
-      go (b ∷ bytes) some = refl
-
-  -- the array of a segment that stands there
-  array_there : (k : ℕ) (front : List SegmentEntry) (d : SegmentEntry) (behind : List SegmentEntry) → Surroundings s g m
-      → m.tree.segments ≡ front ++ d ∷ behind → k ≡ length front
-      → 0 < length d.bytes → array_named g.program g.unit (data_name k) ≡ Some d.bytes
-  array_there k front d behind a whole at some =
-      a.array k d (ap (λ ds. slice_get ds k) whole ∙ ap (slice_get (front ++ d ∷ behind)) at ∙ right_behind front d behind) some
+      (enters_first s g m m.tree.elements m.tree.segments k d rest (suc (length bytes)) w.counted) placed.0 follows
 
   abbrev pub stmts_from : ℕ → List SegmentEntry → List c.Stmt
   stmts_from k ds = flat_map (write_data m.tree) (zip (range_with_len k (length ds)) ds)
 
-  abbrev pub tasks_of : List SegmentEntry → List Task
-  tasks_of ds = flat_map (λ (d : SegmentEntry). map (λ (b : ℕ × ℕ). WriteByte d b.0 b.1) (numbered d.bytes)) ds
-
-  -- of segments that stand among others
-  pub writes_of_data : (spare k : ℕ) (front ds more : List SegmentEntry) (rest : List c.Stmt) (tasks : List Task) → Surroundings s g m
-      → m.tree.segments ≡ front ++ (ds ++ more) → segments ≡ m.tree.segments → k ≡ length front → AllByRecursion (DataIsValid m.tree) ds
+  -- Of segments that stand among others. Where one of them has bytes, they leave two statements to spare.
+  pub writes_of_data : (spare k : ℕ) (front ds more : List SegmentEntry) (rest : List c.Stmt) (tasks : List Task)
+      → m.tree.segments ≡ front ++ (ds ++ more) → k ≡ length front → AllByRecursion (DataIsValid m.tree) ds
       → IsPlaced g.stmts (stmts_from k ds) rest
-      → FollowsTasks s g spare (AreTested s g m elements segments) rest tasks
-      → FollowsTasks s g spare (AreTested s g m elements segments) (stmts_from k ds ++ rest) (tasks_of ds ++ tasks)
-  writes_of_data spare k front [] more rest tasks a whole same at valid placed behind = behind
-  writes_of_data spare k front (d ∷ ds) more rest tasks a whole same at valid placed behind =
-      subst (λ stmts. FollowsTasks s g spare stage stmts (tasks_of (d ∷ ds) ++ tasks))
-      (sym (append_assoc (write_data m.tree (k, d)) (stmts_from (k + 1) ds) rest))
-      (subst (λ ts. FollowsTasks s g spare stage (write_data m.tree (k, d) ++ others) ts)
-      (sym (append_assoc (map (λ (b : ℕ × ℕ). WriteByte d b.0 b.1) (numbered d.bytes)) (tasks_of ds) tasks))
-      (segment_written spare k d d.bytes others (tasks_of ds ++ tasks) refl a valid.0
-      (λ P all. (all_behind P front (d ∷ (ds ++ more)) (subst (AllByRecursion P) (same ∙ whole) all)).0)
-      (array_there k front d (ds ++ more) a whole at)
-      (λ some. ap (list_any has_bytes) whole ∙ any_middle front d (ds ++ more) (has_some d some))
-      (placed_front g.stmts (write_data m.tree (k, d)) (stmts_from (k + 1) ds) rest placed)
-      (writes_of_data spare (k + 1) (front ++ d ∷ []) ds more rest tasks a (whole ∙ sym (append_assoc front (d ∷ []) (ds ++ more))) same
+      → FollowsTasks s g (gained (list_any has_bytes ds) spare) stage rest tasks
+      → FollowsTasks s g spare stage (stmts_from k ds ++ rest) (tasks_of ds ++ tasks)
+  writes_of_data spare k front [] more rest tasks whole at valid placed follows = follows
+  writes_of_data spare k front (d ∷ ds) more rest tasks whole at valid placed follows =
+      rw (append_assoc (write_data m.tree (k, d)) (stmts_from (k + 1) ds) rest) (rw (append_assoc (map (λ (b : ℕ × ℕ). WriteByte d b.0 b.1)
+      (numbered d.bytes)) (tasks_of ds) tasks) (by d.bytes refl (placed_front g.stmts (write_data m.tree (k, d)) (stmts_from (k + 1) ds)
+      rest placed)
+      (λ spare. writes_of_data spare (k + 1) (front ++ d ∷ []) ds more rest tasks (whole ∙ sym (append_assoc front (d ∷ []) (ds ++ more)))
       (omega (arith, at, length-append front (d ∷ []))) valid.1
-      (placed_back g.stmts (write_data m.tree (k, d)) (stmts_from (k + 1) ds) rest placed)
-      behind)))
+      (placed_back g.stmts (write_data m.tree (k, d)) (stmts_from (k + 1) ds) rest placed)) follows))
     where
-      stage : Stage
-      stage = AreTested s g m elements segments
-
       others : List c.Stmt
       others = stmts_from (k + 1) ds ++ rest
 
-  -- where one of them has bytes, they leave two statements to spare
-  pub writes_gain : (spare k : ℕ) (front ds more : List SegmentEntry) (rest : List c.Stmt) (tasks : List Task) → Surroundings s g m
-      → m.tree.segments ≡ front ++ (ds ++ more) → segments ≡ m.tree.segments → k ≡ length front → AllByRecursion (DataIsValid m.tree) ds
-      → list_any has_bytes ds ≡ true → IsPlaced g.stmts (stmts_from k ds) rest
-      → FollowsTasks s g (spare + 2) (AreTested s g m elements segments) rest tasks
-      → FollowsTasks s g spare (AreTested s g m elements segments) (stmts_from k ds ++ rest) (tasks_of ds ++ tasks)
-  writes_gain spare k front [] more rest tasks a whole same at valid some placed behind = absurd cc
-  writes_gain spare k front (d ∷ ds) more rest tasks a whole same at valid some placed behind =
-      subst (λ stmts. FollowsTasks s g spare stage stmts (tasks_of (d ∷ ds) ++ tasks))
-      (sym (append_assoc (write_data m.tree (k, d)) (stmts_from (k + 1) ds) rest))
-      (subst (λ ts. FollowsTasks s g spare stage (write_data m.tree (k, d) ++ others) ts)
-      (sym (append_assoc (map (λ (b : ℕ × ℕ). WriteByte d b.0 b.1) (numbered d.bytes)) (tasks_of ds) tasks))
-      (by d.bytes refl some
-      (placed_front g.stmts (write_data m.tree (k, d)) (stmts_from (k + 1) ds) rest placed)
-      (λ some. writes_gain spare (k + 1) (front ++ d ∷ []) ds more rest tasks a next same number valid.1 some
-      (placed_back g.stmts (write_data m.tree (k, d)) (stmts_from (k + 1) ds) rest placed) behind)))
-    where
-      stage : Stage
-      stage = AreTested s g m elements segments
-
-      others : List c.Stmt
-      others = stmts_from (k + 1) ds ++ rest
-
-      next : m.tree.segments ≡ (front ++ d ∷ []) ++ (ds ++ more)
-      next = whole ∙ sym (append_assoc front (d ∷ []) (ds ++ more))
-
-      number : k + 1 ≡ length (front ++ d ∷ [])
-      number = omega (arith, at, length-append front (d ∷ []))
-
-      by : (bytes : List ℕ) → d.bytes ≡ bytes → (elim bytes [ [] ↦ false | b ∷ rest ↦ true ]) || list_any has_bytes ds ≡ true
-          → IsPlaced g.stmts (write_bytes m.tree k d.offset bytes) others
-          → (list_any has_bytes ds ≡ true → FollowsTasks s g spare stage others (tasks_of ds ++ tasks))
+      by : (bytes : List ℕ) → d.bytes ≡ bytes → IsPlaced g.stmts (write_bytes m.tree k d.offset bytes) others
+          → ((spare : ℕ) → FollowsTasks s g (gained (list_any has_bytes ds) spare) stage rest tasks
+          → FollowsTasks s g spare stage others (tasks_of ds ++ tasks))
+          → FollowsTasks s g (gained ((elim bytes [ [] ↦ false | b ∷ rest ↦ true ]) || list_any has_bytes ds) spare) stage rest tasks
           → FollowsTasks s g spare stage (write_bytes m.tree k d.offset bytes ++ others)
           (map (λ (b : ℕ × ℕ). WriteByte d b.0 b.1) (numbered bytes) ++ (tasks_of ds ++ tasks))
-      by [] is some here others_gain = others_gain some
-      by (b ∷ bytes) is some here others_gain =
-          segment_gains spare k d b bytes others (tasks_of ds ++ tasks) is a valid.0
-          (λ P all. (all_behind P front (d ∷ (ds ++ more)) (subst (AllByRecursion P) (same ∙ whole) all)).0)
-          (array_there k front d (ds ++ more) a whole at)
-          (ap (list_any has_bytes) whole ∙ any_middle front d (ds ++ more)
-          (has_some d (let size : length d.bytes ≡ suc (length bytes) = ap length is in omega (arith, size))))
-          here
-          (writes_of_data (spare + 2) (k + 1) (front ++ d ∷ []) ds more rest tasks a next same number valid.1
-          (placed_back g.stmts (write_data m.tree (k, d)) (stmts_from (k + 1) ds) rest placed) behind)
+      by [] is here behind follows = behind spare follows
+      by (b ∷ bytes) is here behind follows =
+          segment_written spare k front d (ds ++ more) b bytes others (tasks_of ds ++ tasks) is whole at valid.0
+          here (behind (spare + 2) (more_gained (list_any has_bytes ds) follows))
 
 -- segments without bytes have no tasks
-pub no_tasks : (s : LinkedSet) (g : Seat) (m : NamedModule) (elements : List ElementEntry) (segments ds : List SegmentEntry)
-    → list_any has_bytes ds ≡ false → tasks_of s g m elements segments ds ≡ []
-no_tasks s g m elements segments [] none = refl
-no_tasks s g m elements segments (d ∷ ds) none = by d.bytes none (no_tasks s g m elements segments ds)
+pub no_tasks : (ds : List SegmentEntry) → list_any has_bytes ds ≡ false → tasks_of ds ≡ []
+no_tasks [] none = refl
+no_tasks (d ∷ ds) none = by d.bytes none (no_tasks ds)
   where
     by : (bytes : List ℕ) → (elim bytes [ [] ↦ false | b ∷ rest ↦ true ]) || list_any has_bytes ds ≡ false
-        → (list_any has_bytes ds ≡ false → tasks_of s g m elements segments ds ≡ [])
-        → map (λ (b : ℕ × ℕ). WriteByte d b.0 b.1) (numbered bytes) ++ tasks_of s g m elements segments ds ≡ []
+        → (list_any has_bytes ds ≡ false → tasks_of ds ≡ [])
+        → map (λ (b : ℕ × ℕ). WriteByte d b.0 b.1) (numbered bytes) ++ tasks_of ds ≡ []
     by [] none others = others none
     by (b ∷ bytes) none others = absurd cc

@@ -1,28 +1,32 @@
 -- The writes of element segments against the task WriteElement, and what no write of a segment changes
 -- (WebAssembly Core 1.0, 4.5.4).
-use Rattle.init_meaning.proofs.Common.{all_behind, memory_at, ◌≡◌, ℕ, zero, suc, ◌+◌, ◌*◌, ◌^◌, ◌<◌, ◌≤◌, false, List, [], ◌∷◌, ◌++◌, map}
-use Rattle.init_meaning.proofs.Common.{length, if◌then◌else◌, ◌==◌, slice_get, slice_set, Some, None, codes, Option, option_map, zip}
-use Rattle.init_meaning.proofs.Common.{flat_map, sym, refl, ap, ◌∙◌, subst, inl, append_assoc, arith, length-set, nat_tests, none-some}
+use Rattle.init_meaning.proofs.Common.{all_at, set_element, Module, memory_at, ◌≡◌, ℕ, zero, suc, ◌+◌, ◌*◌, ◌^◌, ◌<◌, ◌≤◌, false, List, []}
+use Rattle.init_meaning.proofs.Common.{◌∷◌, ◌++◌, map, length, ◌==◌, slice_get, slice_set, Some, None, codes, Option, option_map, zip}
+use Rattle.init_meaning.proofs.Common.{flat_map, sym, refl, ap, ◌∙◌, inl, append_assoc, arith, length-set, nat_tests, none-some}
 use Rattle.init_meaning.proofs.Common.{AllByRecursion, range_with_len, get_within, if_found, numbered, Trail, FuncType, I64, func_space}
 use Rattle.init_meaning.proofs.Common.{func_type_in, Code, GlobalGet, I32Const, I64Const, end_code, then_code, ElementEntry, FuncRef}
-use Rattle.init_meaning.proofs.Common.{SegmentEntry, GlobalAddress, LinkedSet, NamedModule, func_at, global_at, table_at, Task}
-use Rattle.init_meaning.proofs.Common.{WriteElement, as_offset, constant_of, done, with_found, Program, Effect, Gives, IsUndefined}
-use Rattle.init_meaning.proofs.Common.{NoEffect, set_element, tab_set, with_element, all_set, all_weaker, unseen, table_object}
-use Rattle.init_meaning.proofs.Common.{together_table, ElementAgrees, ElementsAgree, IsCallableIfAny, TableAgrees, Together, function_name}
-use Rattle.init_meaning.proofs.Common.{table_arg, n64, place_expr, signature, write_element, write_elements}
+use Rattle.init_meaning.proofs.Common.{SegmentEntry, GlobalAddress, LinkedSet, NamedModule, global_at, table_at, Task, WriteElement}
+use Rattle.init_meaning.proofs.Common.{as_offset, constant_of, Program, Gives, tab_set, with_element, all_set, all_weaker, unseen}
+use Rattle.init_meaning.proofs.Common.{table_object, together_table, ElementAgrees, ElementsAgree, IsCallableIfAny, TableAgrees, Together}
+use Rattle.init_meaning.proofs.Common.{function_name, table_arg, n64, place_expr, signature, write_element}
 use Rattle.w2c_base.specs.Signature.{params_digits, result_digit, sig_number_of}
 use Rattle.w2c_base.proofs.SignatureNumbers.{params_digits-grows}
 use Rattle.wasm_meaning.specs.LinkedSet.{FuncAddress}
 use Rattle.wasm_meaning.specs.Store as store
-use Rattle.wasm_meaning.specs.Execution as exec
 use Rattle.c_tree.specs.Tree as c
+use Rattle.c_meaning.specs.Primitives.{on_table}
 use Rattle.c_meaning.specs.State as state
 use Rattle.c_meaning.specs.Machine as machine
 use Rattle.c_init.specs.Instantiable.{ElementIsValid}
-use Rattle.init_meaning.proofs.SegmentTests.{SegmentFits, within_object, size_there, with_all, table_size, memory_size, ElementFits}
+use Rattle.init_meaning.proofs.SegmentTests.{SegmentFits, within_object, size_there, table_size, memory_size, ElementFits}
 use Rattle.init_meaning.proofs.SegmentTests.{DataFits, AreTested}
-use Rattle.init_meaning.proofs.InitStatements.{Seat, Gets, GetsAll, gets_one, effect_goes}
-use Rattle.init_meaning.proofs.InitRuns.{Stage, FollowsTask, FollowsTasks, and_others}
+use Rattle.init_meaning.proofs.InitStatements.{Seat, Gets, GetsAll, effect_goes}
+use Rattle.std.proofs.lemmas.List.{map-append}
+use Rattle.std.proofs.lemmas.Simd.{map-map}
+use Rattle.c_init.specs.Init.{Element, elements_in, elements_of, write_one}
+use Rattle.w2c_base.proofs.OfEach.{all_append}
+use Rattle.init_meaning.proofs.Entries.{there_at}
+use Rattle.init_meaning.proofs.InitRuns.{FollowsTask, AreRows}
 use Rattle.init_meaning.proofs.InitConstants.{OffsetFound, place_gets}
 use Rattle.init_meaning.specs.Owners.{TableOwner}
 use Rattle.init_meaning.proofs.Surroundings.{Surroundings, TableFound, table_found, offset_of, elements_length}
@@ -151,15 +155,9 @@ sets_element : (m : state.Machine) (a : state.ObjectAddress) (t : state.Table) (
     → tab_set (state.Pointer (Some a) ∷ state.Number (I64 place) ∷ state.FuncPointer (Some f) ∷ state.Number (I64 number) ∷ []) m
     ≡ Gives (machine.with_table m a (with_element t place (record { func = f; signature = number }))) None
 sets_element m a t place f number there less some =
-    ap (λ (o : Option state.Table). elim o [ None ↦ NoEffect | Some table ↦ set_element m a table place f number ]) there
-    ∙ ap (λ (o : Option (Option state.Element)). elim o [ None ↦ IsUndefined 7 | Some old ↦ if number == 0 then IsUndefined 8 else result ])
-    (get_within t.elements place less).1
-    ∙ ap (λ b. if b then IsUndefined 8 else result) some
-  where
-    result : Effect
-    result = Gives (machine.with_table m a (with_element t place (record { func = f; signature = number }))) None
+    rw (there, tab_set, on_table) (rw ((get_within t.elements place less).1, set_element) (rw some refl))
 
-pub write_of_element : (s : LinkedSet) (g : Seat) (m : NamedModule) (elements : List ElementEntry) (segments : List SegmentEntry)
+write_of_element : (s : LinkedSet) (g : Seat) (m : NamedModule) (elements : List ElementEntry) (segments : List SegmentEntry)
     (e : ElementEntry) (number func : ℕ) (rest : List c.Stmt)
     → Surroundings s g m → ElementIsValid m.tree e → number < length e.funcs → func < length (func_space m.tree)
     → ((P : ElementEntry → Type 0) → AllByRecursion P elements → P e)
@@ -169,12 +167,7 @@ write_of_element s g m elements segments e number func rest a valid less there a
   machine = machine.with_table mach (table_object o.owner) other;
   new = store.with_table made o.owner new;
   locals = vars;
-  does = λ n. with_all {A = store.Table} (table_at s g.unit e.table) (store.table_in made)
-      (if_found (constant_of s g.unit made e.offset) as_offset) made trail (write n) o.owner found.table offset.offset
-      owner_is found.table_is offset.is
-      ∙ ap (λ f. with_found f made trail (λ f. done n
-      (store.with_table made o.owner (record { elements = slice_set found.table.elements place (Some f); max = found.table.max })) trail))
-      r.function_is;
+  does = λ n. rw (owner_is, found.table_is, offset.is, r.function_is) refl;
   reached = still_tested s g m elements segments mach (machine.with_table mach (table_object o.owner) other) made
       (store.with_table made o.owner new) trail vars here
       (table_keeps_sizes made o.owner found.table new found.table_is (length-set found.table.elements place (Some r.function)))
@@ -189,7 +182,7 @@ write_of_element s g m elements segments e number func rest a valid less there a
 })
   where
     o : TableOwner s g.unit m.tree
-    o = a.table valid.there
+    o = a.known.table valid.there
 
     found : TableFound s g m mach made vars o.owner
     found = table_found s g m mach made trail vars a here.filled o
@@ -198,7 +191,7 @@ write_of_element s g m elements segments e number func rest a valid less there a
     offset = offset_of s g m mach made trail vars e.offset a here.filled valid.offset
 
     r : FuncIsReached g.program s g.unit m func
-    r = a.function func there
+    r = a.known.function func there
 
     place : ℕ
     place = offset.offset + number
@@ -251,11 +244,6 @@ write_of_element s g m elements segments e number func rest a valid less there a
     objects : (x : store.Objects) × (slice_get made o.owner ≡ Some x)
     objects = objects_of made o.owner (λ (x : store.Objects). x.table) found.table found.table_is
 
-    write : ℕ → ℕ → store.Table → ℕ → exec.Called
-    write n owner t offset = with_found (func_at s g.unit func) made trail
-        (λ f. done n (store.with_table made owner
-        (record { elements = slice_set t.elements (offset + number) (Some f); max = t.max })) trail)
-
     args : List c.Arg
     args = table_arg m.tree ∷ c.Value (place_expr m.tree e.offset (n64 number)) ∷ c.OfFunction (function_name m.tree func) ∷ c.Value
         (n64 signed) ∷ []
@@ -264,71 +252,63 @@ write_of_element s g m elements segments e number func rest a valid less there a
     values = state.Pointer (Some (table_object o.owner)) ∷ state.Number (I64 place) ∷ state.FuncPointer (Some r.address) ∷ state.Number
         (I64 signed) ∷ []
 
-    function : Gets g mach vars (c.OfFunction (function_name m.tree func)) (state.FuncPointer (Some r.address))
-    function rest = ap (λ f. state.then_evaluate (state.found f) (λ (f : state.FuncAddress). state.Is (state.FuncPointer (Some f))))
-        r.address_is
-
     at_place : Gets g mach vars (c.Value (place_expr m.tree e.offset (n64 number))) (state.Number (I64 place))
     at_place = place_gets g m.tree mach vars e.offset (n64 number) offset.offset number offset.evaluates (λ rest. refl) offset.small
         (let few : length e.funcs < 2 ^ 32 = valid.few in omega (arith, few, less))
 
     gets : GetsAll g mach vars args values
-    gets =
-        gets_one g mach vars (table_arg m.tree) (c.Value (place_expr m.tree e.offset (n64 number)) ∷ c.OfFunction
-        (function_name m.tree func) ∷ c.Value (n64 signed) ∷ [])
-        (state.Pointer (Some (table_object o.owner)))
-        (state.Number (I64 place) ∷ state.FuncPointer (Some r.address) ∷ state.Number (I64 signed) ∷ []) found.gets
-        (gets_one g mach vars (c.Value (place_expr m.tree e.offset (n64 number)))
-        (c.OfFunction (function_name m.tree func) ∷ c.Value (n64 signed) ∷ [])
-        (state.Number (I64 place)) (state.FuncPointer (Some r.address) ∷ state.Number (I64 signed) ∷ []) at_place
-        (gets_one g mach vars (c.OfFunction (function_name m.tree func)) (c.Value (n64 signed) ∷ []) (state.FuncPointer (Some r.address))
-        (state.Number (I64 signed) ∷ []) function
-        (λ rest. refl)))
+    gets rest = rw (found.gets rest, at_place rest, r.address_is) refl
 
 -- ---- all of them
 
--- the functions of one segment from number k on
-writes_from : (s : LinkedSet) (g : Seat) (m : NamedModule) (spare : ℕ) (elements : List ElementEntry) (segments : List SegmentEntry)
-    (e : ElementEntry) (k : ℕ) (fs : List FuncRef) (rest : List c.Stmt) (tasks : List Task)
-    → Surroundings s g m → ElementIsValid m.tree e → ((P : ElementEntry → Type 0) → AllByRecursion P elements → P e)
-    → k + length fs ≤ length e.funcs → AllByRecursion (λ (f : FuncRef). f.index < length (func_space m.tree)) fs
-    → FollowsTasks s g spare (AreTested s g m elements segments) rest tasks
-    → FollowsTasks s g spare (AreTested s g m elements segments)
-    (map (λ (f : ℕ × FuncRef). write_element m.tree e.offset f.0 f.1.index) (zip (range_with_len k (length fs)) fs) ++ rest)
-    (map (λ (f : ℕ × FuncRef). WriteElement e f.0 f.1.index) (zip (range_with_len k (length fs)) fs) ++ tasks)
-writes_from s g m spare elements segments e k [] rest tasks a valid among few there behind = behind
-writes_from s g m spare elements segments e k (f ∷ fs) rest tasks a valid among few there behind =
-    let stage : Stage = AreTested s g m elements segments in
-    let stmts : List c.Stmt = map (λ (f : ℕ × FuncRef). write_element m.tree e.offset f.0 f.1.index)
-    (zip (range_with_len (k + 1) (length fs)) fs) ++ rest in
-    let others : List Task = map (λ (f : ℕ × FuncRef). WriteElement e f.0 f.1.index)
-    (zip (range_with_len (k + 1) (length fs)) fs) ++ tasks in
-    and_others s g spare stage (WriteElement e k f.index) stage (write_element m.tree e.offset k f.index ∷ stmts) stmts others
-    refl
-    (write_of_element s g m elements segments e k f.index stmts a valid (omega (arith, few)) there.0 among)
-    (writes_from s g m spare elements segments e (k + 1) fs rest tasks a valid among (omega (arith, few)) there.1 behind)
+-- what is made of each element of some segments, segment by segment
+pub by_segment : {B : Type 0} (f : Element → B) (es : List ElementEntry)
+    → map f (flat_map elements_in es) ≡ flat_map (λ (e : ElementEntry). map (λ (x : ℕ × FuncRef). f (e, x)) (numbered e.funcs)) es
+by_segment f [] = refl
+by_segment f (e ∷ es) =
+    map-append f (elements_in e) (flat_map elements_in es)
+    ∙ ap (λ ys. ys ++ map f (flat_map elements_in es)) (map-map f (λ (x : ℕ × FuncRef). (e, x)) (numbered e.funcs))
+    ∙ ap (λ ys. map (λ (x : ℕ × FuncRef). f (e, x)) (numbered e.funcs) ++ ys) (by_segment f es)
 
-pub writes_of_elements : (s : LinkedSet) (g : Seat) (m : NamedModule) (spare : ℕ) (elements front es : List ElementEntry)
-    (segments : List SegmentEntry) (rest : List c.Stmt) (tasks : List Task)
-    → Surroundings s g m → elements ≡ front ++ es → AllByRecursion (ElementIsValid m.tree) es
-    → FollowsTasks s g spare (AreTested s g m elements segments) rest tasks
-    → FollowsTasks s g spare (AreTested s g m elements segments)
-    (flat_map (write_elements m.tree) es ++ rest)
-    (flat_map (λ (e : ElementEntry). map (λ (f : ℕ × FuncRef). WriteElement e f.0 f.1.index) (numbered e.funcs)) es ++ tasks)
-writes_of_elements s g m spare elements front [] segments rest tasks a whole valid behind = behind
-writes_of_elements s g m spare elements front (e ∷ es) segments rest tasks a whole valid behind =
-    subst (λ stmts. FollowsTasks s g spare stage stmts (flat_map written (e ∷ es) ++ tasks))
-    (sym (append_assoc (write_elements m.tree e) (flat_map (write_elements m.tree) es) rest))
-    (subst (λ ts. FollowsTasks s g spare stage (write_elements m.tree e ++ (flat_map (write_elements m.tree) es ++ rest)) ts)
-    (sym (append_assoc (written e) (flat_map written es) tasks))
-    (writes_from s g m spare elements segments e 0 e.funcs (flat_map (write_elements m.tree) es ++ rest)
-    (flat_map written es ++ tasks) a valid.0
-    (λ P all. (all_behind P front (e ∷ es) (subst (AllByRecursion P) whole all)).0) (omega arith) valid.0.funcs
-    (writes_of_elements s g m spare elements (front ++ e ∷ []) es segments rest tasks a
-    (whole ∙ sym (append_assoc front (e ∷ []) es)) valid.1 behind)))
-  where
-    stage : Stage
-    stage = AreTested s g m elements segments
+abbrev pub element_task : Element → Task
+element_task x = WriteElement x.0 x.1.0 x.1.1.index
 
-    written : ElementEntry → List Task
-    written e = map (λ (f : ℕ × FuncRef). WriteElement e f.0 f.1.index) (numbered e.funcs)
+module _ (s : LinkedSet) (g : Seat) (m : NamedModule) (a : Surroundings s g m) where
+  abbrev t : Module
+  t = m.tree
+
+  -- what is known of an element
+  record IsElement (x : Element) : Type 0 where
+    place : ℕ
+    place_is : slice_get t.elements place ≡ Some x.0
+    valid : ElementIsValid t x.0
+    less : x.1.0 < length x.0.funcs
+    there : x.1.1.index < length (func_space t)
+
+  -- of those of one segment, from number k on
+  funcs_are : (e : ElementEntry) (place k : ℕ) (fs : List FuncRef) → slice_get t.elements place ≡ Some e → ElementIsValid t e
+      → k + length fs ≤ length e.funcs → AllByRecursion (λ (f : FuncRef). f.index < length (func_space t)) fs
+      → AllByRecursion IsElement (map (λ f. (e, f)) (zip (range_with_len k (length fs)) fs))
+  funcs_are e place k [] at valid few there = tt
+  funcs_are e place k (f ∷ fs) at valid few there = (
+    record { place = place; place_is = at; valid = valid; less = omega (arith, few); there = there.0 },
+    funcs_are e place (k + 1) fs at valid (omega (arith, few)) there.1,
+  )
+
+  elements_are : (front es : List ElementEntry) → front ++ es ≡ t.elements → AllByRecursion (ElementIsValid t) es
+      → AllByRecursion IsElement (flat_map elements_in es)
+  elements_are front [] whole valid = tt
+  elements_are front (e ∷ es) whole valid =
+      all_append IsElement (elements_in e) (flat_map elements_in es)
+      (funcs_are e (length front) 0 e.funcs (there_at front e es t.elements whole) valid.0 (omega arith) valid.0.funcs)
+      (elements_are (front ++ e ∷ []) es (append_assoc front (e ∷ []) es ∙ whole) valid.1)
+
+  pub write_rows : AreRows s g (elements_of t) (λ front. AreTested s g m t.elements t.segments) (λ x. write_one t x ∷ []) element_task
+  write_rows = record {
+    costs = λ x. refl;
+    each = λ front x behind rest e.
+        let is = all_at IsElement (elements_of t) (length front) x (elements_are [] t.elements refl a.instantiable.elements)
+        (there_at front x behind (elements_of t) e) in
+        write_of_element s g m t.elements t.segments x.0 x.1.0 x.1.1.index rest a is.valid is.less is.there
+        (λ P all. all_at P t.elements is.place x.0 all is.place_is);
+  }

@@ -5,52 +5,32 @@ use Rattle.c_tree.specs.Tree as c
 use Rattle.c_meaning.specs.State as state
 use Rattle.c_init.specs.Init.{own_func, own_locals}
 use Rattle.init_meaning.proofs.Common.{◌≡◌, ℕ, Bool, true, false, ◌||◌, List, [], ◌∷◌, ◌++◌, if◌then◌else◌, Some, None, Option, option_map}
-use Rattle.init_meaning.proofs.Common.{sym, refl, ap, ◌∙◌, same_Some, list_any, named, Void, Program, Pending, Going, go_on, Next}
-use Rattle.init_meaning.proofs.Common.{Step, Stops, begin, locals_of, global_name, pointer_name, called, Defines, byte_name, has_bytes}
-use Rattle.init_meaning.proofs.Common.{local_if, size_name, tests_bounds, tests_limits}
+use Rattle.init_meaning.proofs.Common.{sym, refl, ap, ◌∙◌, same_Some, list_any, named, Void, Program, Pending, Going, go_on, Next, Step}
+use Rattle.init_meaning.proofs.Common.{Stops, begin, locals_of, global_name, pointer_name, called, Defines, byte_name, has_bytes, local_if}
+use Rattle.init_meaning.proofs.Common.{size_name, tests_bounds, tests_limits}
 use Rattle.init_meaning.proofs.InitTests.{HasLocals, IsWide}
 
 abbrev vars_of : Bool → Bool → state.Vars
 vars_of sizes bytes =
     (if sizes then (size_name, state.Number (I64 0)) ∷ [] else []) ++ (if bytes then (byte_name, state.Number (I64 0)) ∷ [] else [])
 
-locals_are : (sizes bytes : Bool) → locals_of (local_if sizes size_name ++ local_if bytes byte_name) ≡ Some (vars_of sizes bytes)
-locals_are true true = refl
-locals_are true false = refl
-locals_are false true = refl
-locals_are false false = refl
-
-size_there : (sizes bytes : Bool) → sizes ≡ true → IsWide size_name (vars_of sizes bytes)
-size_there true bytes e = refl
-size_there false bytes e = absurd cc
-
-byte_there : (sizes bytes : Bool) → bytes ≡ true → IsWide byte_name (vars_of sizes bytes)
-byte_there true true e = refl
-byte_there false true e = refl
-byte_there sizes false e = absurd cc
-
-no_global : (sizes bytes : Bool) (k : ℕ) → named (global_name k) (vars_of sizes bytes) ≡ None
-no_global true true k = refl
-no_global true false k = refl
-no_global false true k = refl
-no_global false false k = refl
-
-no_pointer : (sizes bytes : Bool) (object : state.Name) → named (pointer_name object) (vars_of sizes bytes) ≡ None
-no_pointer true true object = refl
-no_pointer true false object = refl
-no_pointer false true object = refl
-no_pointer false false object = refl
+-- what these variables are, and what they hide
+facts : (sizes bytes : Bool) → (locals_of (local_if sizes size_name ++ local_if bytes byte_name) ≡ Some (vars_of sizes bytes))
+    × (sizes ≡ true → IsWide size_name (vars_of sizes bytes)) × (bytes ≡ true → IsWide byte_name (vars_of sizes bytes))
+    × ((k : ℕ) → named (global_name k) (vars_of sizes bytes) ≡ None)
+    × ((object : state.Name) → named (pointer_name object) (vars_of sizes bytes) ≡ None)
+facts true true = (refl, λ e. refl, λ e. refl, λ k. refl, λ object. refl)
+facts true false = (refl, λ e. refl, λ e. absurd cc, λ k. refl, λ object. refl)
+facts false true = (refl, λ e. absurd cc, λ e. refl, λ k. refl, λ object. refl)
+facts false false = (refl, λ e. absurd cc, λ e. absurd cc, λ k. refl, λ object. refl)
 
 abbrev pub init_vars : Module → state.Vars
 init_vars m = vars_of (tests_limits m || tests_bounds m) (list_any has_bytes m.segments)
 
 pub init_locals : (m : Module) → HasLocals m (init_vars m)
-init_locals m = record {
-  size = size_there (tests_limits m || tests_bounds m) (list_any has_bytes m.segments);
-  byte = byte_there (tests_limits m || tests_bounds m) (list_any has_bytes m.segments);
-  globals_seen = no_global (tests_limits m || tests_bounds m) (list_any has_bytes m.segments);
-  pointers_seen = no_pointer (tests_limits m || tests_bounds m) (list_any has_bytes m.segments);
-}
+init_locals m =
+    let f = facts (tests_limits m || tests_bounds m) (list_any has_bytes m.segments) in
+    record { size = f.1; byte = f.2; globals_seen = f.3; pointers_seen = f.4 }
 
 -- ---- the call
 
@@ -72,7 +52,7 @@ begins p u static name m stmts mach pending below d =
     ap (λ found. go_on p pending (begin found u mach [] below))
     (d.defined ∙ ap (λ body. Some (record { item = d.item; func = own_func static name m stmts; body = body })) (sym body_is))
     ∙ ap (λ (vars : Option state.Vars). go_on p pending (begun (option_map (λ (locals : state.Vars). [] ++ locals) vars)))
-    (locals_are (tests_limits m || tests_bounds m) (list_any has_bytes m.segments))
+    (facts (tests_limits m || tests_bounds m) (list_any has_bytes m.segments)).0
   where
     body_is : own_body m stmts ≡ d.body
     body_is = same_Some (own_body m stmts) d.body d.has_body

@@ -1,14 +1,13 @@
 -- Initial and offset expressions (WebAssembly Core 1.0, 3.3.7): their values, and those of the expressions of C.
 use Rattle.w2c_base.specs.declared.value.ValType.TheVariants as type
 use Rattle.wasm_meaning.specs.Store as store
-use Rattle.c_tree.specs.declared.tree.COp.TheVariants as op
 use Rattle.c_tree.specs.Tree as c
 use Rattle.c_meaning.specs.State as state
 use Rattle.c_init.specs.Fitting.{ShapeFits}
 use Rattle.init_meaning.proofs.Common.{◌≡◌, ℕ, ◌+◌, ◌%◌, ◌^◌, ◌<◌, Bool, false, List, ℤ, pos, negsuc, slice_get, Some, None, Option, refl}
-use Rattle.init_meaning.proofs.Common.{ap, ◌∙◌, arith, if_found, IsNumber, number_of, type_of, ValType, Value, I32, I64, Code, GlobalGet}
-use Rattle.init_meaning.proofs.Common.{I32Const, I64Const, end_code, then_code, Module, shape_of, shape_of_global, LinkedSet, pattern_of}
-use Rattle.init_meaning.proofs.Common.{as_offset, constant_of, operate, evaluate, number_in, value_of, constant_expr, place_expr}
+use Rattle.init_meaning.proofs.Common.{ap, ◌∙◌, arith, if_found, IsNumber, type_of, ValType, Value, I32, I64, Code, GlobalGet, I32Const}
+use Rattle.init_meaning.proofs.Common.{I64Const, end_code, then_code, Module, shape_of, shape_of_global, LinkedSet, pattern_of, as_offset}
+use Rattle.init_meaning.proofs.Common.{constant_of, number_in, value_of, constant_expr, place_expr}
 use Rattle.init_meaning.proofs.InitStatements.{Seat, running, Evaluates, Gets}
 use Rattle.init_meaning.proofs.InitObjects.{GlobalFound}
 
@@ -88,8 +87,7 @@ offset_found s g tree m made vars code f = go f.value f.is f.typed f.is_number f
     go (I32 n) is typed small evaluates = record {
       offset = n;
       is = ap (λ o. if_found o as_offset) is;
-      small =
-          small;
+      small = small;
       evaluates = evaluates;
     }
     go (I64 n) is typed small evaluates = absurd cc
@@ -102,13 +100,7 @@ pub place_evaluates : (g : Seat) (tree : Module) (m : state.Machine) (vars : sta
     → Evaluates g m vars (constant_expr tree code) (I32 o) → Evaluates g m vars number (I64 k) → o < 2 ^ 32 → k < 2 ^ 32
     → Evaluates g m vars (place_expr tree code number) (I64 (o + k))
 place_evaluates g tree m vars code number o k left right small less rest =
-    ap (λ x. sum (state.then_evaluate x (λ v. state.Is (I64 (number_of v))))
-    (evaluate g.program m (running g rest vars) number)) (left rest)
-    ∙ ap (λ y. sum (state.Is (I64 o)) y) (right rest)
-    ∙ ap (λ n. state.Is (I64 n)) (sum_fits o k small less)
-  where
-    sum : state.Evaluated Value → state.Evaluated Value → state.Evaluated Value
-    sum x y = state.then_evaluate x (λ x. state.then_evaluate y (λ y. operate op.Add x y))
+    rw (left rest, right rest, sum_fits o k small less) refl
 
 pub place_gets : (g : Seat) (tree : Module) (m : state.Machine) (vars : state.Vars) (code : Code) (number : c.Expr) (o k : ℕ)
     → Evaluates g m vars (constant_expr tree code) (I32 o) → Evaluates g m vars number (I64 k) → o < 2 ^ 32 → k < 2 ^ 32

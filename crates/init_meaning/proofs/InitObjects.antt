@@ -6,12 +6,12 @@ use Rattle.c_tree.specs.Tree as c
 use Rattle.c_meaning.specs.State as state
 use Rattle.c_meaning.specs.Machine as machine
 use Rattle.init_meaning.proofs.Common.{◌≡◌, ℕ, zero, suc, ◌+◌, ◌<◌, true, List, [], ◌∷◌, map, length, is_some, if◌then◌else◌, slice_get}
-use Rattle.init_meaning.proofs.Common.{Some, None, Option, sym, refl, ap, ◌∙◌, subst, none-some, same_Some, option_or, if_found, named}
-use Rattle.init_meaning.proofs.Common.{Trail, IsNumber, type_of, types_of, ValType, Value, imported_globals, GlobalEntry, Import, Module}
-use Rattle.init_meaning.proofs.Common.{GlobalAddress, LinkedSet, global_at, module_at, as_object, number_in, first_global, global_name}
-use Rattle.init_meaning.proofs.Common.{memory_name, table_name, global_imports, memory_imports, table_imports, is_there, value_of_type}
-use Rattle.init_meaning.proofs.Common.{global_object, global_seen, memory_object, table_object, Agrees, AreReady, PointersAreSet, PointsTo}
-use Rattle.init_meaning.proofs.Common.{pointer_name, global_value, memory_arg, table_arg}
+use Rattle.init_meaning.proofs.Common.{Some, None, Option, sym, refl, ap, ◌∙◌, subst, none-some, same_Some, if_found, named, Trail}
+use Rattle.init_meaning.proofs.Common.{IsNumber, type_of, types_of, ValType, Value, imported_globals, GlobalEntry, Import, Module}
+use Rattle.init_meaning.proofs.Common.{GlobalAddress, LinkedSet, global_at, module_at, first_global, global_name, memory_name, table_name}
+use Rattle.init_meaning.proofs.Common.{global_imports, memory_imports, table_imports, is_there, value_of_type, global_object, global_seen}
+use Rattle.init_meaning.proofs.Common.{memory_object, table_object, Agrees, AreReady, PointersAreSet, PointsTo, pointer_name, global_value}
+use Rattle.init_meaning.proofs.Common.{memory_arg, table_arg}
 use Rattle.init_meaning.proofs.InitStatements.{Seat, Evaluates, Gets}
 use Rattle.init_meaning.specs.Owners.{TableOwner, MemoryOwner, GlobalOwner}
 
@@ -55,16 +55,12 @@ global_there s count m made g tree entry ready less is at =
 pub pointer_gets : (g : Seat) (m : state.Machine) (vars : state.Vars) (object : state.Name) (a : state.ObjectAddress)
     → named (pointer_name object) vars ≡ None → PointsTo m g.unit object a
     → Gets g m vars (c.Value (c.Name (pointer_name object))) (state.Pointer (Some a))
-pointer_gets g m vars object a none set rest =
-    ap (λ (o : Option state.CValue). state.found (option_or o
-    (machine.var_in m (record { unit = g.unit; name = pointer_name object })))) none
-    ∙ ap state.found set
+pointer_gets g m vars object a none set rest = rw (none, set) refl
 
 pub address_gets : (g : Seat) (m : state.Machine) (vars : state.Vars) (object : state.Name)
     → machine.is_object m (record { unit = g.unit; name = object }) ≡ true
     → Gets g m vars (c.Address object) (state.Pointer (Some (record { unit = g.unit; name = object })))
-address_gets g m vars object is rest =
-    ap (λ b. if b then state.Is (state.Pointer (Some (record { unit = g.unit; name = object }))) else state.NoRule) is
+address_gets g m vars object is rest = rw is refl
 
 -- the argument that points to an object: its name where no import brings it, and else its pointer
 object_gets : (g : Seat) (m : state.Machine) (vars : state.Vars) (imports : List Import) (name : state.Name) (owner : ℕ)
@@ -79,8 +75,7 @@ object_gets g m vars imports name owner own points hidden object = go (slice_get
         → Gets g m vars (if is_some found then c.Value (c.Name (pointer_name name)) else c.Address name)
         (state.Pointer (Some (record { unit = owner; name = name })))
     go None is =
-        subst (λ k. Gets g m vars (c.Address name) (state.Pointer (Some (record { unit = k; name = name })))) (sym (own is))
-        (address_gets g m vars name (subst (λ k. machine.is_object m (record { unit = k; name = name }) ≡ true) (own is) object))
+        rw (own is) (address_gets g m vars name (rw (own is) at object))
     go (Some i) is = pointer_gets g m vars name (record { unit = owner; name = name }) hidden (points i is)
 
 pub table_gets : (s : LinkedSet) (g : Seat) (tree : Module) (m : state.Machine) (vars : state.Vars) (o : TableOwner s g.unit tree)
@@ -90,9 +85,7 @@ pub table_gets : (s : LinkedSet) (g : Seat) (tree : Module) (m : state.Machine) 
     → Gets g m vars (table_arg tree) (state.Pointer (Some (table_object o.owner)))
 table_gets s g tree m vars o other seen set there = object_gets g m vars (table_imports tree) table_name o.owner o.own
     (λ i is. let r = set.table i is in
-    subst (λ k. PointsTo m g.unit table_name (table_object k)) (same_Some r.0 o.owner (sym r.1 ∙ o.owner_is)) r.2)
-    (seen table_name)
-    (table_is_object m (table_object o.owner) other there)
+    rw (same_Some r.0 o.owner (sym r.1 ∙ o.owner_is)) at r.2) (seen table_name) (table_is_object m (table_object o.owner) other there)
 
 pub memory_gets : (s : LinkedSet) (g : Seat) (tree : Module) (m : state.Machine) (vars : state.Vars) (o : MemoryOwner s g.unit tree)
     (other : state.Memory)
@@ -101,28 +94,19 @@ pub memory_gets : (s : LinkedSet) (g : Seat) (tree : Module) (m : state.Machine)
     → Gets g m vars (memory_arg tree) (state.Pointer (Some (memory_object o.owner)))
 memory_gets s g tree m vars o other seen set there = object_gets g m vars (memory_imports tree) memory_name o.owner o.own
     (λ i is. let r = set.memory i is in
-    subst (λ k. PointsTo m g.unit memory_name (memory_object k)) (same_Some r.0 o.owner (sym r.1 ∙ o.owner_is)) r.2)
-    (seen memory_name)
-    (memory_is_object m (memory_object o.owner) other there)
+    rw (same_Some r.0 o.owner (sym r.1 ∙ o.owner_is)) at r.2) (seen memory_name) (memory_is_object m (memory_object o.owner) other there)
 
 -- ---- globals
 
 own_evaluates : (g : Seat) (m : state.Machine) (vars : state.Vars) (index : ℕ) (v : Value)
     → named (global_name index) vars ≡ None → machine.var_in m (record { unit = g.unit; name = global_name index }) ≡ Some (state.Number v)
     → Evaluates g m vars (c.Name (global_name index)) v
-own_evaluates g m vars index v none is rest =
-    ap (λ (o : Option state.CValue). number_in (option_or o (machine.var_in m (record { unit = g.unit; name = global_name index })))) none
-    ∙ ap number_in is
+own_evaluates g m vars index v none is rest = rw (none, is) refl
 
 star_evaluates : (g : Seat) (m : state.Machine) (vars : state.Vars) (object : state.Name) (a : state.ObjectAddress) (v : Value)
     → named (pointer_name object) vars ≡ None → PointsTo m g.unit object a → machine.var_in m a ≡ Some (state.Number v)
     → Evaluates g m vars (c.Star (pointer_name object)) v
-star_evaluates g m vars object a v none set is rest =
-    ap (λ (o : Option state.CValue). starred (option_or o (machine.var_in m (record { unit = g.unit; name = pointer_name object })))) none
-    ∙ ap starred set ∙ ap number_in is
-  where
-    starred : Option state.CValue → state.Evaluated Value
-    starred o = state.then_evaluate (state.found o) (λ v. state.then_evaluate (as_object v) (λ a. number_in (machine.var_in m a)))
+star_evaluates g m vars object a v none set is rest = rw (none, set, is) refl
 
 -- what a global's value is in both
 pub record GlobalFound (s : LinkedSet) (g : Seat) (tree : Module) (m : state.Machine) (made : store.Store) (vars : state.Vars) (index : ℕ)

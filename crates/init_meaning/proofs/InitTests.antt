@@ -1,16 +1,14 @@
 -- The local variables of an init function, and its tests of sizes.
-use Rattle.init_meaning.proofs.Common.{◌≡◌, ℕ, Bool, true, false, ◌||◌, List, [], ◌∷◌, if◌then◌else◌, Some, None, Option, bytes_eq, refl}
-use Rattle.init_meaning.proofs.Common.{ap, ◌∙◌, list_any, option_or, named, with_named, TrapKind, Value, I32, I64, Module, COp}
-use Rattle.init_meaning.proofs.Common.{named-with_named, join, operate, Effect, Gives, primitive, Reaches, Over, Stopped, over, after_label}
-use Rattle.init_meaning.proofs.Common.{depth_name, evaluate, number_in, global_name, label_name, pointer_name, byte_name, has_bytes}
-use Rattle.init_meaning.proofs.Common.{size_name, tests_bounds, tests_limits}
+use Rattle.init_meaning.proofs.Common.{◌≡◌, ℕ, Bool, true, false, ◌||◌, List, [], ◌∷◌, if◌then◌else◌, Some, None, bytes_eq, refl, ◌∙◌}
+use Rattle.init_meaning.proofs.Common.{list_any, named, with_named, TrapKind, Value, I32, I64, Module, COp, named-with_named, operate}
+use Rattle.init_meaning.proofs.Common.{Effect, Gives, primitive, Reaches, Over, Stopped, over, after_label, depth_name, global_name}
+use Rattle.init_meaning.proofs.Common.{label_name, pointer_name, byte_name, has_bytes, size_name, tests_bounds, tests_limits}
 use Rattle.c_tree.specs.Tree as c
 use Rattle.c_meaning.specs.State as state
-use Rattle.c_meaning.specs.Machine as machine
 use Rattle.c_tree.specs.Makers as makers
 use Rattle.init_meaning.specs.Zeros.{held}
 use Rattle.init_meaning.proofs.Held.{held_there, held_kept}
-use Rattle.init_meaning.proofs.InitStatements.{Seat, running, at, Evaluates, Gets, gets_one, value_goes, test_goes, test_jumps}
+use Rattle.init_meaning.proofs.InitStatements.{Seat, TrapGoes, at, Evaluates, Gets, joined, value_goes, test_goes, test_jumps}
 
 -- ---- variables
 
@@ -51,22 +49,13 @@ locals_kept m name n vars wide h = record {
 -- a local number
 pub local_evaluates : (g : Seat) (m : state.Machine) (vars : state.Vars) (name : state.Name) (v : Value)
     → bytes_eq name depth_name ≡ false → named name vars ≡ Some (state.Number v) → Evaluates g m vars (c.Name name) v
-local_evaluates g m vars name v apart is rest =
-    ap (λ b. number_in (if b then Some (state.Number (I32 m.depth)) else option_or (named name vars)
-    (machine.var_in m (record { unit = g.unit; name = name })))) apart
-    ∙ ap (λ (o : Option state.CValue). number_in (option_or o (machine.var_in m (record { unit = g.unit; name = name })))) is
+local_evaluates g m vars name v apart is rest = rw (apart, is) refl
 
 -- ---- tests
 
-abbrev operated : COp → state.Evaluated Value → state.Evaluated Value → state.Evaluated Value
-operated o x y = state.then_evaluate x (λ x. state.then_evaluate y (λ y. operate o x y))
-
 pub operates : (g : Seat) (m : state.Machine) (vars : state.Vars) (o : COp) (left right : c.Expr) (x y z : Value)
     → Evaluates g m vars left x → Evaluates g m vars right y → operate o x y ≡ state.Is z → Evaluates g m vars (c.Op o left right) z
-operates g m vars o left right x y z l r is rest =
-    ap (λ x. operated o x (evaluate g.program m (running g rest vars) right)) (l rest)
-    ∙ ap (λ y. operated o (state.Is x) y) (r rest)
-    ∙ is
+operates g m vars o left right x y z l r is rest = rw (l rest, r rest) is
 
 -- the size is asked, then a test of it goes on or jumps to a trap
 pub record Asked (g : Seat) (m : state.Machine) (vars : state.Vars) (name : state.Name) (a : c.Arg) (n : ℕ) : Type 0 where
@@ -93,25 +82,19 @@ pub asked_goes : (g : Seat) (m : state.Machine) (vars : state.Vars) (name : stat
     (at g m rest (with_size n vars))
 asked_goes g m vars name a n rest asked =
     value_goes g m size_name name (a ∷ []) (state.Number (I64 n)) rest vars (asked.pointer ∷ []) asked.does
-    (gets_one g m vars a [] asked.pointer [] asked.gets (λ rest. refl)) asked.is_primitive asked.gives refl asked.there
+    (λ rest. rw (asked.gets rest) refl) asked.is_primitive asked.gives refl asked.there
 
 pub passes : (g : Seat) (m : state.Machine) (vars : state.Vars) (name : state.Name) (a : c.Arg) (n : ℕ) (o : COp) (left right : c.Expr)
     (label : state.Name) (rest : List c.Stmt)
     → Asked g m vars name a n → Evaluates g m (with_size n vars) (c.Op o left right) (I32 0)
     → Reaches g.program 2 (at g m (ask_and_test name a o left right label rest) vars) (at g m rest (with_size n vars))
 passes g m vars name a n o left right label rest asked is =
-    join g.program 1 1 (at g m (ask_and_test name a o left right label rest) vars)
-    (at g m (c.If o left right label ∷ rest) (with_size n vars)) (at g m rest (with_size n vars))
-    (asked_goes g m vars name a n (c.If o left right label ∷ rest) asked)
+    joined (asked_goes g m vars name a n (c.If o left right label ∷ rest) asked)
     (test_goes g m o left right label rest (with_size n vars) is)
 
 -- the label of a trap, and the trap behind it
 abbrev pub IsTrapLabel : Seat → ℕ → TrapKind → Type 0
 IsTrapLabel g label kind = (more : List c.Stmt) × (after_label (label_name label) g.stmts ≡ Some (makers.trap kind ∷ more))
-
-abbrev pub TrapGoes : TrapKind → Type 0
-TrapGoes kind = (g : Seat) (m : state.Machine) (rest : List c.Stmt) (vars : state.Vars)
-    → Reaches g.program 1 (at g m (makers.trap kind ∷ rest) vars) (Over (over g.pending m (Stopped (state.Trapped kind))))
 
 pub fails : (g : Seat) (m : state.Machine) (vars : state.Vars) (name : state.Name) (a : c.Arg) (n : ℕ) (o : COp) (left right : c.Expr)
     (label : ℕ) (kind : TrapKind) (rest : List c.Stmt)
@@ -119,11 +102,6 @@ pub fails : (g : Seat) (m : state.Machine) (vars : state.Vars) (name : state.Nam
     → Reaches g.program 3 (at g m (ask_and_test name a o left right (label_name label) rest) vars)
     (Over (over g.pending m (Stopped (state.Trapped kind))))
 fails g m vars name a n o left right label kind rest asked is found trap =
-    let vars' = with_size n vars in
-    join g.program 1 2 (at g m (ask_and_test name a o left right (label_name label) rest) vars)
-    (at g m (c.If o left right (label_name label) ∷ rest) vars') (Over (over g.pending m (Stopped (state.Trapped kind))))
-    (asked_goes g m vars name a n (c.If o left right (label_name label) ∷ rest) asked)
-    (join g.program 1 1 (at g m (c.If o left right (label_name label) ∷ rest) vars') (at g m (makers.trap kind ∷ found.0) vars')
-    (Over (over g.pending m (Stopped (state.Trapped kind))))
-    (test_jumps g m o left right (label_name label) (makers.trap kind ∷ found.0) rest vars' is found.1)
-    (trap g m found.0 vars'))
+    joined (asked_goes g m vars name a n (c.If o left right (label_name label) ∷ rest) asked)
+    (joined (test_jumps g m o left right (label_name label) (makers.trap kind ∷ found.0) rest (with_size n vars) is found.1)
+    (trap g m found.0 (with_size n vars)))

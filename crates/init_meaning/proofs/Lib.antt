@@ -1,13 +1,14 @@
 -- What crates above cite.
 pub mod Held
+pub mod OwnObjects
 -- What the crate's own proofs cite.
 mod Common
 mod InitStatements
 mod InitRuns
+mod Entries
 mod InitObjects
 mod InitConstants
 mod InitTests
-mod OwnObjects
 mod LimitTests
 mod TakeTasks
 mod AllTaken

@@ -1,34 +1,36 @@
 -- The statements that make a table, a memory and globals against their tasks (WebAssembly Core 1.0, 4.5.4).
 use Rattle.w2c_base.proofs.Lists.{all_replicate}
-use Rattle.init_meaning.proofs.Common.{do_task, is_free, primitive, ◌≡◌, ℕ, zero, suc, ◌+◌, ◌*◌, ◌^◌, ◌<◌, ◌≤◌, Bool, true, false, ◌||◌}
-use Rattle.init_meaning.proofs.Common.{◌≢◌, List, [], ◌∷◌, ◌++◌, map, length, replicate, is_some, if◌then◌else◌, IsSome, nat_lt, slice_get}
-use Rattle.init_meaning.proofs.Common.{slice_set, Some, None, codes, Option, option_map, zip, sym, refl, ap, ◌∙◌, subst, inl, append_assoc}
-use Rattle.init_meaning.proofs.Common.{append-nil, arith, length-replicate, same_Some, slice_get_within, AllByRecursion, range_with_len}
-use Rattle.init_meaning.proofs.Common.{all_push, if_found, named, numbered, with_named, Trail, IsNumber, type_of, types_of, value, ValType}
-use Rattle.init_meaning.proofs.Common.{Value, I32, I64, imported_global_space, imported_globals, GlobalEntry, Limits, LimitsEntry, Module}
-use Rattle.init_meaning.proofs.Common.{shape_of, of_type, LinkedSet, NamedModule, MakeGlobal, MakeMemory, MakeTable, Task, done, wasm_first}
-use Rattle.init_meaning.proofs.Common.{with_found, named-with_another, named-with_named, Program, Effect, Gives, IsUndefined, NoEffect}
-use Rattle.init_meaning.proofs.Common.{mem_new, tab_new, Reaches, GlobalsAlike, first_global, global_name, memory_name, table_name}
-use Rattle.init_meaning.proofs.Common.{get_behind, global_at_another_place, global_is_no_pointer, module_is, machine_is, memory_object}
-use Rattle.init_meaning.proofs.Common.{objects_at, pointers_kept, store_is, table_object, with_unit, ElementsAgree, IsCallableIfAny}
-use Rattle.init_meaning.proofs.Common.{MemoriesAgree, ObjectsAgree, PointersAreSet, TablesAgree, Together, pointer_name, constant_expr}
-use Rattle.init_meaning.proofs.Common.{make_global, make_memory, make_table, max_number, n32, n64, zero_like, set_there}
-use Rattle.std.proofs.Common.{length-append}
+use Rattle.init_meaning.proofs.Common.{all_at, do_task, is_free, primitive, ◌≡◌, ℕ, zero, suc, ◌+◌, ◌*◌, ◌^◌, ◌<◌, ◌≤◌, Bool, true, false}
+use Rattle.init_meaning.proofs.Common.{◌≢◌, List, [], ◌∷◌, ◌++◌, map, length, replicate, is_some, IsSome, slice_get, slice_set, Some, None}
+use Rattle.init_meaning.proofs.Common.{codes, Option, option_map, zip, sym, refl, ap, ◌∙◌, subst, inl, arith, length-replicate, same_Some}
+use Rattle.init_meaning.proofs.Common.{slice_get_within, AllByRecursion, range_with_len, all_push, if_found, named, numbered, with_named}
+use Rattle.init_meaning.proofs.Common.{Trail, IsNumber, type_of, types_of, value, ValType, Value, I32, I64, imported_global_space}
+use Rattle.init_meaning.proofs.Common.{imported_globals, GlobalEntry, Limits, LimitsEntry, Module, shape_of, of_type, LinkedSet}
+use Rattle.init_meaning.proofs.Common.{NamedModule, MakeGlobal, MakeMemory, MakeTable, Task, done, wasm_first, with_found}
+use Rattle.init_meaning.proofs.Common.{named-with_another, named-with_named, Program, Effect, Gives, mem_new, tab_new, Reaches}
+use Rattle.init_meaning.proofs.Common.{GlobalsAlike, first_global, global_name, memory_name, table_name, global_at_another_place}
+use Rattle.init_meaning.proofs.Common.{global_is_no_pointer, module_is, machine_is, memory_object, objects_at, pointers_kept, store_is}
+use Rattle.init_meaning.proofs.Common.{table_object, with_unit, ElementsAgree, IsCallableIfAny, MemoriesAgree, ObjectsAgree, PointersAreSet}
+use Rattle.init_meaning.proofs.Common.{TablesAgree, Together, pointer_name, constant_expr, make_global, make_memory, make_table, max_number}
+use Rattle.init_meaning.proofs.Common.{n32, n64, zero_like, set_there}
 use Rattle.std.proofs.lemmas.List.{length-map, map_push}
 use Rattle.alike.proofs.LookUps.{memory_is_object, table_is_object}
 use Rattle.w2c_base.proofs.Types.{types_many, types_push}
 use Rattle.wasm_meaning.specs.Store as store
 use Rattle.wasm_meaning.proofs.Typed.{of_its_type}
 use Rattle.c_tree.specs.Tree as c
+use Rattle.c_meaning.specs.Primitives.{on_memory, on_table}
 use Rattle.c_meaning.specs.State as state
 use Rattle.c_meaning.specs.Machine as machine
-use Rattle.init_meaning.proofs.InitRuns.{Stage, IsDone, FollowsTask, FollowsTasks, and_others}
+use Rattle.std.proofs.lemmas.List.Concat.{flat_map_single}
+use Rattle.init_meaning.proofs.Entries.{is_numbered}
+use Rattle.init_meaning.proofs.InitRuns.{Stage, IsDone, FollowsTask, FollowsTasks, AreRows, and_just, at_stage, rows_all}
 use Rattle.c_init.specs.Fitting.{ShapeFits}
 use Rattle.c_init.proofs.Small.{at_least}
 use Rattle.init_meaning.specs.Zeros.{held}
 use Rattle.init_meaning.proofs.Held.{held_there, held_kept}
 use Rattle.init_meaning.specs.Declared.{HoldsGlobal}
-use Rattle.init_meaning.proofs.InitStatements.{Seat, gets_one, effect_goes, set_global_goes, at as going_at}
+use Rattle.init_meaning.proofs.InitStatements.{Seat, effect_goes, set_global_goes, at as going_at}
 use Rattle.init_meaning.proofs.InitConstants.{ConstantFound, constant_found, value_gets}
 use Rattle.init_meaning.proofs.InitTests.{HasLocals}
 use Rattle.init_meaning.proofs.InitObjects.{address_gets, global_found}
@@ -36,14 +38,27 @@ use Rattle.init_meaning.proofs.Surroundings.{Surroundings, IsFilled}
 use Rattle.init_meaning.proofs.OwnObjects.{own_kept, more_ready}
 
 -- pointers are set, and the unit has these objects in both
-pub record HasOwn (s : LinkedSet) (g : Seat) (m : NamedModule) (o : store.Objects) (x : state.Objects) (mach : state.Machine)
+pub record HasOwn (p : Program) (s : LinkedSet) (u : ℕ) (m : NamedModule) (o : store.Objects) (x : state.Objects) (mach : state.Machine)
     (made : store.Store) (trail : Trail) (vars : state.Vars) : Type 0 where
-  pub together : Together g.program s g.unit 0 mach made trail
+  pub together : Together p s u 0 mach made trail
   pub locals : HasLocals m.tree vars
-  pub pointers : PointersAreSet s g.unit m.tree mach
-  pub o_is : slice_get made g.unit ≡ Some o
-  pub x_is : slice_get mach.units g.unit ≡ Some x
+  pub pointers : PointersAreSet s u m.tree mach
+  pub o_is : slice_get made u ≡ Some o
+  pub x_is : slice_get mach.units u ≡ Some x
   pub declared : (k : ℕ) (e : GlobalEntry) → slice_get m.tree.globals k ≡ Some e → HoldsGlobal m.tree k e x.vars
+
+-- whatever the function's variables are
+pub with_locals : {p : Program} {s : LinkedSet} {u : ℕ} {m : NamedModule} {o : store.Objects} {x : state.Objects} {mach : state.Machine}
+    {made : store.Store} {trail : Trail} {vars others : state.Vars}
+    → HasOwn p s u m o x mach made trail vars → HasLocals m.tree others → HasOwn p s u m o x mach made trail others
+with_locals own locals = record {
+  together = own.together;
+  locals = locals;
+  pointers = own.pointers;
+  o_is = own.o_is;
+  x_is = own.x_is;
+  declared = own.declared;
+}
 
 abbrev pub MadeOrNew : Bool → Type 0 → Type 0 → Type 0
 MadeOrNew true made new = made
@@ -54,7 +69,7 @@ pub record IsMaking (s : LinkedSet) (g : Seat) (m : NamedModule) (has_table has_
     (mach : state.Machine) (made : store.Store) (trail : Trail) (vars : state.Vars) : Type 0 where
   pub o : store.Objects
   pub x : state.Objects
-  pub own : HasOwn s g m o x mach made trail vars
+  pub own : HasOwn g.program s g.unit m o x mach made trail vars
   pub table : MadeOrNew has_table (0 < length m.tree.tables → IsSome o.table)
       (0 < length m.tree.tables → named table_name x.tables ≡ Some machine.no_table)
   pub memory : MadeOrNew has_memory (0 < length m.tree.memories → IsSome o.memory)
@@ -68,26 +83,14 @@ empty_agree p s (suc n) = empty_agree p s n
 makes_table : (mach : state.Machine) (a : state.ObjectAddress) (n max : ℕ) → machine.table_in mach a ≡ Some machine.no_table → n ≤ 1000000
     → tab_new (state.Pointer (Some a) ∷ state.Number (I32 n) ∷ state.Number (I64 max) ∷ []) mach
     ≡ Gives (machine.with_table mach a (record { is_made = true; elements = replicate n None; max = max })) None
-makes_table mach a n max there few =
-    ap (λ (o : Option state.Table). elim o
-    [ None ↦ NoEffect | Some table ↦ if table.is_made || nat_lt 1000000 n then IsUndefined 8 else result ]) there
-    ∙ ap (λ b. if b then IsUndefined 8 else result) (at_least 1000000 n few)
-  where
-    result : Effect
-    result = Gives (machine.with_table mach a (record { is_made = true; elements = replicate n None; max = max })) None
+makes_table mach a n max there few = rw (there, tab_new, on_table) (rw (at_least 1000000 n few) refl)
 
 makes_memory : (mach : state.Machine) (a : state.ObjectAddress) (n max : ℕ) → machine.memory_in mach a ≡ Some machine.no_memory → n ≤ 16384
     → max ≤ 4294967296
     → mem_new (state.Pointer (Some a) ∷ state.Number (I32 n) ∷ state.Number (I64 max) ∷ []) mach
     ≡ Gives (machine.with_memory mach a (record { is_made = true; bytes = replicate (n * 65536) 0; max = max })) None
 makes_memory mach a n max there few low =
-    ap (λ (o : Option state.Memory). elim o
-    [ None ↦ NoEffect | Some memory ↦ if memory.is_made || nat_lt 16384 n || nat_lt 4294967296 max then IsUndefined 8 else result ]) there
-    ∙ ap (λ b. if b || nat_lt 4294967296 max then IsUndefined 8 else result) (at_least 16384 n few)
-    ∙ ap (λ b. if b then IsUndefined 8 else result) (at_least 4294967296 max low)
-  where
-    result : Effect
-    result = Gives (machine.with_memory mach a (record { is_made = true; bytes = replicate (n * 65536) 0; max = max })) None
+    rw (there, mem_new, on_memory) (rw (at_least 16384 n few, at_least 4294967296 max low) refl)
 
 -- a variable gets its value, behind those that have theirs
 globals_push : (k j : ℕ) (globals : List Value) (v : Value) (vars : state.Vars) → j ≡ k + length globals → j < 2 ^ 64
@@ -105,9 +108,15 @@ globals_push k j (x ∷ globals) v vars at few there alike =
       globals_push (suc k) j globals v vars (omega (arith, at)) few there alike.1,
     )
 
+abbrev pub entries : List (ℕ × GlobalEntry) → List GlobalEntry
+entries front = map (λ (x : ℕ × GlobalEntry). x.1) front
+
+abbrev pub global_task : ℕ × GlobalEntry → Task
+global_task x = MakeGlobal x.1.ty x.1.code
+
 module _ (s : LinkedSet) (g : Seat) (m : NamedModule) where
   objects_agree : (o : store.Objects) (x : state.Objects) (mach : state.Machine) (made : store.Store) (trail : Trail) (vars : state.Vars)
-      → HasOwn s g m o x mach made trail vars → ObjectsAgree g.program s g.unit o x
+      → HasOwn g.program s g.unit m o x mach made trail vars → ObjectsAgree g.program s g.unit o x
   objects_agree o x mach made trail vars own =
       let r = objects_at g.program s mach made trail g.unit o own.together.agrees own.o_is in
       subst (ObjectsAgree g.program s g.unit o) (same_Some r.0 x (sym r.1 ∙ own.x_is)) r.2
@@ -115,12 +124,12 @@ module _ (s : LinkedSet) (g : Seat) (m : NamedModule) where
   -- a statement that changes the unit's objects, and no pointer among them, does a task
   changes_own : (t : Task) (stage : Stage) (start rest : List c.Stmt) (mach : state.Machine) (made : store.Store) (trail : Trail)
       (vars : state.Vars) (o o' : store.Objects) (x x' : state.Objects)
-      → HasOwn s g m o x mach made trail vars → ObjectsAgree g.program s g.unit o' x'
+      → HasOwn g.program s g.unit m o x mach made trail vars → ObjectsAgree g.program s g.unit o' x'
       → ((table : store.Table) → o'.table ≡ Some table → AllByRecursion (IsCallableIfAny s g.unit) table.elements)
       → ((object : state.Name) → named (pointer_name object) x'.vars ≡ named (pointer_name object) x.vars)
       → ((k : ℕ) (e : GlobalEntry) → slice_get m.tree.globals k ≡ Some e → HoldsGlobal m.tree k e x'.vars)
       → ((n : ℕ) → do_task s g.unit t n made trail ≡ done n (slice_set made g.unit o') trail)
-      → (HasOwn s g m o' x' (with_unit mach g.unit x') (slice_set made g.unit o') trail vars
+      → (HasOwn g.program s g.unit m o' x' (with_unit mach g.unit x') (slice_set made g.unit o') trail vars
       → stage (with_unit mach g.unit x') (slice_set made g.unit o') trail vars)
       → Reaches g.program 1 (going_at g mach start vars) (going_at g (with_unit mach g.unit x') rest vars)
       → IsDone s g t stage start rest mach made trail vars
@@ -157,17 +166,8 @@ module _ (s : LinkedSet) (g : Seat) (m : NamedModule) where
       → Reaches g.program 1 (going_at g mach (c.Call None (c.Called name)
       (c.Address object ∷ c.Value (n32 l.min) ∷ c.Value (n64 (max_number l.max)) ∷ []) ∷ rest) vars) (going_at g after rest vars)
   new_goes mach after vars name object does l rest there is gives =
-      effect_goes g mach after name (c.Address object ∷ args) rest vars (value ∷ values) does
-      (gets_one g mach vars (c.Address object) args value values (address_gets g mach vars object there) (λ rest. refl)) is gives
-    where
-      args : List c.Arg
-      args = c.Value (n32 l.min) ∷ c.Value (n64 (max_number l.max)) ∷ []
-
-      value : state.CValue
-      value = state.Pointer (Some (record { unit = g.unit; name = object }))
-
-      values : List state.CValue
-      values = state.Number (I32 l.min) ∷ state.Number (I64 (max_number l.max)) ∷ []
+      effect_goes g mach after name (c.Address object ∷ c.Value (n32 l.min) ∷ c.Value (n64 (max_number l.max)) ∷ []) rest vars _ does
+      (λ rest. rw (address_gets g mach vars object there rest) refl) is gives
 
   table_follows : (l : Limits) (rest : List c.Stmt) → 0 < length m.tree.tables → l.min ≤ 1000000
       → FollowsTask s g (IsMaking s g m false false []) (MakeTable l) (IsMaking s g m true false []) (make_table l ∷ rest) rest
@@ -214,7 +214,7 @@ module _ (s : LinkedSet) (g : Seat) (m : NamedModule) where
 
   -- a table that the unit has holds functions of modules before
   table_callable : (o : store.Objects) (x : state.Objects) (mach : state.Machine) (made : store.Store) (trail : Trail) (vars : state.Vars)
-      → HasOwn s g m o x mach made trail vars → (table : store.Table) → o.table ≡ Some table
+      → HasOwn g.program s g.unit m o x mach made trail vars → (table : store.Table) → o.table ≡ Some table
       → AllByRecursion (IsCallableIfAny s g.unit) table.elements
   table_callable o x mach made trail vars own table is = own.together.ready.elements g.unit table
       (ap (λ (found : Option store.Objects). if_found found (λ o. o.table)) own.o_is ∙ is)
@@ -269,7 +269,7 @@ module _ (s : LinkedSet) (g : Seat) (m : NamedModule) where
             are_bytes = all_replicate (λ b. b < 256) (l.min * 65536) 0 (λ some. omega arith);
           })
 
-  pub global_follows : (front : List GlobalEntry) (k : ℕ) (e : GlobalEntry) (rest : List c.Stmt)
+  global_follows : (front : List GlobalEntry) (k : ℕ) (e : GlobalEntry) (rest : List c.Stmt)
       → Surroundings s g m → k ≡ length front → slice_get m.tree.globals k ≡ Some e
       → ShapeFits e.ty (shape_of (imported_global_space m.tree) e.code)
       → FollowsTask s g (IsMaking s g m true true front) (MakeGlobal e.ty e.code) (IsMaking s g m true true (front ++ e ∷ []))
@@ -286,9 +286,8 @@ module _ (s : LinkedSet) (g : Seat) (m : NamedModule) where
       (store.with_objects made g.unit (λ o. record { memory = o.memory; table = o.table; globals = o.globals ++ v ∷ [] })) trail)) first_is
       ∙ ap (λ x. done n x trail) (store_is made g.unit here.o change here.own.o_is))
       (λ own. record { o = o'; x = x'; own = own; table = here.table; memory = here.memory; types = types })
-      (subst (λ after. Reaches g.program 1 (going_at g mach (make_global m.tree (k, e) ∷ rest) vars) (going_at g after rest vars))
-      (machine_is mach g.unit here.x changes here.own.x_is)
-      (set_global_goes g mach (global_name j) (c.Value (constant_expr m.tree e.code)) (state.Number found.value) rest vars refl
+      (rw (machine_is mach g.unit here.x changes here.own.x_is) at (set_global_goes g mach (global_name j) (c.Value (constant_expr m.tree
+      e.code)) (state.Number found.value) rest vars refl
       (here.own.locals.globals_seen j)
       (ap (λ (x : Option state.Objects). option_map zero_like (if_found x (λ o. named (global_name j) o.vars))) here.own.x_is
       ∙ of_type_there)
@@ -299,7 +298,7 @@ module _ (s : LinkedSet) (g : Seat) (m : NamedModule) where
 
       found : ConstantFound s g m.tree mach made vars e.ty e.code
       found = constant_found s g m.tree mach made vars (imported_global_space m.tree) e.ty e.code fits
-          (λ index is. let o = a.early_global index e.ty is in
+          (λ index is. let o = a.known.early_global index e.ty is in
           global_found s g m.tree mach made trail vars index g.unit e.ty (module_is s g.unit m a.module_is) o.0 o.1
           here.own.together.agrees here.own.together.ready here.own.pointers here.own.locals.pointers_seen here.own.locals.globals_seen)
 
@@ -353,50 +352,31 @@ module _ (s : LinkedSet) (g : Seat) (m : NamedModule) where
 
   -- ---- all that the module defines
 
-  make_globals : (spare k : ℕ) (front es : List GlobalEntry) (rest : List c.Stmt) (tasks : List Task)
-      → Surroundings s g m → k ≡ length front → front ++ es ≡ m.tree.globals
-      → AllByRecursion (λ (e : GlobalEntry). ShapeFits e.ty (shape_of (imported_global_space m.tree) e.code)) es
-      → FollowsTasks s g spare (IsMaking s g m true true (front ++ es)) rest tasks
-      → FollowsTasks s g spare (IsMaking s g m true true front) (map (make_global m.tree) (zip (range_with_len k (length es)) es) ++ rest)
-      (map (λ (e : GlobalEntry). MakeGlobal e.ty e.code) es ++ tasks)
-  make_globals spare k front [] rest tasks a at whole fits behind =
-      subst (λ es. FollowsTasks s g spare (IsMaking s g m true true es) rest tasks) (append-nil front) behind
-  make_globals spare k front (e ∷ es) rest tasks a at whole fits behind =
-      and_others s g spare (IsMaking s g m true true front) (MakeGlobal e.ty e.code) (IsMaking s g m true true (front ++ e ∷ []))
-      (make_global m.tree (k, e) ∷ others) others (map (λ (e : GlobalEntry). MakeGlobal e.ty e.code) es ++ tasks) refl
-      (global_follows front k e others a at entry fits.0)
-      (make_globals spare (k + 1) (front ++ e ∷ []) es rest tasks a (omega (arith, at, size))
-      (append_assoc front (e ∷ []) es ∙ whole) fits.1
-      (subst (λ es. FollowsTasks s g spare (IsMaking s g m true true es) rest tasks) (sym (append_assoc front (e ∷ []) es)) behind))
-    where
-      others : List c.Stmt
-      others = map (make_global m.tree) (zip (range_with_len (k + 1) (length es)) es) ++ rest
-
-      size : length (front ++ e ∷ []) ≡ length front + 1
-      size = length-append front (e ∷ [])
-
-      entry : slice_get m.tree.globals k ≡ Some e
-      entry =
-          let place : k ≡ length front + 0 = omega (arith, at) in
-          ap (λ (es : List GlobalEntry). slice_get es k) (sym whole)
-          ∙ (ap (slice_get (front ++ e ∷ es)) place ∙ get_behind front (e ∷ es) 0)
+  pub global_rows : Surroundings s g m → AreRows s g (numbered m.tree.globals) (λ front. IsMaking s g m true true (entries front))
+      (λ x. make_global m.tree x ∷ []) global_task
+  global_rows a = record {
+    costs = λ x. refl;
+    each = λ front x behind rest e.
+        let n = is_numbered m.tree.globals front x behind e in
+        rw (map_push (λ (x : ℕ × GlobalEntry). x.1) front x) (global_follows (entries front) x.0 x.1 rest a (n.number
+        ∙ sym (length-map front (λ (x : ℕ × GlobalEntry). x.1))) n.entry
+        (all_at (λ (e : GlobalEntry). ShapeFits e.ty (shape_of (imported_global_space m.tree) e.code)) m.tree.globals x.0 x.1
+        a.instantiable.globals n.entry));
+  }
 
   -- of a kind that a module defines once at most
-  make_one : (spare : ℕ) (from to : Stage) (P : LimitsEntry → Type 0) (task : Limits → Task) (stmt : Limits → c.Stmt)
-      (es : List LimitsEntry) (rest : List c.Stmt) (tasks : List Task)
+  make_one : {spare : ℕ} {from to : Stage} {rest : List c.Stmt} {tasks : List Task} (P : LimitsEntry → Type 0) (task : Limits → Task)
+      (stmt : Limits → c.Stmt) (es : List LimitsEntry)
       → ((l : Limits) → is_free (task l) ≡ false) → length es ≤ 1 → AllByRecursion P es
       → (length es ≡ 0 → (mach : state.Machine) (made : store.Store) (trail : Trail) (vars : state.Vars) → from mach made trail vars
       → to mach made trail vars)
-      → ((t : LimitsEntry) (rest : List c.Stmt) → 0 < length es → P t → FollowsTask s g from (task t.limits) to (stmt t.limits ∷ rest) rest)
+      → ((t : LimitsEntry) → 0 < length es → P t → FollowsTask s g from (task t.limits) to (stmt t.limits ∷ rest) rest)
       → FollowsTasks s g spare to rest tasks
       → FollowsTasks s g spare from (map (λ (t : LimitsEntry). stmt t.limits) es ++ rest)
       (map (λ (t : LimitsEntry). task t.limits) es ++ tasks)
-  make_one spare from to P task stmt [] rest tasks costs one fits none some behind =
-      λ n made trail mach vars here. behind n made trail mach vars (none refl mach made trail vars here)
-  make_one spare from to P task stmt (t ∷ []) rest tasks costs one fits none some behind =
-      and_others s g spare from (task t.limits) to (stmt t.limits ∷ rest) rest tasks (costs t.limits)
-      (some t rest (omega arith) fits.0) behind
-  make_one spare from to P task stmt (t ∷ v ∷ es) rest tasks costs one fits none some behind = absurd (omega (arith, one))
+  make_one P task stmt [] costs one fits none some behind = at_stage (none refl) behind
+  make_one P task stmt (t ∷ []) costs one fits none some behind = and_just (costs t.limits) (some t (omega arith) fits.0) behind
+  make_one P task stmt (t ∷ v ∷ es) costs one fits none some behind = absurd (omega (arith, one))
 
   -- when all is made the module is ready
   pub making_is_filled : (mach : state.Machine) (made : store.Store) (trail : Trail) (vars : state.Vars)
@@ -424,17 +404,25 @@ stmts_making m rest =
     ++ (map (λ (t : LimitsEntry). make_memory t.limits) m.memories
     ++ (map (make_global m) (numbered m.globals) ++ rest))
 
+-- globals with their numbers
+numbered_tasks : (k : ℕ) (es : List GlobalEntry)
+    → map global_task (zip (range_with_len k (length es)) es) ≡ map (λ (e : GlobalEntry). MakeGlobal e.ty e.code) es
+numbered_tasks k [] = refl
+numbered_tasks k (e ∷ es) = ap (λ ts. MakeGlobal e.ty e.code ∷ ts) (numbered_tasks (k + 1) es)
+
+entries_of : (k : ℕ) (es : List GlobalEntry) → entries (zip (range_with_len k (length es)) es) ≡ es
+entries_of k [] = refl
+entries_of k (e ∷ es) = ap (λ xs. e ∷ xs) (entries_of (k + 1) es)
+
 -- a table and a memory
-pub objects_follow : (s : LinkedSet) (g : Seat) (m : NamedModule) (spare : ℕ) (rest : List c.Stmt) (tasks : List Task) → Surroundings s g m
-    → FollowsTasks s g spare (IsMaking s g m true true []) rest tasks
+pub objects_follow : (s : LinkedSet) (g : Seat) (m : NamedModule) {spare : ℕ} {rest : List c.Stmt} (tasks : List Task) → Surroundings s g m
+    → FollowsTasks s g spare (IsMaking s g m true true []) rest (map global_task (numbered m.tree.globals) ++ tasks)
     → FollowsTasks s g spare (IsMaking s g m false false [])
     (map (λ (t : LimitsEntry). make_table t.limits) m.tree.tables
-    ++ (map (λ (t : LimitsEntry). make_memory t.limits) m.tree.memories ++ rest))
-    (map (λ (t : LimitsEntry). MakeTable t.limits) m.tree.tables
-    ++ (map (λ (t : LimitsEntry). MakeMemory t.limits) m.tree.memories ++ tasks))
-objects_follow s g m spare rest tasks a behind =
-    make_one s g m spare (IsMaking s g m false false []) (IsMaking s g m true false []) (λ (t : LimitsEntry). t.limits.min ≤ 1000000)
-    MakeTable make_table m.tree.tables _ _ (λ l. refl) a.instantiable.one_table a.instantiable.table_limits
+    ++ (map (λ (t : LimitsEntry). make_memory t.limits) m.tree.memories ++ rest)) (tasks_making m.tree tasks)
+objects_follow s g m {spare} {rest} tasks a behind =
+    make_one s g m (λ (t : LimitsEntry). t.limits.min ≤ 1000000) MakeTable make_table m.tree.tables (λ l. refl) a.instantiable.one_table
+    a.instantiable.table_limits
     (λ none mach made trail vars here. record {
       o = here.o;
       x = here.x;
@@ -443,10 +431,9 @@ objects_follow s g m spare rest tasks a behind =
       memory = here.memory;
       types = here.types;
     })
-    (λ t rest some few. table_follows s g m t.limits rest some few)
-    (make_one s g m spare (IsMaking s g m true false []) (IsMaking s g m true true [])
-    (λ (t : LimitsEntry). (t.limits.min ≤ 16384) × (max_number t.limits.max ≤ 4294967296))
-    MakeMemory make_memory m.tree.memories _ _ (λ l. refl) a.instantiable.one_memory a.instantiable.memory_limits
+    (λ t some few. table_follows s g m t.limits _ some few)
+    (make_one s g m (λ (t : LimitsEntry). (t.limits.min ≤ 16384) × (max_number t.limits.max ≤ 4294967296)) MakeMemory make_memory
+    m.tree.memories (λ l. refl) a.instantiable.one_memory a.instantiable.memory_limits
     (λ none mach made trail vars here. record {
       o = here.o;
       x = here.x;
@@ -455,14 +442,19 @@ objects_follow s g m spare rest tasks a behind =
       memory = λ some. absurd (omega (arith, none, some));
       types = here.types;
     })
-    (λ t rest some few. memory_follows s g m t.limits rest some few.0 few.1)
-    behind)
+    (λ t some few. memory_follows s g m t.limits rest some few.0 few.1)
+    (subst (λ ts. FollowsTasks s g spare (IsMaking s g m true true []) rest (ts ++ tasks)) (numbered_tasks 0 m.tree.globals) behind))
 
-pub making_follows : (s : LinkedSet) (g : Seat) (m : NamedModule) (spare : ℕ) (rest : List c.Stmt) (tasks : List Task) → Surroundings s g m
+-- behind the globals
+pub all_made : (s : LinkedSet) (g : Seat) (m : NamedModule) {spare : ℕ} {rest : List c.Stmt} {tasks : List Task} → Surroundings s g m
+    → FollowsTasks s g spare (IsFilled s g m) rest tasks
+    → FollowsTasks s g spare (IsMaking s g m true true (entries (numbered m.tree.globals))) rest tasks
+all_made s g m {spare} {rest} {tasks} a behind =
+    rw (entries_of 0 m.tree.globals) (at_stage (λ mach made trail vars here. making_is_filled s g m mach made trail vars a here) behind)
+
+pub making_follows : (s : LinkedSet) (g : Seat) (m : NamedModule) {spare : ℕ} {rest : List c.Stmt} {tasks : List Task} → Surroundings s g m
     → FollowsTasks s g spare (IsFilled s g m) rest tasks
     → FollowsTasks s g spare (IsMaking s g m false false []) (stmts_making m.tree rest) (tasks_making m.tree tasks)
-making_follows s g m spare rest tasks a behind =
-    objects_follow s g m spare (map (make_global m.tree) (numbered m.tree.globals) ++ rest)
-    (map (λ (g : GlobalEntry). MakeGlobal g.ty g.code) m.tree.globals ++ tasks) a
-    (make_globals s g m spare 0 [] m.tree.globals rest tasks a refl refl a.instantiable.globals
-    (λ n made trail mach vars here. behind n made trail mach vars (making_is_filled s g m mach made trail vars a here)))
+making_follows s g m {spare} {rest} {tasks} a behind =
+    objects_follow s g m tasks a
+    (rw (flat_map_single (make_global m.tree) (numbered m.tree.globals)) at (rows_all (global_rows s g m a) (all_made s g m a behind)))

@@ -8,9 +8,8 @@ use Rattle.c_meaning.specs.State as state
 use Rattle.c_meaning.specs.Linking.{Definition, definition_at, defined, external_func}
 use Rattle.c_init.specs.Init.{Part, call_part, part_end, part_func, part_stmts}
 use Rattle.init_meaning.proofs.Common.{◌≡◌, ℕ, suc, ◌+◌, true, List, [], ◌∷◌, ◌++◌, Some, None, Option, option_map, option_or, refl, ap}
-use Rattle.init_meaning.proofs.Common.{subst}
-use Rattle.init_meaning.proofs.Common.{arith, if_found, slice_get, Trail, LinkedSet, NamedModule, Task, step, Program, func_named, Reaches}
-use Rattle.init_meaning.proofs.Common.{Progress, Defines, do_tasks}
+use Rattle.init_meaning.proofs.Common.{subst, arith, if_found, slice_get, Trail, LinkedSet, NamedModule, Task, step, Program, func_named}
+use Rattle.init_meaning.proofs.Common.{Reaches, Progress, Defines, do_tasks}
 use Rattle.init_meaning.proofs.InitStatements.{Seat, at, state_at, frame, call_goes}
 use Rattle.init_meaning.proofs.InitRuns.{Stage, FollowsTasks, Instantiates, before}
 use Rattle.init_meaning.proofs.InitTests.{HasLocals}
@@ -78,32 +77,35 @@ pub part_called : (s : LinkedSet) (g : Seat) (m : NamedModule) (spare k : ℕ) (
     → Defines g.program g.unit (part_func m.tree (k, x)) → Crosses m from → Crosses m to → PartFollows s g x from to ts
     → FollowsTasks s g (suc spare) (to g) rest tasks
     → FollowsTasks s g (suc spare) (from g) (call_part k ∷ rest) (ts ++ tasks)
-part_called s g m spare k x from to rest ts tasks d cross_from cross_to follows behind n made trail mach vars here =
-    before s g (suc spare) spare 1 n n (at g mach (call_part k ∷ rest) vars) (at h mach (part_stmts x) (init_vars m.tree))
-    (do_tasks s g.unit (ts ++ tasks) n made trail) way (omega arith, omega arith)
-    (as_outer s g d.item (part_stmts x) rest vars spare (at h mach (part_stmts x) (init_vars m.tree)) n
-    (do_tasks s g.unit (ts ++ tasks) n made trail)
-    (follows d.item rest vars spare tasks back n made trail mach (init_vars m.tree)
-    (cross_from.enters g d.item (part_stmts x) rest vars mach made trail here)))
+part_called s g m spare k x from to rest ts tasks d cross_from cross_to follows behind = record { follow = follow }
   where
-    h : Seat
-    h = inside g d.item (part_stmts x) rest vars
+    h : state.Vars → Seat
+    h vars = inside g d.item (part_stmts x) rest vars
 
-    known : HasLocals m.tree vars
-    known = cross_from.locals g mach made trail vars here
-
-    way : Reaches g.program 1 (at g mach (call_part k ∷ rest) vars) (at h mach (part_stmts x) (init_vars m.tree))
-    way = subst (Reaches g.program 1 (at g mach (call_part k ∷ rest) vars))
+    way : (mach : state.Machine) (vars : state.Vars)
+        → Reaches g.program 1 (at g mach (call_part k ∷ rest) vars) (at (h vars) mach (part_stmts x) (init_vars m.tree))
+    way mach vars = subst (Reaches g.program 1 (at g mach (call_part k ∷ rest) vars))
         (begins g.program g.unit true (part_name k) m.tree (part_stmts x) mach g.pending (frame g None rest vars ∷ g.below) d)
         (call_goes g mach None (part_name k) [] (state.UnitFunc g.unit (part_name k)) rest vars [] (λ rest. refl) d.is_no_primitive
         (named_own g.program g.unit (part_name k) _ d.defined))
 
     -- the return
-    back : FollowsTasks s h (spare + 2) (to h) (part_end x) tasks
-    back n made trail mach inner there =
-        as_inner s g d.item (part_stmts x) rest vars (spare + 2) (at h mach (part_end x) inner) n (do_tasks s g.unit tasks n made trail)
-        (before s g (spare + 2) (suc spare) 1 n n (at h mach (part_end x) inner) (at g mach rest vars)
-        (do_tasks s g.unit tasks n made trail)
-        (step g.program g.pending (state_at h mach (part_end x) inner)) (omega arith, omega arith)
-        (behind n made trail mach vars
-        (cross_to.leaves g d.item (part_stmts x) rest vars mach made trail inner known there)))
+    back : (vars : state.Vars) → HasLocals m.tree vars → FollowsTasks s (h vars) (spare + 2) (to (h vars)) (part_end x) tasks
+    back vars known = record {
+      follow = λ n made trail mach inner there.
+          as_inner s g d.item (part_stmts x) rest vars (spare + 2) (at (h vars) mach (part_end x) inner) n
+          (do_tasks s g.unit tasks n made trail)
+          (before s g (spare + 2) (suc spare) 1 n n _ _ (do_tasks s g.unit tasks n made trail)
+          (step g.program g.pending (state_at (h vars) mach (part_end x) inner)) (omega arith, omega arith)
+          (behind.follow n made trail mach vars
+          (cross_to.leaves g d.item (part_stmts x) rest vars mach made trail inner known there)));
+    }
+
+    follow : (n : ℕ) (made : store.Store) (trail : Trail) (mach : state.Machine) (vars : state.Vars) → from g mach made trail vars
+        → Instantiates s g (suc spare) (at g mach (call_part k ∷ rest) vars) n (do_tasks s g.unit (ts ++ tasks) n made trail)
+    follow n made trail mach vars here =
+        before s g (suc spare) spare 1 n n _ _ (do_tasks s g.unit (ts ++ tasks) n made trail) (way mach vars) (omega arith, omega arith)
+        (as_outer s g d.item (part_stmts x) rest vars spare (at (h vars) mach (part_stmts x) (init_vars m.tree)) n
+        (do_tasks s g.unit (ts ++ tasks) n made trail)
+        ((follows d.item rest vars spare tasks (back vars (cross_from.locals g mach made trail vars here))).follow n made trail mach
+        (init_vars m.tree) (cross_from.enters g d.item (part_stmts x) rest vars mach made trail here)))

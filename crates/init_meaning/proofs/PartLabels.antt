@@ -1,6 +1,6 @@
 -- The labels of the parts of an init function are found: that of the trap for bounds, and those of the loops over bytes.
 use Rattle.c_tree.proofs.NumberedLabels.{labels-append, labels_differ}
-use Rattle.c_tree.specs.Rules.{are_distinct, labels_of}
+use Rattle.c_tree.specs.Rules.{labels_of}
 use Rattle.c_tree.specs.Makers as makers
 use Rattle.c_tree.specs.Tree as c
 use Rattle.alike.specs.Placed.{IsPlaced}
@@ -8,8 +8,8 @@ use Rattle.alike.proofs.Placed.{placed}
 use Rattle.c_init.specs.Init.{bytes_part, part_end, part_stmts}
 use Rattle.c_init.specs.Portions.{numbered_from}
 use Rattle.c_init.proofs.InitLabelsDiffer.{bytes_within}
-use Rattle.init_meaning.proofs.Common.{◌≡◌, ℕ, ◌+◌, ◌^◌, ◌<◌, ◌≤◌, true, List, [], ◌∷◌, ◌++◌, length, flat_map, sym, refl, ap, ◌∙◌, subst}
-use Rattle.init_meaning.proofs.Common.{append-nil, arith, SegmentEntry, SegmentOut, NamedModule, label_name, bounds_label, write_data}
+use Rattle.init_meaning.proofs.Common.{◌≡◌, ℕ, ◌+◌, ◌^◌, ◌<◌, ◌≤◌, List, [], ◌∷◌, ◌++◌, length, flat_map, sym, refl, ap, ◌∙◌, append-nil}
+use Rattle.init_meaning.proofs.Common.{arith, SegmentEntry, SegmentOut, NamedModule, label_name, bounds_label, write_data}
 use Rattle.init_meaning.proofs.InitStatements.{Seat}
 use Rattle.init_meaning.proofs.InitTests.{IsTrapLabel}
 
@@ -22,8 +22,7 @@ pub testing_traps : (stmts : List c.Stmt) (g : Seat) → g.stmts ≡ stmts ++ tr
 testing_traps stmts g e unlabelled = (
   [],
   (placed g.stmts stmts trapping [] (e ∙ ap (λ rest. stmts ++ rest) (sym (append-nil trapping)))
-      (subst (λ labels. are_distinct labels ≡ true)
-      (sym (ap labels_of e ∙ (labels-append stmts trapping ∙ ap (λ labels. labels ++ labels_of trapping) unlabelled))) refl)).0,
+      (rw (ap labels_of e ∙ (labels-append stmts trapping ∙ ap (λ labels. labels ++ labels_of trapping) unlabelled)) refl)).0,
 )
 
 -- the loops over the bytes of segments, of which the first has this number

@@ -8,31 +8,22 @@ use Rattle.c_meaning.specs.Machine as machine
 use Rattle.c_init.specs.Fitting.{ShapeFits}
 use Rattle.c_init.specs.Instantiable.{IsInstantiable}
 use Rattle.alike.proofs.LookUps.{module_is}
-use Rattle.init_meaning.proofs.Common.{◌≡◌, ℕ, suc, ◌<◌, true, false, List, [], ◌∷◌, length, IsSome, slice_get, Some, None, Option, refl}
-use Rattle.init_meaning.proofs.Common.{ap, arith, Trail, SegmentOut, ValType, func_space, global_space, imported_global_space, memory_space}
-use Rattle.init_meaning.proofs.Common.{table_space, Code, SegmentEntry, Module, shape_of, LinkedSet, NamedModule, array_named}
-use Rattle.init_meaning.proofs.Common.{memory_object}
-use Rattle.init_meaning.proofs.Common.{memory_seen, table_object, table_seen, ElementsAgree, MemoryAgrees, PointersAreSet, TableAgrees}
-use Rattle.init_meaning.proofs.Common.{Together, memory_arg, table_arg, bounds_label, data_name, tests_bounds}
+use Rattle.init_meaning.proofs.Common.{◌≡◌, ℕ, suc, true, List, [], ◌∷◌, length, slice_get, Some, None, Option, refl, ap, arith, Trail}
+use Rattle.init_meaning.proofs.Common.{SegmentOut, global_space, Code, Module, shape_of, LinkedSet, NamedModule, memory_object, memory_seen}
+use Rattle.init_meaning.proofs.Common.{table_object, table_seen, ElementsAgree, MemoryAgrees, PointersAreSet, TableAgrees, Together}
+use Rattle.init_meaning.proofs.Common.{memory_arg, table_arg, bounds_label, tests_bounds}
 use Rattle.init_meaning.proofs.InitStatements.{Seat, Gets}
-use Rattle.init_meaning.specs.Owners.{TableOwner, MemoryOwner, GlobalOwner}
+use Rattle.init_meaning.specs.Owners.{TableOwner, MemoryOwner}
 use Rattle.init_meaning.proofs.InitObjects.{table_there, memory_there, table_gets, memory_gets, global_found}
 use Rattle.init_meaning.proofs.InitConstants.{OffsetFound, offset_found, constant_found}
 use Rattle.init_meaning.proofs.InitTests.{HasLocals, IsTrapLabel}
-use Rattle.init_meaning.specs.ReachedFuncs.{FuncIsReached}
+use Rattle.init_meaning.specs.InitFollows.{IsKnown}
 
 -- ---- what is around
 
 pub record Surroundings (s : LinkedSet) (g : Seat) (m : NamedModule) : Type 0 where
   pub module_is : slice_get s.modules g.unit ≡ Some m
-  pub table : IsSome (slice_get (table_space m.tree) 0) → TableOwner s g.unit m.tree
-  pub memory : IsSome (slice_get (memory_space m.tree) 0) → MemoryOwner s g.unit m.tree
-  pub global : (index : ℕ) (t : ValType) → slice_get (global_space m.tree) index ≡ Some (t, false) → GlobalOwner s g.unit m.tree index t
-  pub function : (index : ℕ) → index < length (func_space m.tree) → FuncIsReached g.program s g.unit m index
-  pub array : (k : ℕ) (d : SegmentEntry) → slice_get m.tree.segments k ≡ Some d → 0 < length d.bytes
-      → array_named g.program g.unit (data_name k) ≡ Some d.bytes
-  pub early_global : (index : ℕ) (t : ValType) → slice_get (imported_global_space m.tree) index ≡ Some (t, false)
-      → (o : GlobalOwner s g.unit m.tree index t) × (o.global.owner < g.unit)
+  pub known : IsKnown g.program s g.unit m
   pub instantiable : IsInstantiable m.tree
 
 -- where bounds are tested, the function has a trap for them
@@ -110,7 +101,7 @@ pub offset_of : (s : LinkedSet) (g : Seat) (m : NamedModule) (mach : state.Machi
 offset_of s g m mach made trail vars code a f fits =
     offset_found s g m.tree mach made vars code
     (constant_found s g m.tree mach made vars (global_space m.tree) type.I32 code fits
-    (λ index is. let o = a.global index type.I32 is in
+    (λ index is. let o = a.known.global index type.I32 is in
     global_found s g m.tree mach made trail vars index (suc g.unit) type.I32 (module_is s g.unit m a.module_is) o (omega (arith, o.early))
     f.together.agrees f.together.ready (pointers_set s g m mach made trail vars a f) f.locals.pointers_seen f.locals.globals_seen))
 

@@ -2,18 +2,17 @@
 -- Core 1.0, 4.5.4).
 use Rattle.alike.proofs.LookUps.{memory_is_object, table_is_object, var_is_object}
 use Rattle.c_meaning.specs.Primitives.{primitive}
-use Rattle.init_meaning.proofs.Common.{Agrees, Effect, ◌==◌, ◌≡◌, ℕ, suc, ◌+◌, ◌/◌, ◌^◌, ◌<◌, ◌≤◌, Bool, true, false, ◌||◌, ◌≢◌, ◌⊎◌, List}
-use Rattle.init_meaning.proofs.Common.{[], ◌∷◌, ◌++◌, length, if◌then◌else◌, slice_get, Some, None, codes, Option, option_map, sym, refl}
-use Rattle.init_meaning.proofs.Common.{ap, ◌∙◌, subst, inl, inr, div-one, arith, none-some, same_Some, ⊤, set_same, if_found, named}
-use Rattle.init_meaning.proofs.Common.{with_named, Trail, type_of, ImportLimits, ValType, Value, I64, imported_globals, Import, ImportKind}
-use Rattle.init_meaning.proofs.Common.{ImportFunc, ImportGlobal, ImportMemory, ImportTable, Limits, IsMaximum, GlobalAddress, LinkedSet}
-use Rattle.init_meaning.proofs.Common.{NamedModule, as_memory, as_table, global_at, import_at, memory_at, table_at, Take, do_task, done}
-use Rattle.init_meaning.proofs.Common.{limits_fit, tested, with_found, named-with_another, named-with_named, join, NoEffect, gives, mem_len}
-use Rattle.init_meaning.proofs.Common.{mem_max, tab_len, tab_max, Reaches, Over, Stopped, go_on, over, call, give, global_name, memory_name}
-use Rattle.init_meaning.proofs.Common.{table_name, import_symbol, global_at_another_place, global_object, global_seen, machine_is}
-use Rattle.init_meaning.proofs.Common.{memory_object, memory_seen, objects_at, table_object, table_seen, with_unit, MemoryAgrees}
-use Rattle.init_meaning.proofs.Common.{ObjectsAgree, PointsTo, TableAgrees, Together, pointer_name, asks_something, max_number, set_pointer}
-use Rattle.init_meaning.proofs.Common.{test_limits, zero_like, set_there}
+use Rattle.init_meaning.proofs.Common.{Agrees, Effect, ◌==◌, ◌≡◌, ℕ, suc, ◌+◌, ◌/◌, ◌^◌, ◌<◌, ◌≤◌, Bool, true, false, ◌≢◌, ◌⊎◌, List, []}
+use Rattle.init_meaning.proofs.Common.{◌∷◌, ◌++◌, length, if◌then◌else◌, slice_get, Some, None, codes, Option, option_map, sym, refl, ap}
+use Rattle.init_meaning.proofs.Common.{◌∙◌, subst, inl, inr, div-one, arith, none-some, same_Some, ⊤, set_same, if_found, named, with_named}
+use Rattle.init_meaning.proofs.Common.{Trail, type_of, ImportLimits, ValType, Value, I64, imported_globals, Import, ImportKind, ImportFunc}
+use Rattle.init_meaning.proofs.Common.{ImportGlobal, ImportMemory, ImportTable, Limits, IsMaximum, GlobalAddress, LinkedSet, NamedModule}
+use Rattle.init_meaning.proofs.Common.{global_at, memory_at, table_at, Take, do_task, limits_fit, tested, named-with_another}
+use Rattle.init_meaning.proofs.Common.{named-with_named, NoEffect, gives, mem_len, mem_max, tab_len, tab_max, Reaches, go_on, call, give}
+use Rattle.init_meaning.proofs.Common.{global_name, memory_name, table_name, import_symbol, global_at_another_place, global_object}
+use Rattle.init_meaning.proofs.Common.{global_seen, machine_is, memory_object, memory_seen, objects_at, table_object, table_seen, with_unit}
+use Rattle.init_meaning.proofs.Common.{MemoryAgrees, ObjectsAgree, PointsTo, TableAgrees, Together, pointer_name, asks_something}
+use Rattle.init_meaning.proofs.Common.{max_number, set_pointer, test_limits, zero_like, set_there}
 use Rattle.wasm_meaning.specs.Store as store
 use Rattle.wasm_meaning.specs.Execution as exec
 use Rattle.c_tree.specs.Tree as c
@@ -21,7 +20,7 @@ use Rattle.c_meaning.specs.State as state
 use Rattle.c_meaning.specs.Machine as machine
 use Rattle.init_meaning.specs.Zeros.{held}
 use Rattle.init_meaning.proofs.Held.{held_there, held_kept}
-use Rattle.init_meaning.proofs.InitStatements.{Seat, at, running, call_goes, pointer_goes}
+use Rattle.init_meaning.proofs.InitStatements.{Seat, at, running, call_goes, joined, pointer_goes}
 use Rattle.init_meaning.proofs.InitRuns.{Stage, FollowsTask, IsDone, Traps}
 use Rattle.init_meaning.proofs.InitTests.{HasLocals}
 use Rattle.init_meaning.proofs.InitObjects.{table_there, memory_there, global_there, pointer_gets}
@@ -112,9 +111,7 @@ pointer_set s g m i object a table memory number rest mach made trail vars p her
   statements = 1 + n.0;
   some = omega arith;
   few = omega (arith, n.1);
-  way = subst (λ stmt. Reaches g.program (1 + n.0) (at g mach (stmt ∷ rest) vars) (at g after rest vars)) (sym usable)
-      (join g.program 1 n.0 (at g mach (c.Call (Some (pointer_name object)) (c.Called (import_symbol i)) [] ∷ rest) vars)
-      (go_on g.program g.pending (call g.program p.address mach [] (frame ∷ g.below))) (at g after rest vars)
+  way = rw usable (joined
       (call_goes g mach (Some (pointer_name object)) (import_symbol i) [] p.address rest vars []
       (λ rest. refl) p.is_no_primitive p.address_is)
       (subst (Reaches g.program n.0 (go_on g.program g.pending (call g.program p.address mach [] (frame ∷ g.below)))) arrives n.2));
@@ -170,14 +167,7 @@ pointer_set s g m i object a table memory number rest mach made trail vars p her
 
 -- what the task of an import does, by its kind
 abbrev takes_as : LinkedSet → ℕ → Import → ℕ → store.Store → Trail → ImportKind → exec.Called
-takes_as s u i n made trail kind = elim kind [
-  | ImportFunc t ↦ done n made trail
-  | ImportTable want ↦ with_found (if_found (if_found (import_at s u i) as_table) (store.table_in made)) made trail
-      (λ t. tested (limits_fit (length t.elements) t.max want) ImportLimits n made trail)
-  | ImportMemory want ↦ with_found (if_found (if_found (import_at s u i) as_memory) (store.memory_in made)) made trail
-      (λ m. tested (limits_fit (store.pages m) m.max want) ImportLimits n made trail)
-  | ImportGlobal t mutable ↦ done n made trail
-]
+takes_as s u i n made trail kind = do_task s u (Take (record i { kind = kind })) n made trail
 
 pub global_follows : (s : LinkedSet) (g : Seat) (m : NamedModule) (i : Import) (t : ValType) (mutable table memory : Bool) (number : ℕ)
     (rest : List c.Stmt)
@@ -302,8 +292,7 @@ limits_follow s g m i l table memory number stage object len_of max_of a len max
       statements = p.statements + h.1.statements;
       some = omega (arith, p.some);
       few = omega (arith, p.few, h.1.few);
-      way = join g.program p.statements h.1.statements (at g mach start vars) (at g p.machine tests vars)
-          (at g p.machine rest h.1.locals) p.way h.1.way;
+      way = joined p.way h.1.way;
     })
     go (inr h) = inr (record {
       kind = ImportLimits;
@@ -312,8 +301,7 @@ limits_follow s g m i l table memory number stage object len_of max_of a len max
       does = λ n. does n ∙ ap (λ b. tested b ImportLimits n made trail) h.0;
       statements = p.statements + h.1.statements;
       few = omega (arith, p.few, h.1.few);
-      way = join g.program p.statements h.1.statements (at g mach start vars) (at g p.machine tests vars)
-          (Over (over g.pending p.machine (Stopped (state.Trapped ImportLimits)))) p.way h.1.way;
+      way = joined p.way h.1.way;
     })
 
 pub table_follows : (s : LinkedSet) (g : Seat) (m : NamedModule) (i : Import) (l : Limits) (table memory : Bool) (number : ℕ)
@@ -358,10 +346,7 @@ table_follows s g m i l table memory number rest kind k can low mach made trail 
 
     does : (n : ℕ) → do_task s g.unit (Take i) n made trail ≡ tested (limits_fit (length t.0.elements) t.0.max l) ImportLimits n made trail
     does n =
-        ap (takes_as s g.unit i n made trail) kind
-        ∙ (ap (λ x. with_found (if_found (if_found x as_table) (store.table_in made)) made trail
-        (λ t. tested (limits_fit (length t.elements) t.max l) ImportLimits n made trail)) k.import_is
-        ∙ ap (λ x. with_found x made trail (λ t. tested (limits_fit (length t.elements) t.max l) ImportLimits n made trail)) t.1)
+        ap (takes_as s g.unit i n made trail) kind ∙ rw (k.import_is, t.1) refl
 
 pub memory_follows : (s : LinkedSet) (g : Seat) (m : NamedModule) (i : Import) (l : Limits) (table memory : Bool) (number : ℕ)
     (rest : List c.Stmt)
@@ -405,7 +390,4 @@ memory_follows s g m i l table memory number rest kind k can low mach made trail
 
     does : (n : ℕ) → do_task s g.unit (Take i) n made trail ≡ tested (limits_fit (store.pages t.0) t.0.max l) ImportLimits n made trail
     does n =
-        ap (takes_as s g.unit i n made trail) kind
-        ∙ (ap (λ x. with_found (if_found (if_found x as_memory) (store.memory_in made)) made trail
-        (λ t. tested (limits_fit (store.pages t) t.max l) ImportLimits n made trail)) k.import_is
-        ∙ ap (λ x. with_found x made trail (λ t. tested (limits_fit (store.pages t) t.max l) ImportLimits n made trail)) t.1)
+        ap (takes_as s g.unit i n made trail) kind ∙ rw (k.import_is, t.1) refl

@@ -1,20 +1,21 @@
 -- An init function follows its module's instantiation (WebAssembly Core 1.0, 4.5.4): its beginning, and all
 -- tasks one behind another.
 use Rattle.wasm_meaning.specs.Execution as exec
+use Rattle.wasm_meaning.specs.Store as store
 use Rattle.c_tree.specs.Makers as makers
 use Rattle.c_tree.specs.Tree as c
 use Rattle.c_meaning.specs.State as state
 use Rattle.c_init.specs.Init.{Part, all_parts, call_part, calling_stmts, is_large, stmts_with, whole_stmts}
 use Rattle.c_init.specs.Instantiable.{IsInstantiable}
 use Rattle.init_meaning.proofs.InitLabels.{bounds_found, calling_limits_found, data_placed, limits_found, traps}
-use Rattle.init_meaning.proofs.Common.{◌≡◌, ℕ, zero, suc, Bool, true, false, cond, ◌||◌, List, [], ◌∷◌, ◌++◌, map, length, if◌then◌else◌}
-use Rattle.init_meaning.proofs.Common.{slice_get, Some, filter, flat_map, sym, refl, ap, ◌∙◌, subst, arith, or_right, AllByRecursion}
-use Rattle.init_meaning.proofs.Common.{list_any, range_with_len, ImportLimits, init_symbol_of, memory_of_import, memory_space}
-use Rattle.init_meaning.proofs.Common.{table_of_import, table_space, GlobalEntry, Import, ImportKind, ImportFunc, ImportGlobal}
-use Rattle.init_meaning.proofs.Common.{ImportMemory, ImportTable, Limits, LimitsEntry, IsMaximum, LinkedSet, NamedModule, Begin}
-use Rattle.init_meaning.proofs.Common.{MakeGlobal, Take, Task, tasks_of, stays, Program, Pending, Progress, all_behind, all_front}
-use Rattle.init_meaning.proofs.Common.{CallsFollow, has_test, init_stmts, limits_label, make_memory, make_table, start_stmts, takes_from}
-use Rattle.init_meaning.proofs.Common.{tests_limits, trap_if, InitFollows, do_tasks}
+use Rattle.init_meaning.proofs.Common.{Trail, ◌≡◌, ℕ, zero, suc, Bool, true, false, cond, ◌||◌, List, [], ◌∷◌, ◌++◌, map, length}
+use Rattle.init_meaning.proofs.Common.{if◌then◌else◌, slice_get, Some, filter, flat_map, sym, refl, ap, ◌∙◌, subst, arith, or_right}
+use Rattle.init_meaning.proofs.Common.{AllByRecursion, list_any, range_with_len, ImportLimits, init_symbol_of, memory_of_import}
+use Rattle.init_meaning.proofs.Common.{memory_space, table_of_import, table_space, Import, ImportKind, ImportFunc, ImportGlobal}
+use Rattle.init_meaning.proofs.Common.{ImportMemory, ImportTable, Limits, LimitsEntry, IsMaximum, LinkedSet, NamedModule, Begin, Take, Task}
+use Rattle.init_meaning.proofs.Common.{tasks_of, stays, Program, Pending, Progress, all_behind, all_front, CallsFollow, has_test}
+use Rattle.init_meaning.proofs.Common.{init_stmts, limits_label, make_memory, make_table, start_stmts, takes_from, tests_limits, trap_if}
+use Rattle.init_meaning.proofs.Common.{InitFollows, do_tasks}
 use Rattle.init_meaning.specs.InitFollows.{InitsFollow, IsKnown}
 use Rattle.init_meaning.specs.Parts.{PartsAreDefined}
 use Rattle.init_meaning.specs.Taken.{is_taken}
@@ -39,17 +40,20 @@ seat p u item stmts pending below =
 -- the beginning pays for the return and the start call
 begin_follows : (s : LinkedSet) (g : Seat) (stage : Stage) (rest : List c.Stmt) (tasks : List Task) → FollowsTasks s g 62 stage rest tasks
     → FollowsTasks s g 0 stage (c.Null ∷ rest) (Begin ∷ tasks)
-begin_follows s g stage rest tasks behind zero made trail mach vars here = record {
-  to = at g mach (c.Null ∷ rest) vars;
-  goes = tt;
-  statements = 0;
-  way = stays g.program (at g mach (c.Null ∷ rest) vars);
-  least = omega arith;
-}
-begin_follows s g stage rest tasks behind (suc k) made trail mach vars here =
-    before s g 0 62 1 (suc k) k (at g mach (c.Null ∷ rest) vars) (at g mach rest vars) (do_tasks s g.unit tasks k made trail)
-    (null_goes g mach rest vars)
-    (omega arith, omega arith) (behind k made trail mach vars here)
+begin_follows s g stage rest tasks behind = record { follow = follow }
+  where
+    follow : (n : ℕ) (made : store.Store) (trail : Trail) (mach : state.Machine) (vars : state.Vars) → stage mach made trail vars
+        → Instantiates s g 0 (at g mach (c.Null ∷ rest) vars) n (do_tasks s g.unit (Begin ∷ tasks) n made trail)
+    follow zero made trail mach vars here = record {
+      to = at g mach (c.Null ∷ rest) vars;
+      goes = tt;
+      statements = 0;
+      way = stays g.program (at g mach (c.Null ∷ rest) vars);
+      least = omega arith;
+    }
+    follow (suc k) made trail mach vars here =
+        before s g 0 62 1 (suc k) k _ _ (do_tasks s g.unit tasks k made trail) (null_goes g mach rest vars) (omega arith, omega arith)
+        (behind.follow k made trail mach vars here)
 
 -- ---- all tasks
 
@@ -97,16 +101,7 @@ module _ (p : Program) (s : LinkedSet) (u : ℕ) (m : NamedModule) (pending : Pe
   sits stmts = seat p u k.init.item stmts pending below
 
   around : (stmts : List c.Stmt) → Surroundings s (sits stmts) m
-  around stmts = record {
-    module_is = module_is;
-    table = k.table;
-    memory = k.memory;
-    global = k.global;
-    function = k.function;
-    array = k.array;
-    early_global = k.early_global;
-    instantiable = instantiable;
-  }
+  around stmts = record { module_is = module_is; known = k; instantiable = instantiable }
 
   -- from its first statement on it does the tasks
   abbrev DoesTasks : List c.Stmt → Type 0
@@ -137,7 +132,7 @@ module _ (p : Program) (s : LinkedSet) (u : ℕ) (m : NamedModule) (pending : Pe
       let g : Seat = sits (whole_stmts m) in
       taken_first (whole_stmts m) (stmts_making m.tree (stmts_behind m (traps m))) (tasks_making m.tree (tasks_behind m.tree))
       (λ used. (used, limits_found m instantiable.few_segments used))
-      (making_follows s g m 62 (stmts_behind m (traps m)) (tasks_behind m.tree) (around (whole_stmts m))
+      (making_follows s g m (around (whole_stmts m))
       (filled_follows s g m (traps m) refl (around (whole_stmts m)) (λ used. bounds_found m instantiable.few_segments used) calls_follow
       (data_placed m instantiable.few_segments)))
 
@@ -155,12 +150,9 @@ module _ (p : Program) (s : LinkedSet) (u : ℕ) (m : NamedModule) (pending : Pe
       ++ (map call_part (range_with_len 0 (length parts)) ++ ends)))
       (tasks_making m.tree (tasks_behind m.tree))
       (λ used. (used, calling_limits_found m (length parts) used))
-      (objects_follow s g m 62 (map call_part (range_with_len 0 (length parts)) ++ ends)
-      (map (λ (e : GlobalEntry). MakeGlobal e.ty e.code) m.tree.globals ++ tasks_behind m.tree) (around stmts)
-      (subst (λ made. FollowsTasks s g 62 (IsMaking s g m true true []) (made ++ ends)
-      (map (λ (e : GlobalEntry). MakeGlobal e.ty e.code) m.tree.globals ++ tasks_behind m.tree))
-      (ap (calls 0) (sym are) ∙ sym (calls_are 0 parts))
-      (parts_follow s g m (around stmts) refl calls_follow trap (subst (PartsAreDefined p u m.tree 0) are defined))))
+      (objects_follow s g m (tasks_behind m.tree) (around stmts)
+      (rw (ap (calls 0) (sym are) ∙ sym (calls_are 0 parts)) at (parts_follow s g m (around stmts) refl calls_follow trap
+      (subst (PartsAreDefined p u m.tree 0) are defined))))
 
   -- the module is large, or it has no parts
   all_tasks : DoesTasks (init_stmts m)
@@ -184,10 +176,9 @@ follows_as s g from n (exec.CallStops why made trail) h = h
 
 pub inits_follow : InitsFollow
 inits_follow p s u m module_is k instantiable calls_follow n made trail mach pending below together unmade =
-    subst (λ from. InitFollows p s u pending below from n (do_tasks s u (tasks_of m.tree) n made trail))
-    (sym (begins p u false (init_symbol_of m.name) m.tree (init_stmts m) mach pending below k.init))
-    (follows_as s g (at g mach (init_stmts m) (init_vars m.tree)) n (do_tasks s u (tasks_of m.tree) n made trail)
-    (all_tasks p s u m pending below module_is k instantiable calls_follow n made trail mach (init_vars m.tree) here))
+    rw (begins p u false (init_symbol_of m.name) m.tree (init_stmts m) mach pending below k.init) (follows_as s g (at g mach (init_stmts m)
+    (init_vars m.tree)) n (do_tasks s u (tasks_of m.tree) n made trail)
+    ((all_tasks p s u m pending below module_is k instantiable calls_follow).follow n made trail mach (init_vars m.tree) here))
   where
     g : Seat
     g = seat p u k.init.item (init_stmts m) pending below

@@ -1,8 +1,8 @@
 -- A function that gives a pointer: the statements of its call, for an own object and for one that is passed on.
-use Rattle.unit_meaning.proofs.Common.{Vars, ◌≡◌, ℕ, ◌+◌, ◌≤◌, true, List, [], ◌∷◌, if◌then◌else◌, Some, None, Option, sym, refl, ap, ◌∙◌}
-use Rattle.unit_meaning.proofs.Common.{subst, arith, CType, Plain, Definition, Program, definition_at, func_named, is_object, primitive}
-use Rattle.unit_meaning.proofs.Common.{Reaches, Going, Pending, Progress, go_on, Frame, FuncAddress, Machine, ObjectAddress, Pointer}
-use Rattle.unit_meaning.proofs.Common.{Running, State, Stuck, UnitFunc, accessor_type, external, result_name}
+use Rattle.unit_meaning.proofs.Common.{Vars, ◌≡◌, ℕ, ◌+◌, ◌≤◌, true, List, [], ◌∷◌, if◌then◌else◌, Some, None, Option, refl, ap, ◌∙◌, subst}
+use Rattle.unit_meaning.proofs.Common.{arith, CType, Plain, Definition, Program, definition_at, func_named, is_object, primitive, Reaches}
+use Rattle.unit_meaning.proofs.Common.{Going, Pending, Progress, go_on, Frame, FuncAddress, Machine, ObjectAddress, Pointer, Running, State}
+use Rattle.unit_meaning.proofs.Common.{Stuck, UnitFunc, accessor_type, external, result_name}
 use Rattle.c_tree.specs.declared.tree.CType.TheVariants as c_type
 use Rattle.c_tree.specs.Tree as tree
 use Rattle.c_meaning.specs.State.{Name}
@@ -34,15 +34,13 @@ pub own_gives : (p : Program) (u item : ℕ) (symbol object : Name) (pointer : C
     (record {
       item = item;
       func = external (accessor_type pointer) symbol [] (own_stmts object);
-      body =
-          record { locals = []; stmts = own_stmts object };
+      body = record { locals = []; stmts = own_stmts object };
     })
     → GivesPointer p 1 (UnitFunc u symbol) (record { unit = u; name = object })
 own_gives p u item symbol object pointer is_pointer definition pending m below there =
     let s : State = record {
       machine = m;
-      running =
-          record { unit = u; item = item; result = pointer; stmts = own_stmts object; rest = own_stmts object; vars = [] };
+      running = record { unit = u; item = item; result = pointer; stmts = own_stmts object; rest = own_stmts object; vars = [] };
       below = below;
     } in
     let start : go_on p pending (step.call p (UnitFunc u symbol) m [] below) ≡ Going pending s =
@@ -52,9 +50,7 @@ own_gives p u item symbol object pointer is_pointer definition pending m below t
     rw (there, pointer_returned is_pointer (Some (record { unit = u; name = object }))) refl in (
       1,
       omega arith,
-      subst (λ (x : Progress). Reaches p 1 x (go_on p pending
-          (step.give m (Some (Pointer (Some (record { unit = u; name = object })))) below))) (sym start)
-          (subst (Reaches p 1 (Going pending s)) e (ways.step p pending s)),
+      rw start (subst (Reaches p 1 (Going pending s)) e (ways.step p pending s)),
     )
 
 -- to an object that another function gives
@@ -92,8 +88,7 @@ passed_gives p most u item symbol name f pointer inner target is_pointer params 
     (if b then step.give m (Some (Pointer (Some target))) below else step.Stops m Stuck)) may_return) (ways.step p pending last) in (
       1 + (within.0 + 1),
       omega (arith, within.1),
-      subst (λ (x : Progress). Reaches p (1 + (within.0 + 1)) x end) (sym start)
-          (ways.join p 1 (within.0 + 1) _ _ _ first (ways.join p within.0 1 _ _ _ within.2 back)),
+      rw start (ways.join p 1 (within.0 + 1) _ _ _ first (ways.join p within.0 1 _ _ _ within.2 back)),
     )
   where
     running : List tree.Stmt → Vars → Running

@@ -1,15 +1,16 @@
 -- Each exported and each imported table, memory and global is reached: its function gives the owner's pointer,
 -- through as many units as pass it on.
-use Rattle.unit_meaning.proofs.Common.{length, memory_imports, table_imports, ◌≡◌, ℕ, zero, suc, ◌+◌, ◌*◌, ◌<◌, Bool, true, List, [], ◌∷◌}
-use Rattle.unit_meaning.proofs.Common.{if◌then◌else◌, slice_get, Some, None, Option, option_map, sym, refl, ap, ◌∙◌, subst, arith, at_index}
-use Rattle.unit_meaning.proofs.Common.{ValType, export_symbol_of, SymbolKind, global_type_in, imported_globals, Export, ExportKind}
-use Rattle.unit_meaning.proofs.Common.{ExportFunc, ExportGlobal, ExportMemory, ExportTable, Import, ImportKind, ImportFunc, ImportGlobal}
-use Rattle.unit_meaning.proofs.Common.{ImportMemory, ImportTable, Module, Name, func_type_of, CType, Plain, External, GlobalAddress}
-use Rattle.unit_meaning.proofs.Common.{IndexSpaces, IsFunc, IsGlobal, IsMemory, IsTable, LinkedSet, NamedModule, global_type, import_at}
-use Rattle.unit_meaning.proofs.Common.{instances, Program, definition_at, external_func, func_named, func_type, primitive, FuncAddress}
-use Rattle.unit_meaning.proofs.Common.{ObjectAddress, UnitFunc, first_global, global_name, memory_name, table_name, accessor_type}
-use Rattle.unit_meaning.proofs.Common.{export_symbol, export_type, global_accessor_type, import_symbol, import_type, is_usable, ResolvesAs}
-use Rattle.unit_meaning.proofs.Common.{accessor, export_func, external, passes_on, result_name, usable_symbol, IsAcceptedSet, program_of}
+use Rattle.unit_meaning.proofs.Common.{export_of, length, memory_imports, table_imports, ◌≡◌, ℕ, zero, suc, ◌+◌, ◌*◌, ◌<◌, Bool, true, List}
+use Rattle.unit_meaning.proofs.Common.{[], ◌∷◌, if◌then◌else◌, slice_get, Some, None, Option, option_map, sym, refl, ap, ◌∙◌, subst, arith}
+use Rattle.unit_meaning.proofs.Common.{at_index, ValType, export_symbol_of, SymbolKind, global_type_in, imported_globals, Export}
+use Rattle.unit_meaning.proofs.Common.{ExportKind, ExportFunc, ExportGlobal, ExportMemory, ExportTable, Import, ImportKind, ImportFunc}
+use Rattle.unit_meaning.proofs.Common.{ImportGlobal, ImportMemory, ImportTable, Module, Name, func_type_of, CType, Plain, External}
+use Rattle.unit_meaning.proofs.Common.{GlobalAddress, IndexSpaces, IsFunc, IsGlobal, IsMemory, IsTable, LinkedSet, NamedModule, global_type}
+use Rattle.unit_meaning.proofs.Common.{import_at, instances, Program, definition_at, external_func, func_named, func_type, primitive}
+use Rattle.unit_meaning.proofs.Common.{FuncAddress, ObjectAddress, UnitFunc, first_global, global_name, memory_name, table_name}
+use Rattle.unit_meaning.proofs.Common.{accessor_type, export_symbol, export_type, global_accessor_type, import_symbol, import_type}
+use Rattle.unit_meaning.proofs.Common.{is_usable, ResolvesAs, accessor, export_func, external, passes_on, result_name, usable_symbol}
+use Rattle.unit_meaning.proofs.Common.{IsAcceptedSet, program_of}
 use Rattle.w2c_base.specs.declared.value.ValType.TheVariants as val
 use Rattle.w2c_mangle.specs.declared.symbol.SymbolKind.TheVariants as symbol
 use Rattle.wasm_meaning.specs.LinkedSet as link
@@ -33,18 +34,18 @@ use Rattle.c_init.proofs.Small.{some_same}
 -- ---- the kind of an export by what it stands for
 
 abbrev stands_by : IndexSpaces → Export → ExportKind → Option External
-stands_by spaces e kind = elim kind [
-  | ExportFunc ↦ option_map IsFunc (at_index spaces.funcs e.index)
-  | ExportTable ↦ option_map IsTable (at_index spaces.tables e.index)
-  | ExportMemory ↦ option_map IsMemory (at_index spaces.memories e.index)
-  | ExportGlobal ↦ option_map IsGlobal (at_index spaces.globals e.index)
-]
+stands_by spaces e kind = (export_of spaces (record e { kind = kind })).1
 
 -- a table, a memory or a global
 pub data Stands (spaces : IndexSpaces) (e : Export) : ExportKind → External → Type 0 where
   StandsForTable : (owner : ℕ) → at_index spaces.tables e.index ≡ Some owner → Stands spaces e ExportTable (IsTable owner)
   StandsForMemory : (owner : ℕ) → at_index spaces.memories e.index ≡ Some owner → Stands spaces e ExportMemory (IsMemory owner)
   StandsForGlobal : (g : GlobalAddress) → at_index spaces.globals e.index ≡ Some g → Stands spaces e ExportGlobal (IsGlobal g)
+
+made_as : {spaces : IndexSpaces} {e : Export} {kind : ExportKind} {o : External} {A : Type 0} (g : A → External) (x : Option A)
+    → ((a : A) → x ≡ Some a → Stands spaces e kind (g a)) → option_map g x ≡ Some o → Stands spaces e kind o
+made_as g None make same = absurd cc
+made_as {spaces} {e} {kind} g (Some a) make same = subst (Stands spaces e kind) (some_same same) (make a refl)
 
 stands_as : (s : LinkedSet) (spaces : IndexSpaces) (e : Export) (kind : ExportKind) (o : External) (t : ObjectAddress)
     → target_of s o ≡ Some t → stands_by spaces e kind ≡ Some o → Stands spaces e kind o
@@ -54,21 +55,9 @@ stands_as s spaces e ExportFunc o t target stands = absurd (none o target (at_in
     none o target None e = cc
     none (IsFunc f) target (Some g) e = cc
     none _ target (Some g) e = cc
-stands_as s spaces e ExportTable o t target stands = go (at_index spaces.tables e.index) refl stands
-  where
-    go : (x : Option ℕ) → at_index spaces.tables e.index ≡ x → option_map IsTable x ≡ Some o → Stands spaces e ExportTable o
-    go None is e' = absurd (cc)
-    go (Some w) is e' = subst (Stands spaces e ExportTable) (some_same e') (StandsForTable w is)
-stands_as s spaces e ExportMemory o t target stands = go (at_index spaces.memories e.index) refl stands
-  where
-    go : (x : Option ℕ) → at_index spaces.memories e.index ≡ x → option_map IsMemory x ≡ Some o → Stands spaces e ExportMemory o
-    go None is e' = absurd (cc)
-    go (Some w) is e' = subst (Stands spaces e ExportMemory) (some_same e') (StandsForMemory w is)
-stands_as s spaces e ExportGlobal o t target stands = go (at_index spaces.globals e.index) refl stands
-  where
-    go : (x : Option GlobalAddress) → at_index spaces.globals e.index ≡ x → option_map IsGlobal x ≡ Some o → Stands spaces e ExportGlobal o
-    go None is e' = absurd (cc)
-    go (Some w) is e' = subst (Stands spaces e ExportGlobal) (some_same e') (StandsForGlobal w is)
+stands_as s spaces e ExportTable o t target stands = made_as IsTable (at_index spaces.tables e.index) StandsForTable stands
+stands_as s spaces e ExportMemory o t target stands = made_as IsMemory (at_index spaces.memories e.index) StandsForMemory stands
+stands_as s spaces e ExportGlobal o t target stands = made_as IsGlobal (at_index spaces.globals e.index) StandsForGlobal stands
 
 -- ---- what the export's function does
 
@@ -199,13 +188,7 @@ export_gives s accepted v n is e o t target found imports (Passes pointer is_poi
 -- ---- symbols and types of both ends are one
 
 abbrev kind_by : NamedModule → Export → ExportKind → SymbolKind
-kind_by m e kind = elim kind [
-  | ExportFunc ↦ symbol.Func
-  | ExportTable ↦ symbol.Table
-  | ExportMemory ↦ symbol.Memory
-  | ExportGlobal ↦ kind_of_global
-      (global_type_in m.tree e.index)
-]
+kind_by m e kind = kind_of m (record e { kind = kind })
 
 same_both : (s : LinkedSet) → IsAcceptedSet s → (v : ℕ) (n : NamedModule) → slice_get s.modules v ≡ Some n
     → (h : IsPlaced s.hosts (instances s) v n) (e : Export) (kind : ExportKind) (o : External) → e.kind ≡ kind

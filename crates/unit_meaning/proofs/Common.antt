@@ -1,7 +1,7 @@
 -- What proofs of this crate cite of std, of the crates below and of specs/, passed on from one place. Declares nothing.
 pub use Rattle.std.proofs.Common.{◌≡◌, ℕ, zero, suc, ◌+◌, ◌-◌, ◌*◌, ◌/◌, ◌%◌, ◌^◌, ◌<◌, ◌≤◌, Bool, true, false, cond, not, ◌&&◌, ◌||◌, ◌≢◌}
 pub use Rattle.std.proofs.Common.{◌⊎◌, List, [], ◌∷◌, ◌++◌, map, reverse, length, take, drop, replicate, is_some, is_none, if◌then◌else◌}
-pub use Rattle.std.proofs.Common.{IsSome, ◌==◌, slice_get, slice_set, Some, None, codes, All, Contains, filter, Option, option_map, find}
+pub use Rattle.std.proofs.Common.{IsSome, slice_get, slice_set, Some, None, codes, All, Contains, filter, Option, option_map, find}
 pub use Rattle.std.proofs.Common.{zip, flat_map, filter_map, bytes_eq, sym, refl, ap, ◌∙◌, subst, inl, inr, append_assoc, arith}
 pub use Rattle.std.proofs.Common.{length-append}
 pub use Rattle.std.proofs.lemmas.Bool.Decides.{nat_tests}
@@ -20,9 +20,9 @@ pub use Rattle.w2c_base.proofs.Nothing.{append_none, none_at}
 pub use Rattle.w2c_base.proofs.OfEach.{all_append, all_at}
 pub use Rattle.w2c_base.proofs.Places.{get_within, some_first, right_behind, take_front, get_front}
 pub use Rattle.w2c_base.specs.Lookup.{AreDistinct, at_index, if_found, named, numbered, with_named}
-pub use Rattle.w2c_base.specs.Run.{Ask, Call, Event, Gave, Host, HostFunction, HostTrapped, Init, Phase, Reply, Trail, asked, asks_in}
+pub use Rattle.w2c_base.specs.Run.{Ask, Call, Event, Gave, Host, HostFunction, HostTrapped, Init, Phase, Reply, Trail, asks_in}
 pub use Rattle.w2c_base.specs.Run.{call_ended, values_in}
-pub use Rattle.w2c_base.specs.Values.{IsNumber, bits, equal_func_types, equal_type, equal_types, is_result, number_of, type_of, types_of}
+pub use Rattle.w2c_base.specs.Values.{IsNumber, bits, equal_func_types, equal_types, is_result, type_of, types_of}
 pub use Rattle.w2c_base.specs.Values.{value, zeros}
 pub use Rattle.w2c_base.specs.declared.signature.FuncType.{FuncType}
 pub use Rattle.w2c_base.specs.declared.trap.TrapKind.{TrapKind}
@@ -58,7 +58,6 @@ pub use Rattle.wasm_tree.specs.declared.entries.ImportKind.TheVariants.{Table as
 pub use Rattle.wasm_tree.specs.declared.entries.LimitsEntry.{LimitsEntry}
 pub use Rattle.wasm_tree.specs.declared.entries.SegmentEntry.{SegmentEntry}
 pub use Rattle.wasm_tree.specs.declared.entries.Start.{Start}
-pub use Rattle.wasm_tree.specs.declared.operators.StoreOp.{StoreOp}
 pub use Rattle.wasm_tree.specs.declared.tree.Module.{Module}
 pub use Rattle.wasm_typing.specs.ModuleFaults.{duplicate_exports, fault_if}
 pub use Rattle.wasm_typing.specs.Verdict.{IsValid, bodies_of}
@@ -103,7 +102,7 @@ pub use Rattle.c_helpers.specs.Needed.{helpers_of}
 pub use Rattle.c_helpers.specs.declared.operation.Helper.{Helper}
 pub use Rattle.c_symbols.specs.Objects.{callee, function_name, pointers_of}
 pub use Rattle.c_symbols.specs.Symbols.{Typed, accessor_type, c_func_type, c_func_type_if, declared_symbols, export_symbol, export_type}
-pub use Rattle.c_symbols.specs.Symbols.{firsts, func_imports, global_accessor_type, global_imports, global_kind, global_symbol}
+pub use Rattle.c_symbols.specs.Symbols.{firsts, func_imports, global_accessor_type, global_imports, global_kind}
 pub use Rattle.c_symbols.specs.Symbols.{import_symbol, import_type, imported_symbols, is_usable, memory_imports, pointer_type, symbol_type}
 pub use Rattle.c_symbols.specs.Symbols.{table_imports}
 pub use Rattle.body_emitter.specs.Variables.{params_of}

@@ -1,7 +1,7 @@
 -- The variables that a unit declares for its module, and its arrays of data, are found by their names (C11, 6.9.2).
 use Rattle.unit_meaning.proofs.Common.{◌≡◌, ℕ, zero, suc, ◌+◌, ◌^◌, ◌<◌, Bool, true, false, ◌≢◌, List, [], ◌∷◌, ◌++◌, map, length, is_some}
-use Rattle.unit_meaning.proofs.Common.{if◌then◌else◌, slice_get, Some, None, Option, option_map, zip, flat_map, filter_map, bytes_eq, sym}
-use Rattle.unit_meaning.proofs.Common.{refl, ap, ◌∙◌, subst, append_assoc, arith, decimal_injective, none-some, same_Some, slice_get_within}
+use Rattle.unit_meaning.proofs.Common.{if◌then◌else◌, slice_get, Some, None, Option, option_map, zip, flat_map, filter_map, bytes_eq, refl}
+use Rattle.unit_meaning.proofs.Common.{ap, ◌∙◌, append_assoc, arith, decimal_injective, none-some, same_Some, slice_get_within}
 use Rattle.unit_meaning.proofs.Common.{AllByRecursion, cons_option, range_with_len, ⊤, all_append, get_within, some_first, if_found, named}
 use Rattle.unit_meaning.proofs.Common.{numbered, value, ValType, global_space, imported_global_space, imported_globals, GlobalEntry}
 use Rattle.unit_meaning.proofs.Common.{LimitsEntry, SegmentEntry, Module, Name, CType, LinkedSet, NamedModule, bytes_differ, bytes_equal}
@@ -140,10 +140,8 @@ none_past (x ∷ xs) k =
 declares : (m : NamedModule) → IsAccepted m → (rest : List c.Item)
     → IsDeclared m.tree (machine.objects_of (objects_of m.tree (pointers_of m.tree) ++ rest))
 declares m a rest = record {
-  table = λ some. subst (λ items. named table_name (filter_map machine.file_table items) ≡ Some machine.no_table) (sym whole)
-      (table_there m.tree.tables _ some);
-  memory = λ some. subst (λ items. named memory_name (filter_map machine.file_memory items) ≡ Some machine.no_memory) (sym whole)
-      (memory_there m.tree.tables m.tree.memories _ some);
+  table = λ some. rw whole (table_there m.tree.tables _ some);
+  memory = λ some. rw whole (memory_there m.tree.tables m.tree.memories _ some);
   globals = λ k e is. holds (global_name (imported_globals m.tree + k)) (c_type_of e.ty) (state.Number (value e.ty 0))
       (own_global m a (imported_globals m.tree + k) (e.ty, e.mutable) (in_space k e is) (none_past (global_imports m.tree) k))
       (number_zero e.ty) (number_like e.ty);
@@ -269,10 +267,5 @@ pub arrays_are_found : (s : LinkedSet) (u : ℕ) (m : NamedModule) → slice_get
     → array_named (program_of s) u (data_name k) ≡ Some d.bytes
 arrays_are_found s u m is few k d at some =
     ap (λ (unit : Option (List c.Item)). if_found unit (λ items. slice_get (filter_map (array_bytes (data_name k)) items) 0))
-    (unit_at s.modules u is)
+    (get_mapped items s.modules u m is)
     ∙ array_in m.tree _ k d at some few
-  where
-    unit_at : (modules : List NamedModule) (u : ℕ) → slice_get modules u ≡ Some m → slice_get (map items modules) u ≡ Some (items m)
-    unit_at [] u e = absurd (none-some m e)
-    unit_at (x ∷ modules) zero e = ap (λ x. Some (items x)) (same_Some x m e)
-    unit_at (x ∷ modules) (suc u) e = unit_at modules u e

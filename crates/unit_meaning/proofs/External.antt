@@ -1,9 +1,11 @@
 -- What symbols reach: the one unit that defines them, or a host's function.
-use Rattle.unit_meaning.proofs.Common.{◌≡◌, ℕ, ◌<◌, false, ◌≢◌, List, map, is_some, slice_get, Some, All, Option, option_map, sym, refl, ap}
-use Rattle.unit_meaning.proofs.Common.{◌∙◌, subst, arith, position_from, option_or, if_found, export_symbol_of-injective, export_symbol_of}
-use Rattle.unit_meaning.proofs.Common.{SymbolKind, Export, func_type_of, External, LinkedSet, NamedModule, Definition, defined}
-use Rattle.unit_meaning.proofs.Common.{defined_for_all, definition_at, external_func, func_named, func_type, UnitFunc, export_symbol}
-use Rattle.unit_meaning.proofs.Common.{get_mapped, get_unmapped, export_func, items, IsAcceptedSet, program_of}
+use Rattle.unit_meaning.proofs.Common.{None, primitive, ◌≡◌, ℕ, ◌<◌, false, ◌≢◌, List, map, is_some, slice_get, Some, All, Option}
+use Rattle.unit_meaning.proofs.Common.{option_map, sym, refl, ap, ◌∙◌, arith, position_from, option_or, if_found}
+use Rattle.unit_meaning.proofs.Common.{export_symbol_of-injective, export_symbol_of, SymbolKind, Export, func_type_of, External, LinkedSet}
+use Rattle.unit_meaning.proofs.Common.{NamedModule, Definition, defined, defined_for_all, definition_at, external_func, func_named}
+use Rattle.unit_meaning.proofs.Common.{func_type, UnitFunc, export_symbol, get_mapped, get_unmapped, export_func, items, IsAcceptedSet}
+use Rattle.unit_meaning.proofs.Common.{program_of}
+use Rattle.alike.specs.Defines.{Defines}
 use Rattle.c_tree.specs.Tree as tree
 use Rattle.c_meaning.specs.State.{Name}
 use Rattle.c_meaning.specs.Linking.{typed}
@@ -53,6 +55,19 @@ type_found s u m is name f body d =
     (if_found unit (λ items. typed items name))) (unit_at s u m is)
     ∙ ap (option_map (λ (d : Definition). func_type_of d.func)) d.1
 
+-- a function of the unit, by its name
+pub defines : (s : LinkedSet) (u : ℕ) (m : NamedModule) → slice_get s.modules u ≡ Some m → (f : tree.Func) (body : tree.Body)
+    → f.body ≡ Some body → IsDefinition (defined (items m)) f.name f body → IsDefinition (typed (items m)) f.name f body
+    → primitive f.name ≡ None → Defines (program_of s) u f
+defines s u m is f body has_body d d_typed free = record {
+  item = d.0;
+  body = body;
+  has_body = has_body;
+  defined = ap (λ (unit : Option (List tree.Item)). if_found unit (λ items. defined items f.name)) (unit_at s u m is) ∙ d.1;
+  typed = type_found s u m is f.name f body d_typed;
+  is_no_primitive = free;
+}
+
 pub record SymbolFound (s : LinkedSet) (owner : ℕ) (m : NamedModule) (e : Export) : Type 0 where
   pub definition : IsDefinition (definition_at (program_of s) owner) (export_symbol m e) (export_func m e) (export_external m e).body
   pub first_unit : position_from (λ unit. is_some (defined_for_all unit (export_symbol m e))) 0 (units_of s) ≡ Some owner
@@ -68,8 +83,7 @@ symbol_at s accepted v n is e first = record {
   );
   first_unit = position_at (λ unit. is_some (defined_for_all unit symbol)) 0 (units_of s) v (items n) (unit_at s v n is)
       (ap is_some both.1.1)
-      (λ i unit less at. subst (λ (name : Name). is_some (defined_for_all unit name) ≡ false) (sym (symbol_is n e))
-      (others_undefined s accepted n.name small (kind_of n e) e.name i unit at
+      (λ i unit less at. rw (symbol_is n e) (others_undefined s accepted n.name small (kind_of n e) e.name i unit at
       (λ m m_is. modules_differ s accepted.linked i v m n m_is is (λ same. absurd (omega (arith, less, same))))))
       ∙ ap Some (omega arith);
   typed = type_found s v n is symbol (export_func n e) (export_external n e).body

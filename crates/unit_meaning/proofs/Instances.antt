@@ -91,8 +91,7 @@ export_named spaces (e ∷ exports) name o found = go (bytes_eq e.name name) ref
           is = h.is;
           name_is = h.name_is;
           stands = h.stands;
-          before =
-              earlier h.place h.before;
+          before = earlier h.place h.before;
         }
           where
             earlier : (place : ℕ) → ((i : ℕ) (b : Export) → i < place → slice_get exports i ≡ Some b → b.name ≢ name) → (i : ℕ) (b : Export)

@@ -7,14 +7,14 @@ use Rattle.c_init.specs.Instantiable.{IsInstantiable}
 use Rattle.c_unit.proofs.AcceptedLimits.{accepted_limits}
 use Rattle.unit_meaning.proofs.Common.{◌≡◌, ℕ, suc, ◌+◌, ◌^◌, ◌<◌, ◌≤◌, Bool, true, false, cond, not, List, [], ◌∷◌, ◌++◌, map, length}
 use Rattle.unit_meaning.proofs.Common.{if◌then◌else◌, slice_get, Some, filter, flat_map, sym, refl, ap, ◌∙◌, subst, arith, slice_get_within}
-use Rattle.unit_meaning.proofs.Common.{AllByRecursion, all_at, func_space, is_func_import, is_global_import, is_memory_import}
-use Rattle.unit_meaning.proofs.Common.{is_table_import, memory_of_import, memory_space, table_of_import, table_space, Import, ImportKind}
-use Rattle.unit_meaning.proofs.Common.{ImportFunc, ImportGlobal, ImportMemory, ImportTable, LimitsEntry, External, IsGlobal, IsMemory}
-use Rattle.unit_meaning.proofs.Common.{IsTable, LinkedSet, NamedModule, import_at, global_imports, memory_imports, table_imports}
-use Rattle.unit_meaning.proofs.Common.{global_object, memory_object, table_object, BodiesFollow, Defines, init_func}
-use Rattle.unit_meaning.proofs.Common.{UnitsAreInstantiatedAlike, IsAccepted, IsAcceptedSet, UnitsServe, program_of}
+use Rattle.unit_meaning.proofs.Common.{all_at, func_space, is_func_import, is_global_import, is_memory_import, is_table_import}
+use Rattle.unit_meaning.proofs.Common.{memory_of_import, memory_space, table_of_import, table_space, Import, ImportKind, ImportFunc}
+use Rattle.unit_meaning.proofs.Common.{ImportGlobal, ImportMemory, ImportTable, LimitsEntry, External, IsGlobal, IsMemory, IsTable}
+use Rattle.unit_meaning.proofs.Common.{LinkedSet, NamedModule, import_at, global_imports, memory_imports, table_imports, global_object}
+use Rattle.unit_meaning.proofs.Common.{memory_object, table_object, BodiesFollow, Defines, init_func, UnitsAreInstantiatedAlike, IsAccepted}
+use Rattle.unit_meaning.proofs.Common.{IsAcceptedSet, UnitsServe, program_of}
 use Rattle.init_meaning.specs.ReachedFuncs.{FuncIsReached}
-use Rattle.init_meaning.specs.Taken.{GivesPointer, IsTakenAs, AreTaken, is_taken}
+use Rattle.init_meaning.specs.Taken.{GivesPointer, IsTakenAs, AreTaken, is_taken, next_number}
 use Rattle.unit_meaning.proofs.Declared.{units_declare, arrays_are_found}
 use Rattle.unit_meaning.proofs.Owners.{imported_table, imported_memory, global_by_import, table_owned, memory_owned, global_owned}
 use Rattle.unit_meaning.proofs.Owners.{early_global_owned}
@@ -66,6 +66,15 @@ stream_next p i xs all n stream is k =
 stream_stays : (p : Import → Bool) (i : Import) (xs all : List Import) (n : ℕ) → Stream p (i ∷ xs) all n → p i ≡ false → Stream p xs all n
 stream_stays p i xs all n stream is k = sym (ap (λ b. slice_get (cond b (i ∷ filter p xs) (filter p xs)) k) is) ∙ stream k
 
+-- behind an item
+stream_after : (p : Import → Bool) (i : Import) (xs all : List Import) (n : ℕ) → Stream p (i ∷ xs) all n
+    → Stream p xs all (if p i then suc n else n)
+stream_after p i xs all n stream = go (p i) refl
+  where
+    go : (b : Bool) → p i ≡ b → Stream p xs all (if b then suc n else n)
+    go true is = stream_next p i xs all n stream is
+    go false is = stream_stays p i xs all n stream is
+
 whole_stream : (p : Import → Bool) (xs : List Import) → Stream p xs (filter p xs) 0
 whole_stream p xs k = let at : k ≡ 0 + k = omega arith in ap (slice_get (filter p xs)) at
 
@@ -81,13 +90,9 @@ module _ (gives : ImportsGivePointers) (s : LinkedSet) (accepted : IsAcceptedSet
   -- one that is taken, before others
   and_more : (number : ℕ) (i : Import) (kind : ImportKind) (rest : List Import) → i.kind ≡ kind → is_func kind ≡ false
       → IsTakenAs (program_of s) s u m number i kind
-      → Taken (if is_global kind then suc number else number) rest → Taken number (cond (not (is_func_import i)) (i ∷ rest) rest)
+      → Taken (next_number number i) rest → Taken number (cond (not (is_func_import i)) (i ∷ rest) rest)
   and_more number i kind rest e func one others =
-      subst (λ b. Taken number (cond (not b) (i ∷ rest) rest)) (sym (ap is_func e ∙ func)) (
-        subst (IsTakenAs (program_of s) s u m number i) (sym e) one,
-        subst
-            (λ kind. Taken (if is_global kind then suc number else number) rest) (sym e) others,
-      )
+      rw (ap is_func e ∙ func) (subst (IsTakenAs (program_of s) s u m number i) (sym e) one, others)
 
   taken_from : (place tables memories number : ℕ) (xs : List Import)
       → ((k : ℕ) → slice_get xs k ≡ slice_get m.tree.imports (place + k))
@@ -96,22 +101,11 @@ module _ (gives : ImportsGivePointers) (s : LinkedSet) (accepted : IsAcceptedSet
       → Taken number (filter is_taken xs)
   taken_from place tables memories number [] places t e g = tt
   taken_from place tables memories number (i ∷ xs) places t e g =
-      go i.kind refl
-      (λ a b d. taken_from (suc place) tables memories number xs next (stream_stays is_table_import i xs (table_imports m.tree) tables t a)
-      (stream_stays is_memory_import i xs (memory_imports m.tree) memories e b)
-      (stream_stays is_global_import i xs (global_imports m.tree) number g d))
-      (λ a b d. taken_from (suc place) (suc tables) memories number xs next
-      (stream_next is_table_import i xs (table_imports m.tree) tables t a)
-      (stream_stays is_memory_import i xs (memory_imports m.tree) memories e b)
-      (stream_stays is_global_import i xs (global_imports m.tree) number g d))
-      (λ a b d. taken_from (suc place) tables (suc memories) number xs next
-      (stream_stays is_table_import i xs (table_imports m.tree) tables t a)
-      (stream_next is_memory_import i xs (memory_imports m.tree) memories e b)
-      (stream_stays is_global_import i xs (global_imports m.tree) number g d))
-      (λ a b d. taken_from (suc place) tables memories (suc number) xs next
-      (stream_stays is_table_import i xs (table_imports m.tree) tables t a)
-      (stream_stays is_memory_import i xs (memory_imports m.tree) memories e b)
-      (stream_next is_global_import i xs (global_imports m.tree) number g d))
+      go i.kind refl (taken_from (suc place) (if is_table_import i then suc tables else tables)
+      (if is_memory_import i then suc memories else memories) (next_number number i) xs next
+      (stream_after is_table_import i xs (table_imports m.tree) tables t)
+      (stream_after is_memory_import i xs (memory_imports m.tree) memories e)
+      (stream_after is_global_import i xs (global_imports m.tree) number g))
     where
       next : (k : ℕ) → slice_get xs k ≡ slice_get m.tree.imports (suc place + k)
       next k = let at : place + suc k ≡ suc place + k = omega arith in places (suc k) ∙ ap (slice_get m.tree.imports) at
@@ -119,37 +113,34 @@ module _ (gives : ImportsGivePointers) (s : LinkedSet) (accepted : IsAcceptedSet
       here : slice_get m.tree.imports place ≡ Some i
       here = let at : place + 0 ≡ place = omega arith in sym (ap (slice_get m.tree.imports) at) ∙ sym (places 0)
 
+      -- of a kind that a module has once at most
+      the_one : (p : Import → Bool) (n inside : ℕ) → Stream p (i ∷ xs) (filter p m.tree.imports) n → p i ≡ true
+          → length (filter p m.tree.imports) ≤ inside → inside ≤ 1 → slice_get (filter p m.tree.imports) 0 ≡ Some i
+      the_one p n inside stream is few one =
+          let all : List Import = filter p m.tree.imports in
+          let at : slice_get all n ≡ Some i = stream_at p i xs all n stream is in
+          let first : n ≡ 0 = omega (arith, slice_get_within all n i at, few, one) in
+          subst (λ k. slice_get all k ≡ Some i) first at
+
       the_table : is_table_import i ≡ true → slice_get (table_imports m.tree) 0 ≡ Some i
       the_table is =
-          let at : slice_get (table_imports m.tree) tables ≡ Some i = stream_at is_table_import i xs (table_imports m.tree) tables t is in
-          let within : tables < length (table_imports m.tree) = slice_get_within (table_imports m.tree) tables i at in
           let few : length (flat_map table_of_import m.tree.imports) ≤ length (table_space m.tree) =
           length_front (flat_map table_of_import m.tree.imports) (λ (t : LimitsEntry). t.limits) m.tree.tables in
-          let one : length (table_space m.tree) ≤ 1 = instantiable.one_table_in_all in
-          let first : tables ≡ 0 = omega (arith, within, few, one, table_count m.tree.imports) in
-          subst (λ k. slice_get (table_imports m.tree) k ≡ Some i) first at
+          the_one is_table_import tables (length (table_space m.tree)) t is (omega (arith, few, table_count m.tree.imports))
+          instantiable.one_table_in_all
 
       the_memory : is_memory_import i ≡ true → slice_get (memory_imports m.tree) 0 ≡ Some i
       the_memory is =
-          let at : slice_get (memory_imports m.tree) memories ≡ Some i =
-          stream_at is_memory_import i xs (memory_imports m.tree) memories e is in
-          let within : memories < length (memory_imports m.tree) = slice_get_within (memory_imports m.tree) memories i at in
           let few : length (flat_map memory_of_import m.tree.imports) ≤ length (memory_space m.tree) =
           length_front (flat_map memory_of_import m.tree.imports) (λ (t : LimitsEntry). t.limits) m.tree.memories in
-          let one : length (memory_space m.tree) ≤ 1 = instantiable.one_memory_in_all in
-          let first : memories ≡ 0 = omega (arith, within, few, one, memory_count m.tree.imports) in
-          subst (λ k. slice_get (memory_imports m.tree) k ≡ Some i) first at
+          the_one is_memory_import memories (length (memory_space m.tree)) e is (omega (arith, few, memory_count m.tree.imports))
+          instantiable.one_memory_in_all
 
-      go : (kind : ImportKind) → i.kind ≡ kind
-          → (is_table_import i ≡ false → is_memory_import i ≡ false → is_global_import i ≡ false → Taken number (filter is_taken xs))
-          → (is_table_import i ≡ true → is_memory_import i ≡ false → is_global_import i ≡ false → Taken number (filter is_taken xs))
-          → (is_table_import i ≡ false → is_memory_import i ≡ true → is_global_import i ≡ false → Taken number (filter is_taken xs))
-          → (is_table_import i ≡ false → is_memory_import i ≡ false → is_global_import i ≡ true → Taken (suc number) (filter is_taken xs))
-          → Taken number (filter is_taken (i ∷ xs))
-      go (ImportFunc ty) is skip table memory global =
-          subst (λ b. Taken number (cond (not b) (i ∷ filter is_taken xs) (filter is_taken xs))) (sym (ap is_func is))
-          (skip (ap is_table is) (ap is_memory is) (ap is_global is))
-      go (ImportTable l) is skip table memory global =
+      go : (kind : ImportKind) → i.kind ≡ kind → Taken (next_number number i) (filter is_taken xs) → Taken number (filter is_taken (i ∷ xs))
+      go (ImportFunc ty) is others =
+          let no : is_global_import i ≡ false = ap is_global is in
+          rw (ap is_func is) (subst (λ b. Taken (if b then suc number else number) (filter is_taken xs)) no others)
+      go (ImportTable l) is others =
           let at = the_table (ap is_table is) in
           let r = imported_table s u m module_is accepted.linked i at in
           and_more number i (ImportTable l) (filter is_taken xs) is refl
@@ -160,8 +151,8 @@ module _ (gives : ImportsGivePointers) (s : LinkedSet) (accepted : IsAcceptedSet
             pointer = gives s accepted u m module_is place i here (IsTable r.0.owner) (table_object r.0.owner) r.2 refl;
             among = slice_get_within (table_imports m.tree) 0 i at;
           })
-          (table (ap is_table is) (ap is_memory is) (ap is_global is))
-      go (ImportMemory l) is skip table memory global =
+          others
+      go (ImportMemory l) is others =
           let at = the_memory (ap is_memory is) in
           let r = imported_memory s u m module_is accepted.linked i at in
           and_more number i (ImportMemory l) (filter is_taken xs) is refl
@@ -172,8 +163,8 @@ module _ (gives : ImportsGivePointers) (s : LinkedSet) (accepted : IsAcceptedSet
             pointer = gives s accepted u m module_is place i here (IsMemory r.0.owner) (memory_object r.0.owner) r.2 refl;
             among = slice_get_within (memory_imports m.tree) 0 i at;
           })
-          (memory (ap is_table is) (ap is_memory is) (ap is_global is))
-      go (ImportGlobal ty mutable) is skip table memory global =
+          others
+      go (ImportGlobal ty mutable) is others =
           let at = stream_at is_global_import i xs (global_imports m.tree) number g (ap is_global is) in
           let r = global_by_import s u m module_is accepted.linked number i ty mutable at is in
           and_more number i (ImportGlobal ty mutable) (filter is_taken xs) is refl
@@ -184,7 +175,7 @@ module _ (gives : ImportsGivePointers) (s : LinkedSet) (accepted : IsAcceptedSet
             pointer = gives s accepted u m module_is place i here (IsGlobal r.0.global) (global_object s r.0.global) r.2 refl;
             among = slice_get_within (global_imports m.tree) number i at;
           })
-          (global (ap is_table is) (ap is_memory is) (ap is_global is))
+          others
 
   all_taken : Taken 0 (filter is_taken m.tree.imports)
   all_taken = taken_from 0 0 0 0 m.tree.imports (λ k. let at : k ≡ 0 + k = omega arith in ap (slice_get m.tree.imports) at)
@@ -193,13 +184,9 @@ module _ (gives : ImportsGivePointers) (s : LinkedSet) (accepted : IsAcceptedSet
 
 -- ---- the theorem
 
-accepted_at : (modules : List NamedModule) (u : ℕ) (m : NamedModule) → AllByRecursion IsAccepted modules → slice_get modules u ≡ Some m
-    → IsAccepted m
-accepted_at modules u m all is = all_at IsAccepted modules u m all is
-
 pub units_are_known : InitsAreDefined → PartsAreThere → FuncsAreReached → ImportsGivePointers → UnitsAreKnown
 units_are_known inits parts functions gives s accepted u m is =
-    let a : IsAccepted m = accepted_at s.modules u m accepted.accepted is in
+    let a : IsAccepted m = all_at IsAccepted s.modules u m accepted.accepted is in
     let instantiable : IsInstantiable m.tree = modules_are_instantiable m.tree a.valid (accepted_limits a) in (
       record {
         init = inits s accepted u m is;

@@ -142,8 +142,7 @@ exported_before s u m is module_name name o found =
       early = omega (arith, h.early, at.number);
       exporter = h.exporter;
       exporter_is = h.exporter_is;
-      its_name =
-          h.its_name;
+      its_name = h.its_name;
       at = h.at;
       one = h.one;
     }

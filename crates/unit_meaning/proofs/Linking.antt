@@ -1,5 +1,7 @@
 -- The units of a linked set link: no symbol is defined twice, and each is defined with the type that it is
 -- declared with.
+use Rattle.w2c_base.proofs.OfEach.{all_from, all_map}
+use Rattle.w2c_base.proofs.Places.{get_front}
 use Rattle.w2c_mangle.specs.declared.symbol.SymbolKind.TheVariants as symbol
 use Rattle.c_tree.specs.Tree as tree
 use Rattle.c_meaning.proofs.Links.{program_twice, program_unresolved, refusal_stands, all_flat}
@@ -7,22 +9,20 @@ use Rattle.c_unit.proofs.Found.{position_at, find_none, find_join}
 use Rattle.c_unit.proofs.Defined.{FirstExport, body_is, export_external, init_defined, symbol_undefined, typed_outside, kind_of, symbol_is}
 use Rattle.c_init.proofs.NoFaults.{rows_of}
 use Rattle.c_init.specs.Init.{part_func, parts_of}
-use Rattle.unit_meaning.proofs.Common.{◌≡◌, ℕ, zero, suc, ◌+◌, ◌<◌, Bool, true, false, ◌&&◌, ◌||◌, ◌≢◌, List, [], ◌∷◌, ◌++◌, map, length}
-use Rattle.unit_meaning.proofs.Common.{take, is_some, if◌then◌else◌, slice_get, Some, None, All, Option, find, zip, flat_map, filter_map}
-use Rattle.unit_meaning.proofs.Common.{bytes_eq, sym, refl, ap, ◌∙◌, arith, bytes_eq-Decides, AllByRecursion, cons_option, list_any}
-use Rattle.unit_meaning.proofs.Common.{position_from, range_with_len, option_or, ⊤, append_none, all_append, all_at, if_found, numbered}
-use Rattle.unit_meaning.proofs.Common.{Host, export_symbol_of-injective, init_symbol_of-injective, init_symbol_of-not_export}
-use Rattle.unit_meaning.proofs.Common.{export_symbol_of, init_symbol_of, type_in, Export, Import, ImportKind}
-use Rattle.unit_meaning.proofs.Common.{ImportFunc, ImportGlobal, ImportMemory, ImportTable, SegmentEntry, Module}
-use Rattle.unit_meaning.proofs.Common.{duplicate_exports}
-use Rattle.unit_meaning.proofs.Common.{IsValid, same_func_type, Name, func_type_of, is_among}
-use Rattle.unit_meaning.proofs.Common.{CType, External, IsFunc, IsGlobal, IsMemory, IsTable, LinkedSet, NamedModule, import_at}
-use Rattle.unit_meaning.proofs.Common.{bytes_differ, LinkRefusal, NotDefined, Program, Twice, TypeDiffers, defined_for_all, external_func}
-use Rattle.unit_meaning.proofs.Common.{external_functions, func_type, host_symbol, host_symbols, FuncAddress, UnitFunc, made_static}
-use Rattle.unit_meaning.proofs.Common.{helper_of, Typed, c_func_type_if, declared_symbols, export_symbol, firsts, import_symbol}
-use Rattle.unit_meaning.proofs.Common.{import_type, symbol_type, same_c_func_type, get_unmapped, ResolvesAs, body_of, needs_of, export_func}
-use Rattle.unit_meaning.proofs.Common.{data_name, init_func, bodies, data_of, declaration, items, objects_of, prototype, IsAcceptedSet}
-use Rattle.unit_meaning.proofs.Common.{UnitsLink, program_of, right_behind}
+use Rattle.unit_meaning.proofs.Common.{if_found, same_func_type, NotDefined, TypeDiffers, ◌≡◌, ℕ, zero, suc, ◌+◌, ◌<◌, Bool, true, false}
+use Rattle.unit_meaning.proofs.Common.{◌&&◌, ◌||◌, ◌≢◌, List, [], ◌∷◌, ◌++◌, map, length, take, is_some, if◌then◌else◌, slice_get, Some}
+use Rattle.unit_meaning.proofs.Common.{None, All, Option, find, zip, flat_map, filter_map, bytes_eq, sym, refl, ap, ◌∙◌, arith}
+use Rattle.unit_meaning.proofs.Common.{bytes_eq-Decides, AllByRecursion, cons_option, list_any, position_from, range_with_len, option_or, ⊤}
+use Rattle.unit_meaning.proofs.Common.{append_none, all_append, all_at, numbered, Host, export_symbol_of-injective}
+use Rattle.unit_meaning.proofs.Common.{init_symbol_of-injective, init_symbol_of-not_export, export_symbol_of, init_symbol_of, type_in}
+use Rattle.unit_meaning.proofs.Common.{Export, Import, ImportKind, ImportFunc, ImportGlobal, ImportMemory, ImportTable, SegmentEntry}
+use Rattle.unit_meaning.proofs.Common.{Module, duplicate_exports, IsValid, Name, func_type_of, is_among, CType, External, IsFunc, IsGlobal}
+use Rattle.unit_meaning.proofs.Common.{IsMemory, IsTable, LinkedSet, NamedModule, import_at, bytes_differ, LinkRefusal, Program, Twice}
+use Rattle.unit_meaning.proofs.Common.{defined_for_all, external_func, external_functions, func_type, host_symbol, host_symbols}
+use Rattle.unit_meaning.proofs.Common.{FuncAddress, UnitFunc, made_static, helper_of, Typed, c_func_type_if, declared_symbols}
+use Rattle.unit_meaning.proofs.Common.{export_symbol, firsts, import_symbol, import_type, symbol_type, same_c_func_type, get_unmapped}
+use Rattle.unit_meaning.proofs.Common.{ResolvesAs, body_of, needs_of, export_func, data_name, init_func, bodies, data_of, declaration}
+use Rattle.unit_meaning.proofs.Common.{items, objects_of, prototype, IsAcceptedSet, UnitsLink, program_of, right_behind}
 use Rattle.unit_meaning.proofs.Linked.{modules_differ, module_is_no_host, accepted_at}
 use Rattle.unit_meaning.proofs.External.{SymbolFound, units_of, unit_at, type_found, symbol_at, external_found, others_undefined}
 use Rattle.unit_meaning.proofs.HostSymbols.{symbols_of, asks_for, first_is_found}
@@ -110,11 +110,6 @@ any_is name (x ∷ earlier) i b none at = go i (bytes_eq x.name name) refl none 
         let wrong : true ≡ false = sym equal ∙ e in cc
     go (suc i) false e none at others = others i at none
 
-append_get : {A : Type 0} (xs : List A) (y : A) (i : ℕ) (b : A) → slice_get xs i ≡ Some b → slice_get (xs ++ y ∷ []) i ≡ Some b
-append_get [] y i b at = absurd (cc)
-append_get (x ∷ xs) y zero b at = at
-append_get (x ∷ xs) y (suc i) b at = append_get xs y i b at
-
 names_apart : (earlier exports : List Export) → duplicate_exports earlier exports ≡ [] → (j : ℕ) (e : Export) → slice_get exports j ≡ Some e
     → ((i : ℕ) (b : Export) → slice_get earlier i ≡ Some b → b.name ≢ e.name)
     × ((i : ℕ) (b : Export) → i < j → slice_get exports i ≡ Some b → b.name ≢ e.name)
@@ -128,7 +123,7 @@ names_apart earlier (x ∷ exports) none zero e at =
     )
 names_apart earlier (x ∷ exports) none (suc j) e at =
     let h = names_apart (earlier ++ x ∷ []) exports (append_none _ _ none).1 j e at in
-    (λ i b there. h.0 i b (append_get earlier x i b there), before h.0 h.1)
+    (λ i b there. h.0 i b (get_front earlier (x ∷ []) i b there), before h.0 h.1)
   where
     before : ((i : ℕ) (b : Export) → slice_get (earlier ++ x ∷ []) i ≡ Some b → b.name ≢ e.name)
         → ((i : ℕ) (b : Export) → i < j → slice_get exports i ≡ Some b → b.name ≢ e.name) → (i : ℕ) (b : Export) → i < suc j
@@ -321,15 +316,10 @@ all_external P (x ∷ items) h = go (external_one x) h.0 (all_external P items h
 
 all_map_at : {A B : Type 0} (P : B → Type 0) (f : A → B) (xs : List A) → ((i : ℕ) (a : A) → slice_get xs i ≡ Some a → P (f a))
     → AllByRecursion P (map f xs)
-all_map_at P f [] h = tt
-all_map_at P f (x ∷ xs) h = (h 0 x refl, all_map_at P f xs (λ i a. h (suc i) a))
+all_map_at P f xs h = all_map P f xs (all_from (λ x. P (f x)) xs h)
 
 static_item : (P : tree.Func → Type 0) (f : tree.Func) → f.is_static ≡ true → OfItem P (tree.Function f)
-static_item P f e = go f.is_static e
-  where
-    go : (b : Bool) → b ≡ true → IfAny P (if b then None else Some f)
-    go true e = tt
-    go false e = absurd (cc)
+static_item P f e = rw e tt
 
 external_item : (P : tree.Func → Type 0) (f : tree.Func) → f.is_static ≡ false → P f → OfItem P (tree.Function f)
 external_item P f e h = go f.is_static e

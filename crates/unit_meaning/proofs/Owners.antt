@@ -1,33 +1,24 @@
 -- Whose the tables, memories and globals of a module are (WebAssembly Core 1.0, 2.5.1 and 4.5.4): its own, or
 -- those of earlier modules.
 use Rattle.unit_meaning.proofs.Common.{at_index, imported_globals, IndexSpaces, global_at, instances, memory_at, spaces_of, table_at}
-use Rattle.unit_meaning.proofs.Common.{first_global, get_front, ◌≡◌, ℕ, zero, suc, ◌+◌, ◌<◌, Bool, true, false, cond, ◌⊎◌, List, [], ◌∷◌}
-use Rattle.unit_meaning.proofs.Common.{◌++◌, map, length, replicate, IsSome, slice_get, Some, None, filter, Option, option_map, flat_map}
-use Rattle.unit_meaning.proofs.Common.{sym, refl, ap, ◌∙◌, subst, arith, none-some, same_Some, slice_get_within, AllByRecursion}
-use Rattle.unit_meaning.proofs.Common.{range_with_len, all_at, if_found, ValType, global_of_import, global_space, imported_global_space}
-use Rattle.unit_meaning.proofs.Common.{is_global_import, is_memory_import, is_table_import, memory_space, table_space, GlobalEntry, Import}
-use Rattle.unit_meaning.proofs.Common.{ImportKind, ImportFunc, ImportGlobal, ImportMemory, ImportTable, Module, External, GlobalAddress}
-use Rattle.unit_meaning.proofs.Common.{IsGlobal, IsLinked, IsMemory, IsTable, LinkedSet, NamedModule, Resolves, as_global, as_memory}
-use Rattle.unit_meaning.proofs.Common.{as_table, global_type, import_at, module_at, global_imports, memory_imports, table_imports}
-use Rattle.unit_meaning.proofs.Common.{get_mapped, ResolvesAs}
+use Rattle.unit_meaning.proofs.Common.{first_global, get_front, ◌≡◌, ℕ, zero, suc, ◌+◌, ◌<◌, Bool, true, false, cond, List, [], ◌∷◌, ◌++◌}
+use Rattle.unit_meaning.proofs.Common.{map, length, replicate, IsSome, slice_get, Some, None, filter, Option, option_map, flat_map, sym}
+use Rattle.unit_meaning.proofs.Common.{refl, ap, ◌∙◌, subst, arith, none-some, same_Some, slice_get_within, AllByRecursion, range_with_len}
+use Rattle.unit_meaning.proofs.Common.{all_at, if_found, ValType, global_of_import, global_space, imported_global_space, is_global_import}
+use Rattle.unit_meaning.proofs.Common.{is_memory_import, is_table_import, memory_space, table_space, GlobalEntry, Import, ImportKind}
+use Rattle.unit_meaning.proofs.Common.{ImportFunc, ImportGlobal, ImportMemory, ImportTable, Module, External, GlobalAddress, IsGlobal}
+use Rattle.unit_meaning.proofs.Common.{IsLinked, IsMemory, IsTable, LinkedSet, NamedModule, Resolves, as_global, as_memory, as_table}
+use Rattle.unit_meaning.proofs.Common.{global_type, import_at, module_at, global_imports, memory_imports, table_imports, get_mapped}
+use Rattle.unit_meaning.proofs.Common.{ResolvesAs}
 use Rattle.body_meaning.proofs.Spaces.{table_owner, memory_owner, global_owner, IfAny, IsEarlier, HasObject, looked_up, import_fits}
 use Rattle.body_meaning.proofs.Spaces.{first_fit}
 use Rattle.body_meaning.proofs.Seen.{own_table, own_memory, global_known}
 use Rattle.init_meaning.specs.Owners.{ObjectOwner, TableOwner, MemoryOwner, GlobalOwner}
 use Rattle.alike.proofs.LookUps.{module_is as tree_at}
-use Rattle.c_init.proofs.Small.{is_table, is_memory, is_global}
+use Rattle.w2c_base.proofs.OfEach.{all_filtered}
+use Rattle.c_init.proofs.Small.{all_pass, is_table, is_memory, is_global}
 
 -- ---- imports by their kind
-
-kept_of_each : {A : Type 0} (P : A → Type 0) (p : A → Bool) (xs : List A) → AllByRecursion P xs
-    → AllByRecursion (λ x. P x × (p x ≡ true)) (filter p xs)
-kept_of_each P p [] all = tt
-kept_of_each {A} P p (x ∷ xs) all = go (p x) refl (kept_of_each P p xs all.1)
-  where
-    go : (b : Bool) → p x ≡ b → AllByRecursion (λ x. P x × (p x ≡ true)) (filter p xs)
-        → AllByRecursion (λ x. P x × (p x ≡ true)) (cond b (x ∷ filter p xs) (filter p xs))
-    go true is others = ((all.0, is), others)
-    go false is others = others
 
 resolved_table : (s : LinkedSet) (p : ℕ) (i : Import) → Resolves s p i → is_table_import i ≡ true
     → (owner : ℕ) × (import_at s p i ≡ Some (IsTable owner))
@@ -87,8 +78,10 @@ module _ (s : LinkedSet) (u : ℕ) (m : NamedModule) (module_is : slice_get s.mo
 
   of_kind : (wanted : Import → Bool) (k : ℕ) (i : Import) → slice_get (filter wanted m.tree.imports) k ≡ Some i
       → Resolves s u i × (wanted i ≡ true)
-  of_kind wanted k i at = all_at (λ i. Resolves s u i × (wanted i ≡ true)) (filter wanted m.tree.imports) k i
-      (kept_of_each (Resolves s u) wanted m.tree.imports resolves) at
+  of_kind wanted k i at = (
+    all_at (Resolves s u) (filter wanted m.tree.imports) k i (all_filtered (Resolves s u) wanted m.tree.imports resolves) at,
+    all_at (λ i. wanted i ≡ true) (filter wanted m.tree.imports) k i (all_pass wanted m.tree.imports) at,
+  )
 
   -- the index of an import stands for what the import stands for
   stands : {A : Type 0} (space : IndexSpaces → List (Option A)) (wanted : Import → Bool) (as_wanted : External → Option A)

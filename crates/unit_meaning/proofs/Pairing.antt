@@ -73,39 +73,26 @@ abbrev pub PairedFrom : Program → link.LinkedSet → Progress → ℕ → wasm
 PairedFrom p s from n w = EndsBoth p s from n w ⊎ ((w.outcome ≡ wasm.Stopped exec.OutOfSteps) × GoesOn p from n)
 
 -- behind statements that are paid
+later : (p : Program) (from to : Progress) (n left k : ℕ) → Reaches p k from to → n ≤ left + k → GoesOn p to left → GoesOn p from n
+later p from to n left k way least o = record
+    { to = o.to; goes = o.goes; statements = k + o.statements; way = join p k _ _ _ _ way o.way; least = omega (arith, o.least, least) }
+
 behind : (p : Program) (s : link.LinkedSet) (from to : Progress) (n left k : ℕ) (w : wasm.WasmRun) → Reaches p k from to → n ≤ left + k
     → k + 400 * left ≤ 400 * n
     → PairedFrom p s to left w → PairedFrom p s from n w
-behind p s from to n left k w way least most (inl e) = inl
-    (record {
-      run = e.run;
-      statements = k + e.statements;
-      way = join p k e.statements from to (Over e.run) way e.way;
-      few =
-          omega (arith, e.few, most);
-      alike = e.alike;
-    })
-behind p s from to n left k w way least most (inr o) = inr (
-  o.0,
-  record {
-    to = o.1.to;
-    goes = o.1.goes;
-    statements = k + o.1.statements;
-    way =
-        join p k o.1.statements from to o.1.to way o.1.way;
-    least = omega (arith, o.1.least, least);
-  },
-)
+behind p s from to n left k w way least most (inl e) = inl (record {
+  run = e.run;
+  statements = k + e.statements;
+  way = join p k e.statements _ _ _ way e.way;
+  few = omega (arith, e.few, most);
+  alike = e.alike;
+})
+behind p s from to n left k w way least most (inr o) = inr (o.0, later p from to n left k way least o.1)
 
 -- a stop
 abbrev stopped_run : Pending → exec.Stop → store.Store → Trail → wasm.WasmRun
-stopped_run pending why made trail = record {
-  phase = pending.phase;
-  events = trail.events;
-  store = made;
-  outcome =
-      wasm.Stopped why;
-}
+stopped_run pending why made trail = record
+    { phase = pending.phase; events = trail.events; store = made; outcome = wasm.Stopped why }
 
 ends_alike : (p : Program) (s : link.LinkedSet) (pending : Pending) (spare : ℕ) (start from : Progress) (steps n k : ℕ) (why : exec.Stop)
     (made : store.Store) (trail : Trail)
@@ -137,17 +124,7 @@ stops p s pending spare start from steps n k exec.Asks made trail way least most
     ends_alike p s pending spare start from steps n k exec.Asks made trail way most
     (λ reason same. subst (λ (r : state.Stop). OutcomesAlike (wasm.Stopped exec.Asks) (c.Stopped r)) (sym same) tt) h
 stops p s pending spare start from steps n k exec.OutOfSteps made trail way least most h =
-    inr (
-      refl,
-      record {
-        to = h.to;
-        goes = h.goes;
-        statements = k + h.statements;
-        way =
-            join p k h.statements start from h.to way h.way;
-        least = omega (arith, h.least, least);
-      },
-    )
+    inr (refl, later p start from steps n k way least h)
 stops p s pending spare start from steps n k exec.Stuck made trail way least most h = absurd h
 
 -- ---- the beginning of an entry
@@ -207,6 +184,13 @@ told_together p s count m made trail value h = record {
   depth_is = h.depth_is;
 }
 
+-- what is pending while a call runs, and an init function
+abbrev call_pending : Program → ℕ → List wasm.ListedCall → Pending
+call_pending p k calls = record { phase = Call k; entries = call_entries p (suc k) calls }
+
+abbrev init_pending : link.LinkedSet → ℕ → List link.NamedModule → List wasm.ListedCall → Pending
+init_pending s u modules calls = record { phase = Init u; entries = init_entries (suc u) modules (call_entries (program_of s) 0 calls) }
+
 -- the pairing behind calls, wherever both runs agree
 abbrev BehindCalls : Program → link.LinkedSet → ℕ → ℕ → List wasm.ListedCall → Type 0
 BehindCalls p s count k calls =
@@ -219,24 +203,22 @@ one_call : (p : Program) (s : link.LinkedSet) (count k : ℕ) (call : wasm.Liste
     (ty : FuncType) (frames : List state.Frame) (start from : Progress) (n back : ℕ) (o : exec.Called)
     → Reaches p 1 start from → back ≤ 2
     → ((m : state.Machine) (value : Option Value) → is_result ty.result value ≡ true
-    → Reaches p back (given p (record { phase = Call k; entries = call_entries p (suc k) calls }) m value frames)
-    (given p (record { phase = Call k; entries = call_entries p (suc k) calls }) m value []))
-    → CallFollows p s count 0 (record { phase = Call k; entries = call_entries p (suc k) calls }) frames ty from n o
+    → Reaches p back (given p (call_pending p k calls) m value frames)
+    (given p (call_pending p k calls) m value []))
+    → CallFollows p s count 0 (call_pending p k calls) frames ty from n o
     → BehindCalls p s count (suc k) calls
     → PairedFrom p s start (suc n) (wasm.then_run o (record { phase = Call k; place = 0; task = wasm.CallExport call })
     (wasm.run_tasks s (call_plan (suc k) calls) (Call k)))
 one_call p s count k call calls ty frames start from n back (exec.Back left value made trail) first few gives h more =
-    let pending : Pending = record { phase = Call k; entries = call_entries p (suc k) calls } in
-    let way : Reaches p (1 + (h.statements + back)) start (given p pending h.machine value []) =
-    join p 1 (h.statements + back) start from _ first (join p h.statements back from _ _ h.way (gives h.machine value h.typed)) in
     let on : Reaches p (1 + (h.statements + back)) start
     (begin_entry p (told_end h.machine value) (Call k) (call_entries p (suc k) calls)) =
-    subst (Reaches p (1 + (h.statements + back)) start) (call_given p k (call_entries p (suc k) calls) h.machine value) way in
+    rw (call_given p k (call_entries p (suc k) calls) h.machine value) at (join p 1 (h.statements + back) start from _ first
+    (join p h.statements back from _ _ h.way (gives h.machine value h.typed))) in
     behind p s start _ (suc n) left (1 + (h.statements + back)) _ on (omega (arith, h.paid.least)) (omega (arith, h.paid.most, few))
     (more (Call k) left made (call_ended trail value) (told_end h.machine value)
     (told_together p s count h.machine made trail value h.together))
 one_call p s count k call calls ty frames start from n back (exec.CallStops why made trail) first few gives h more =
-    stops p s (record { phase = Call k; entries = call_entries p (suc k) calls }) call_spare start from
+    stops p s (call_pending p k calls) call_spare start from
     (suc n) n 1 why made trail first (omega arith) (omega arith) h
 
 calls_paired : (s : link.LinkedSet) (count : ℕ) → length s.modules ≤ count
@@ -260,7 +242,7 @@ calls_paired s count all follow k [] wrapped numbers last n made trail m togethe
 calls_paired s count all follow k (call ∷ calls) wrapped numbers last zero made trail m together =
     let p : Program = program_of s in
     let w : IsWrapped s call = wrapped.0 in
-    let pending : Pending = record { phase = Call k; entries = call_entries p (suc k) calls } in
+    let pending : Pending = call_pending p k calls in
     let begins = entry_is_called p m last (Call k) _ call.args (call_entries p (suc k) calls) w.unit
     (symbol_call call).symbol w.called_is in
     inr (
@@ -276,7 +258,7 @@ calls_paired s count all follow k (call ∷ calls) wrapped numbers last zero mad
 calls_paired s count all follow k (call ∷ calls) wrapped numbers last (suc n) made trail m together =
     let p : Program = program_of s in
     let w : IsWrapped s call = wrapped.0 in
-    let pending : Pending = record { phase = Call k; entries = call_entries p (suc k) calls } in
+    let pending : Pending = call_pending p k calls in
     let begins = entry_is_called p m last (Call k) _ call.args (call_entries p (suc k) calls) w.unit
     (symbol_call call).symbol w.called_is in
     let once : WrapsOnce p w.ty (state.UnitFunc w.unit (symbol_call call).symbol) w.inner pending m call.args [] = w.wraps pending m [] in
@@ -284,12 +266,7 @@ calls_paired s count all follow k (call ∷ calls) wrapped numbers last (suc n) 
     (callable_later s (length s.modules) count w.function all w.callable) w.stands w.fit numbers.0 together refl in
     let t : wasm.Planned = record { phase = Call k; place = 0; task = wasm.CallExport call } in
     let go : ℕ → store.Store → Trail → wasm.WasmRun = wasm.run_tasks s (call_plan (suc k) calls) (Call k) in
-    subst (λ (from : Progress). PairedFrom p s from (suc n) (wasm.run_tasks s (call_plan k (call ∷ calls)) last (suc n) made trail))
-    (sym begins)
-    (subst (λ (f : Option link.FuncAddress). PairedFrom p s
-    (called p pending (state.UnitFunc w.unit (symbol_call call).symbol) m call.args []) (suc n)
-    (wasm.then_run (wasm.with_found f made trail (λ f. exec.call_within s 1024 f call.args n made trail)) t go)) (sym w.function_is)
-    (one_call p s count k call calls w.ty (once.frames ++ []) _ _ n once.back
+    rw begins (rw w.function_is (one_call p s count k call calls w.ty (once.frames ++ []) _ _ n once.back
     (exec.call_within s 1024 w.function call.args n made trail) once.calls once.few once.gives followed
     (calls_paired s count all follow (suc k) calls wrapped.1 numbers.1)))
 
@@ -338,7 +315,7 @@ BehindModules s u modules calls =
 one_module : (s : link.LinkedSet) (u : ℕ) (modules : List link.NamedModule) (calls : List wasm.ListedCall)
     (from : Progress) (n : ℕ) (o : exec.Called)
     → InitFollows (program_of s) s u
-    (record { phase = Init u; entries = init_entries (suc u) modules (call_entries (program_of s) 0 calls) }) [] from n o
+    (init_pending s u modules calls) [] from n o
     → ((k : ℕ) (machine : state.Machine) → Reaches (program_of s) k from
     (begin_entry (program_of s) machine (Init u) (init_entries (suc u) modules (call_entries (program_of s) 0 calls)))
     → AreUntouched s (suc u) machine (store_of o))
@@ -349,7 +326,7 @@ one_module s u modules calls from n (exec.Back left value made trail) h untouche
     (more (Init u) left made trail h.machine h.together (untouched h.statements h.machine h.way))
 one_module s u modules calls from n (exec.CallStops why made trail) h untouched more =
     stops (program_of s) s
-    (record { phase = Init u; entries = init_entries (suc u) modules (call_entries (program_of s) 0 calls) }) 0 from
+    (init_pending s u modules calls) 0 from
     from n n 0 why made trail (stays (program_of s) from) (omega arith) (omega arith) h
 
 -- what is behind an item of a list
@@ -395,9 +372,7 @@ modules_paired instantiated bodies serve wrapped s accepted calls are numbers u
     ∙ ap (λ (x : Progress). map object_types (units_of x)) (sym begins)
     ∙ entry_units p m last (init_entries u (first ∷ modules) (call_entries p 0 calls)))
     untouched in
-    subst (λ (from : Progress). PairedFrom p s from n
-    (wasm.run_tasks s (module_plan u (first ∷ modules) (call_plan 0 calls)) last n made trail)) (sym begins)
-    (subst (PairedFrom p s (called p pending (state.UnitFunc u name) m [] []) n)
+    rw begins (subst (PairedFrom p s (called p pending (state.UnitFunc u name) m [] []) n)
     (sym (module_run s u first.tree (module_plan (suc u) modules (call_plan 0 calls)) last n made trail))
     (one_module s u modules calls (called p pending (state.UnitFunc u name) m [] []) n o follows kept
     (modules_paired instantiated bodies serve wrapped s accepted calls are numbers (suc u) modules at.1)))
@@ -427,12 +402,7 @@ runs_paired instantiated bodies serve wrapped inits s accepted calls replies n l
     (all_wrapped s accepted wrapped calls listing) (all_numbers s calls listing) 0 s.modules refl
     (Init 0) n made trail (fresh p replies) (starts_together s replies)
     (λ v m le is. starts_untouched s replies v m is) in
-    subst (λ (entries : List Entry). PairedFrom p s (begin_entry p (fresh p replies) (Init 0) entries) n
-    (wasm.wasm_run s calls n replies)) (sym (entries_are p s.modules calls (inits s accepted)))
-    (subst (λ (plan : List wasm.Planned). PairedFrom p s
-    (begin_entry p (fresh p replies) (Init 0) (init_entries 0 s.modules (call_entries p 0 calls))) n
-    (wasm.run_tasks s plan (Init 0) n made trail)) (sym (plan_is s calls))
-    paired)
+    rw (entries_are p s.modules calls (inits s accepted)) (rw (plan_is s calls) paired)
 
 out_with : (p : Program) (s : link.LinkedSet) (calls : List wasm.ListedCall) (replies : List Reply) (n : ℕ)
     → GoesOn p (c_start p (map symbol_call calls) replies) n
@@ -504,8 +474,7 @@ never_stops s paired = record {
         → (wasm.wasm_run s calls n replies).outcome ≡ wasm.Stopped exec.Stuck → Paired s calls replies n → ⊥
     module_never_stuck calls replies n stopped (inl alike) =
         no_stuck_module (c_run_of (program_of s) calls (400 * n + 400) replies).outcome
-        (subst (λ (o : wasm.Outcome). OutcomesAlike o (c_run_of (program_of s) calls (400 * n + 400) replies).outcome) stopped
-        alike.outcome)
+        (rw stopped at alike.outcome)
     module_never_stuck calls replies n stopped (inr out) = let wrong : wasm.Stopped exec.Stuck ≡ wasm.Stopped exec.OutOfSteps = sym stopped
         ∙ out.0 in grind arith
 

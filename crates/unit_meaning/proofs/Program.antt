@@ -3,20 +3,19 @@ use Rattle.w2c_base.proofs.Places.{get_before}
 use Rattle.wasm_meaning.specs.LinkedSet as link
 use Rattle.c_tree.specs.Tree as tree
 use Rattle.c_unit.proofs.Defined.{helper_defined, helper_typed, helper_is_no_primitive, func_is_no_primitive, export_is_no_primitive}
-use Rattle.unit_meaning.proofs.Common.{◌≡◌, ℕ, suc, ◌*◌, ◌≤◌, List, map, length, is_some, slice_get, Some, Contains, Option, option_map}
-use Rattle.unit_meaning.proofs.Common.{sym, refl, ap, ◌∙◌, subst, arith, slice_get_within, position_from, if_found, types_of, FuncType}
-use Rattle.unit_meaning.proofs.Common.{export_symbol_of, Func, Import, ImportFunc, Name, External, Instance, IsFunc, LinkedSet, NamedModule}
-use Rattle.unit_meaning.proofs.Common.{as_func, exported, func_at, import_at, instances, meaning_of, defined, defined_for_all}
-use Rattle.unit_meaning.proofs.Common.{definition_at, func_type, primitive, UnitFunc, helper_of, Helper, export_symbol, func_imports}
-use Rattle.unit_meaning.proofs.Common.{get_mapped, ResolvesAs, callable_later, IsDefined, body_of, helpers_of, Defines, Reached}
-use Rattle.unit_meaning.proofs.Common.{IsAcceptedSet, UnitsServe, program_of, symbol_call}
+use Rattle.unit_meaning.proofs.Common.{◌≡◌, ℕ, suc, ◌*◌, ◌≤◌, List, map, length, slice_get, Some, Contains, Option, option_map, sym, refl}
+use Rattle.unit_meaning.proofs.Common.{ap, ◌∙◌, subst, arith, slice_get_within, if_found, types_of, FuncType, export_symbol_of, Func}
+use Rattle.unit_meaning.proofs.Common.{Import, ImportFunc, External, Instance, IsFunc, LinkedSet, NamedModule, as_func, exported, func_at}
+use Rattle.unit_meaning.proofs.Common.{import_at, instances, meaning_of, defined, definition_at, func_type, primitive, UnitFunc, helper_of}
+use Rattle.unit_meaning.proofs.Common.{Helper, export_symbol, func_imports, get_mapped, ResolvesAs, callable_later, IsDefined, body_of}
+use Rattle.unit_meaning.proofs.Common.{helpers_of, Defines, Reached, IsAcceptedSet, UnitsServe, program_of, symbol_call}
 use Rattle.unit_meaning.proofs.Instances.{IsPlaced, placed, earlier_is}
 use Rattle.unit_meaning.proofs.Linked.{ExportedBy, exported_by, accepted_at}
-use Rattle.unit_meaning.proofs.External.{SymbolFound, unit_at, type_found, symbol_found}
+use Rattle.unit_meaning.proofs.External.{SymbolFound, defines, symbol_found}
 use Rattle.unit_meaning.proofs.Usable.{origin, import_kind, import_symbol_is, import_resolves, usable}
 use Rattle.unit_meaning.proofs.Funcs.{ImportedFunc, imported_func, func_space_at, as_func_is}
 use Rattle.unit_meaning.proofs.Stands.{ExportedFunc, ImportStands, exported_func, import_stands, func_stands, own_definition, stands_for}
-use Rattle.unit_meaning.proofs.Listed.{WrapsOnce, ListedCallsAreWrapped}
+use Rattle.unit_meaning.proofs.Listed.{ListedCallsAreWrapped}
 use Rattle.c_init.proofs.Small.{some_same}
 
 pub few_modules : (s : LinkedSet) → IsAcceptedSet s → (u : ℕ) (m : NamedModule) → slice_get s.modules u ≡ Some m → 3 * u ≤ 48
@@ -39,15 +38,7 @@ helper_found : (s : LinkedSet) (u : ℕ) (m : NamedModule) → slice_get s.modul
     → Contains (helpers_of m.tree) which → Defines (program_of s) u (helper_of which)
 helper_found s u m is which there =
     let d = helper_defined m which there in
-    record {
-      item = d.2.0;
-      body = d.0;
-      has_body = d.1;
-      defined = ap (λ (unit : Option (List tree.Item)). if_found unit (λ items. defined items (helper_of which).name))
-          (unit_at s u m is) ∙ d.2.1;
-      typed = type_found s u m is (helper_of which).name (helper_of which) d.0 (helper_typed m which (helper_of which) d.0 d.2);
-      is_no_primitive = helper_is_no_primitive which;
-    }
+    defines s u m is (helper_of which) d.0 d.1 d.2 (helper_typed m which (helper_of which) d.0 d.2) (helper_is_no_primitive which)
 
 -- what an import's index stands for
 pub import_index : (s : LinkedSet) (u : ℕ) (m : NamedModule) → slice_get s.modules u ≡ Some m → (k : ℕ) (i : Import)
@@ -119,11 +110,8 @@ listed_calls_are_wrapped s accepted call fits =
       ty_is = x.inner_stands.ty_is;
       fit = fit;
       unit = h.owner;
-      called_is = subst (λ (n : Name). option_map (λ u. UnitFunc u n)
-          (position_from (λ unit. is_some (defined_for_all unit n)) 0 (program_of s).units) ≡ Some (UnitFunc h.owner n)) same
-          (ap (option_map (λ u. UnitFunc u (export_symbol h.exporter h.one.one))) symbol.first_unit);
+      called_is = rw same at (ap (option_map (λ u. UnitFunc u (export_symbol h.exporter h.one.one))) symbol.first_unit);
       inner = x.inner;
       stands = stands_for (program_of s) s (3 * h.owner) f x.inner (few_modules s accepted h.owner h.exporter h.exporter_is) x.inner_stands;
-      wraps = λ pending m below. subst (λ (n : Name). WrapsOnce (program_of s) x.inner_stands.ty
-          (UnitFunc h.owner n) x.inner pending m call.args below) same (x.wraps pending m call.args below fit);
+      wraps = λ pending m below. rw same at (x.wraps pending m call.args below fit);
     }

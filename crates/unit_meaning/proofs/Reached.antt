@@ -4,7 +4,6 @@ use Rattle.wasm_tree.proofs.ImportCounts.{func_count}
 use Rattle.wasm_meaning.specs.LinkedSet.{FuncAddress}
 use Rattle.c_tree.specs.Tree as tree
 use Rattle.c_unit.proofs.Defined.{init_defined, part_body, part_defined, part_typed, typed_outside}
-use Rattle.c_tree.specs.DefinedNames.{part_name}
 use Rattle.c_init.specs.Init.{Part, part_func, parts_of}
 use Rattle.c_init.proofs.FewParts.{few_parts}
 use Rattle.wasm_tree.specs.declared.tree.Module.{Module}
@@ -12,52 +11,34 @@ use Rattle.c_meaning.specs.Linking.{Program}
 use Rattle.alike.specs.Defines.{Defines}
 use Rattle.init_meaning.specs.Parts.{PartsAreDefined}
 use Rattle.unit_meaning.proofs.Common.{◌≡◌, ℕ, suc, ◌+◌, ◌-◌, ◌*◌, ◌<◌, ◌≤◌, Bool, true, false, List, [], ◌∷◌, ◌++◌, map, length}
-use Rattle.unit_meaning.proofs.Common.{if◌then◌else◌}
-use Rattle.unit_meaning.proofs.Common.{slice_get, Some, None, Option, flat_map, sym, refl, ap, ◌∙◌, subst, inl, inr, arith, length-append}
-use Rattle.unit_meaning.proofs.Common.{length-map, slice_get_within, range_with_len, get_within, at_index, if_found, init_symbol_of}
-use Rattle.unit_meaning.proofs.Common.{func_of_import, func_space, imported_funcs, Import, ImportFunc, Name, External, IsFunc, LinkedSet}
-use Rattle.unit_meaning.proofs.Common.{ModuleFunc, NamedModule, as_func, func_at, meaning_of, defined, func_named, primitive, ObjectAddress}
-use Rattle.unit_meaning.proofs.Common.{func_name, func_imports, import_symbol, is_usable, get_behind, get_mapped, get_numbered, ResolvesAs}
-use Rattle.unit_meaning.proofs.Common.{callee, function_name, init_func, items, IsAcceptedSet, program_of, less_or_not}
+use Rattle.unit_meaning.proofs.Common.{if◌then◌else◌, slice_get, Some, None, Option, flat_map, sym, refl, ap, ◌∙◌, subst, inl, inr, arith}
+use Rattle.unit_meaning.proofs.Common.{length-append, length-map, slice_get_within, range_with_len, get_within, at_index, if_found}
+use Rattle.unit_meaning.proofs.Common.{init_symbol_of, func_of_import, func_space, imported_funcs, Import, ImportFunc, Name, LinkedSet}
+use Rattle.unit_meaning.proofs.Common.{ModuleFunc, NamedModule, as_func, func_at, meaning_of, func_named, primitive, func_name}
+use Rattle.unit_meaning.proofs.Common.{func_imports, import_symbol, is_usable, get_behind, get_mapped, get_numbered, ResolvesAs, callee}
+use Rattle.unit_meaning.proofs.Common.{function_name, init_func, items, IsAcceptedSet, program_of, less_or_not}
 use Rattle.unit_meaning.proofs.Instances.{placed}
 use Rattle.unit_meaning.proofs.Linked.{accepted_at}
-use Rattle.unit_meaning.proofs.External.{unit_at, type_found}
+use Rattle.unit_meaning.proofs.External.{defines}
 use Rattle.unit_meaning.proofs.Usable.{import_resolves}
 use Rattle.unit_meaning.proofs.Funcs.{ImportedFunc, imported_func, func_space_at}
 use Rattle.unit_meaning.proofs.Stands.{FuncStands, func_stands, stands_for}
 use Rattle.unit_meaning.proofs.Program.{import_index, few_modules}
-use Rattle.unit_meaning.proofs.Pointers.{target_of}
 use Rattle.unit_meaning.proofs.Accessors.{ImportGives, imports_give}
 use Rattle.unit_meaning.proofs.Known.{InitsAreDefined, PartsAreThere, FuncsAreReached, ImportsGivePointers}
 
 pub inits_are_defined : InitsAreDefined
 inits_are_defined s accepted u m is =
     let d = init_defined m (accepted_at s accepted u m is).bytes in
-    record {
-      item = d.2.0;
-      body = d.0;
-      has_body = d.1;
-      defined = ap (λ (unit : Option (List tree.Item)). if_found unit (λ items. defined items (init_symbol_of m.name)))
-          (unit_at s u m is) ∙ d.2.1;
-      typed = type_found s u m is (init_symbol_of m.name) (init_func m) d.0
-          (typed_outside (items m) (init_symbol_of m.name) (init_func m) d.0 d.3);
-      is_no_primitive = refl;
-    }
+    defines s u m is (init_func m) d.0 d.1 d.2 (typed_outside (items m) (init_symbol_of m.name) (init_func m) d.0 d.3) refl
 
 -- the parts of the init function, one after the other
 part_is_defined : (s : LinkedSet) → IsAcceptedSet s → (u : ℕ) (m : NamedModule) → slice_get s.modules u ≡ Some m → (k : ℕ) (x : Part)
     → slice_get (parts_of m.tree) k ≡ Some x → Defines (program_of s) u (part_func m.tree (k, x))
 part_is_defined s accepted u m is k x at =
+    let f : tree.Func = part_func m.tree (k, x) in
     let d = part_defined m k x (few_parts m.tree (accepted_at s accepted u m is).within) at in
-    record {
-      item = d.0;
-      body = part_body m x;
-      has_body = refl;
-      defined = ap (λ (unit : Option (List tree.Item)). if_found unit (λ items. defined items (part_name k))) (unit_at s u m is) ∙ d.1;
-      typed = type_found s u m is (part_name k) (part_func m.tree (k, x)) (part_body m x)
-          (part_typed m k (part_func m.tree (k, x)) (part_body m x) d);
-      is_no_primitive = refl;
-    }
+    defines s u m is f (part_body m x) refl d (part_typed m k f (part_body m x) d) refl
 
 parts_from : (p : Program) (u : ℕ) (m : Module) (k : ℕ) (xs : List Part)
     → ((j : ℕ) (x : Part) → slice_get xs j ≡ Some x → Defines p u (part_func m (k + j, x))) → PartsAreDefined p u m k xs
@@ -73,14 +54,10 @@ parts_are_there s accepted u m is = parts_from (program_of s) u m.tree 0 (parts_
     (λ j x at. let e : j ≡ 0 + j = omega arith in
     subst (λ n. Defines (program_of s) u (part_func m.tree (n, x))) e (part_is_defined s accepted u m is j x at))
 
-same_target : (s : LinkedSet) (x : External) (object : ObjectAddress) → target_of s x ≡ Some object → target_of s x ≡ Some object
-same_target s (IsFunc f) object e = e
-same_target s _ object e = e
-
 pub imports_give_pointers : ImportsGivePointers
 imports_give_pointers s accepted u m is k i at x object stands target =
     let g : ImportGives s u m i object = imports_give s accepted u m is i x object (record { place = k; is = at; stands = stands })
-    (same_target s x object target) in
+    target in
     record {
       usable = g.usable;
       is_no_primitive = g.free;

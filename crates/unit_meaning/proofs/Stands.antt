@@ -4,7 +4,6 @@ use Rattle.w2c_base.proofs.Places.{get_before}
 use Rattle.w2c_base.proofs.Types.{types_many}
 use Rattle.w2c_mangle.specs.declared.symbol.SymbolKind.TheVariants as symbol
 use Rattle.wasm_meaning.specs.LinkedSet as link
-use Rattle.c_tree.specs.declared.tree.CType.TheVariants as c_type
 use Rattle.c_tree.specs.Tree as tree
 use Rattle.c_tree.specs.TypesInC.{c_func_type_of}
 use Rattle.c_unit.proofs.Found.{find_join}
@@ -16,17 +15,16 @@ use Rattle.unit_meaning.proofs.Common.{◌≡◌, ℕ, zero, suc, ◌+◌, ◌*�
 use Rattle.unit_meaning.proofs.Common.{if◌then◌else◌, slice_get, Some, None, Option, option_map, find, flat_map, bytes_eq, sym, refl, ap}
 use Rattle.unit_meaning.proofs.Common.{◌∙◌, subst, inl, inr, append_assoc, arith, slice_get_within, option_or, at_index, if_found, named}
 use Rattle.unit_meaning.proofs.Common.{Host, HostFunction, types_of, FuncType, ValType, Value, export_symbol_of, func_of_import, func_space}
-use Rattle.unit_meaning.proofs.Common.{func_type_in, global_type_in, imported_funcs, is_func_import, type_in, Export, ExportKind}
-use Rattle.unit_meaning.proofs.Common.{ExportFunc, ExportGlobal, ExportMemory, ExportTable, Import, ImportFunc, Module, Name, func_type_of}
-use Rattle.unit_meaning.proofs.Common.{CType, External, IndexSpaces, Instance, IsFunc, LinkedSet, NamedModule, export_of, exported, func_at}
-use Rattle.unit_meaning.proofs.Common.{import_at, instances, join, stays, Definition, Program, c_params_of, c_result_of, c_type_of, defined}
-use Rattle.unit_meaning.proofs.Common.{definition_at, external_func, func_named, func_type, primitive, Reaches, Pending, Frame, FuncAddress}
+use Rattle.unit_meaning.proofs.Common.{func_type_in, imported_funcs, is_func_import, type_in, Export, ExportKind, ExportFunc, ExportGlobal}
+use Rattle.unit_meaning.proofs.Common.{ExportMemory, ExportTable, Import, ImportFunc, Module, Name, func_type_of, CType, External}
+use Rattle.unit_meaning.proofs.Common.{IndexSpaces, Instance, IsFunc, LinkedSet, NamedModule, export_of, exported, func_at, import_at}
+use Rattle.unit_meaning.proofs.Common.{instances, join, stays, Definition, Program, c_params_of, c_result_of, c_type_of, defined}
+use Rattle.unit_meaning.proofs.Common.{definition_at, external_func, func_named, func_type, primitive, Pending, Frame, FuncAddress}
 use Rattle.unit_meaning.proofs.Common.{HostFunc, Machine, UnitFunc, FunctionsAlike, func_name, global_name, memory_name, table_name}
-use Rattle.unit_meaning.proofs.Common.{accessor_type, c_func_type, c_func_type_if, export_symbol, export_type, global_accessor_type}
-use Rattle.unit_meaning.proofs.Common.{global_imports, global_symbol, import_symbol, is_usable, memory_imports, table_imports, filter_few}
-use Rattle.unit_meaning.proofs.Common.{ResolvesAs, callable_later, IsCallable, IsDefined, body_of, func_of, params_of, HasLimits, callee}
-use Rattle.unit_meaning.proofs.Common.{PassesOn, StandsFor, called, core, given, accessor, export_func, passes_on, IsAccepted}
-use Rattle.unit_meaning.proofs.Common.{IsAcceptedSet, program_of}
+use Rattle.unit_meaning.proofs.Common.{c_func_type, c_func_type_if, export_symbol, export_type, global_imports, import_symbol, is_usable}
+use Rattle.unit_meaning.proofs.Common.{memory_imports, table_imports, filter_few, ResolvesAs, callable_later, IsCallable, IsDefined}
+use Rattle.unit_meaning.proofs.Common.{body_of, func_of, params_of, HasLimits, callee, PassesOn, StandsFor, called, core, given, accessor}
+use Rattle.unit_meaning.proofs.Common.{export_func, passes_on, IsAccepted, IsAcceptedSet, program_of}
 use Rattle.body_emitter.specs.Variables.{params_from}
 use Rattle.unit_meaning.proofs.Instances.{IsPlaced, spaces_at, placed, earlier_is}
 use Rattle.unit_meaning.proofs.Linked.{ExportedBy, accepted_at}
@@ -97,11 +95,8 @@ passes_wrapped p most ty outer inner inmost pending m args below w h =
       there = 1 + h.there;
       back = h.back + w.back;
       few = omega (arith, h.few, w.few);
-      calls = subst (λ (fs : List Frame). Reaches p (1 + h.there) (called p pending outer m args below) (called p pending inmost m args fs))
-          (sym e) (join p 1 h.there _ _ _ w.calls h.calls);
-      gives = λ after value typed. subst (λ (fs : List Frame). Reaches p (h.back + w.back) (given p pending after value fs)
-          (given p pending after value below)) (sym e)
-          (join p h.back w.back _ _ _ (h.gives after value typed) (w.gives after value typed));
+      calls = rw e (join p 1 h.there _ _ _ w.calls h.calls);
+      gives = λ after value typed. rw e (join p h.back w.back _ _ _ (h.gives after value typed) (w.gives after value typed));
     }
 
 -- ---- the function with an index
@@ -195,28 +190,18 @@ own_stands s accepted u m is k f h =
         early = omega arith;
         tree = m.tree;
         tree_is = ap (option_map (λ (m : NamedModule). m.tree)) is;
-        defined =
-            h.defined;
+        defined = h.defined;
       };
     })
 
 -- ---- wrappers
 
+-- what an export of this kind would have
 abbrev pub type_by : Module → Export → ExportKind → tree.FuncType
-type_by m e kind = elim kind [
-  | ExportFunc ↦ c_func_type_if (func_type_in m e.index)
-  | ExportTable ↦ accessor_type c_type.PtrTab
-  | ExportMemory ↦ accessor_type c_type.PtrMem
-  | ExportGlobal ↦ global_accessor_type (global_type_in m e.index)
-]
+type_by m e kind = export_type m (record e { kind = kind })
 
 abbrev pub symbol_by : NamedModule → Export → ExportKind → Name
-symbol_by m e kind = elim kind [
-  | ExportFunc ↦ export_symbol_of m.name symbol.Func e.name
-  | ExportTable ↦ export_symbol_of m.name symbol.Table e.name
-  | ExportMemory ↦ export_symbol_of m.name symbol.Memory e.name
-  | ExportGlobal ↦ global_symbol m.name (global_type_in m.tree e.index) e.name
-]
+symbol_by m e kind = export_symbol m (record e { kind = kind })
 
 abbrev pub func_by : NamedModule → Export → ExportKind → tree.Func
 func_by m e kind = elim kind [
@@ -235,28 +220,16 @@ export_of_func spaces e f stands = go e.kind refl stands
     of_func None e = absurd (cc)
     of_func (Some g) e = let same : g ≡ f = cc in ap Some same
 
-    no_table : (o : Option ℕ) → option_map link.IsTable o ≡ Some (IsFunc f) → ⊥
-    no_table None e = cc
-    no_table (Some g) e = cc
+    none : {A : Type 0} (g : A → External) → ((a : A) → g a ≡ IsFunc f → ⊥) → (o : Option A) → option_map g o ≡ Some (IsFunc f) → ⊥
+    none g apart None e = cc
+    none g apart (Some a) e = apart a (some_same e)
 
-    no_memory : (o : Option ℕ) → option_map link.IsMemory o ≡ Some (IsFunc f) → ⊥
-    no_memory None e = cc
-    no_memory (Some g) e = cc
-
-    no_global : (o : Option link.GlobalAddress) → option_map link.IsGlobal o ≡ Some (IsFunc f) → ⊥
-    no_global None e = cc
-    no_global (Some g) e = cc
-
-    go : (kind : ExportKind) → e.kind ≡ kind → (elim kind [
-      | ExportFunc ↦ option_map IsFunc (at_index spaces.funcs e.index)
-      | ExportTable ↦ option_map link.IsTable (at_index spaces.tables e.index)
-      | ExportMemory ↦ option_map link.IsMemory (at_index spaces.memories e.index)
-      | ExportGlobal ↦ option_map link.IsGlobal (at_index spaces.globals e.index)
-    ]) ≡ Some (IsFunc f) → (e.kind ≡ ExportFunc) × (at_index spaces.funcs e.index ≡ Some f)
+    go : (kind : ExportKind) → e.kind ≡ kind → (export_of spaces (record e { kind = kind })).1 ≡ Some (IsFunc f)
+        → (e.kind ≡ ExportFunc) × (at_index spaces.funcs e.index ≡ Some f)
     go ExportFunc is stands = (is, of_func (at_index spaces.funcs e.index) stands)
-    go ExportTable is stands = absurd (no_table (at_index spaces.tables e.index) stands)
-    go ExportMemory is stands = absurd (no_memory (at_index spaces.memories e.index) stands)
-    go ExportGlobal is stands = absurd (no_global (at_index spaces.globals e.index) stands)
+    go ExportTable is stands = absurd (none link.IsTable (λ a e. cc) (at_index spaces.tables e.index) stands)
+    go ExportMemory is stands = absurd (none link.IsMemory (λ a e. cc) (at_index spaces.memories e.index) stands)
+    go ExportGlobal is stands = absurd (none link.IsGlobal (λ a e. cc) (at_index spaces.globals e.index) stands)
 
 -- an exported function: its wrapper, and what that calls
 pub record ExportedFunc (s : LinkedSet) (v : ℕ) (m : NamedModule) (e : Export) (f : link.FuncAddress) : Type 0 where
@@ -370,18 +343,17 @@ import_typed s accepted u m is k i h f ty stands typed =
 
 host_stands : (s : LinkedSet) (most : ℕ) (host_name name : Name) (f : link.FuncAddress) (h : OfferedBy s host_name name (IsFunc f))
     → StandsIn (program_of s) s most f (HostFunc h.host h.function)
-host_stands s most host_name name f h = subst (λ (g : link.FuncAddress). StandsIn (program_of s) s most g (HostFunc h.host h.function))
-    (sym same) (record {
-      alike = refl;
-      ty = h.its.ty;
-      ty_is = ap (λ (x : Option Host). if_found x (λ host. option_map (λ f. f.ty) (slice_get host.functions h.function))) h.host_is
-          ∙ ap (option_map (λ (f : HostFunction). f.ty)) h.function_is;
-      c_ty_is = ap (λ (x : Option Host). option_map c_func_type_of
-          (if_found x (λ host. option_map (λ f. f.ty) (slice_get host.functions h.function)))) h.host_is
-          ∙ ap (λ (x : Option HostFunction). option_map c_func_type_of (option_map (λ f. f.ty) x)) h.function_is;
-      passes = λ pending machine args below fit. passes_itself (program_of s) most h.its.ty
-          (HostFunc h.host h.function) pending machine args below;
-    })
+host_stands s most host_name name f h = rw same (record {
+  alike = refl;
+  ty = h.its.ty;
+  ty_is = ap (λ (x : Option Host). if_found x (λ host. option_map (λ f. f.ty) (slice_get host.functions h.function))) h.host_is
+      ∙ ap (option_map (λ (f : HostFunction). f.ty)) h.function_is;
+  c_ty_is = ap (λ (x : Option Host). option_map c_func_type_of
+      (if_found x (λ host. option_map (λ f. f.ty) (slice_get host.functions h.function)))) h.host_is
+      ∙ ap (λ (x : Option HostFunction). option_map c_func_type_of (option_map (λ f. f.ty) x)) h.function_is;
+  passes = λ pending machine args below fit. passes_itself (program_of s) most h.its.ty
+      (HostFunc h.host h.function) pending machine args below;
+})
   where
     same : f ≡ link.HostFunc h.host h.function
     same = let e : IsFunc f ≡ IsFunc (link.HostFunc h.host h.function) = h.stands in cc

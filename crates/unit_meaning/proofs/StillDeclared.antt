@@ -38,11 +38,10 @@ agree_at p s q (x ∷ made) (y ∷ units) zero o u a is is' =
     let e : q ≡ q + 0 = omega arith in
     let first : x ≡ o = cc in
     let second : y ≡ u = cc in
-    subst (λ (k : ℕ). ObjectsAgree p s k o u) e (subst (λ (o : store.Objects). ObjectsAgree p s q o u) first
-    (subst (ObjectsAgree p s q x) second a.0))
+    rw e at (rw first at (subst (ObjectsAgree p s q x) second a.0))
 agree_at p s q (x ∷ made) (y ∷ units) (suc i) o u a is is' =
     let e : suc q + i ≡ q + suc i = omega arith in
-    subst (λ (k : ℕ). ObjectsAgree p s k o u) e (agree_at p s (suc q) made units i o u a.1 is is')
+    rw e at (agree_at p s (suc q) made units i o u a.1 is is')
 
 no_table_there : (p : Program) (s : LinkedSet) (o : Option state.Table) → is_some o ≡ true → TablesAgree p s None o
     → o ≡ Some machine.no_table

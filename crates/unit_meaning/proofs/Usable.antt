@@ -59,12 +59,7 @@ import_kind (ImportGlobal t mutable) = global_kind mutable
 pub import_symbol_is : (i : Import) → import_symbol i ≡ export_symbol_of i.«module» (import_kind i.kind) i.field
 import_symbol_is i = by i.kind
   where
-    by : (k : ImportKind) → (elim k [
-      | ImportFunc t ↦ export_symbol_of i.«module» symbol.Func i.field
-      | ImportTable l ↦ export_symbol_of i.«module» symbol.Table i.field
-      | ImportMemory l ↦ export_symbol_of i.«module» symbol.Memory i.field
-      | ImportGlobal t mutable ↦ export_symbol_of i.«module» (global_kind mutable) i.field
-    ]) ≡ export_symbol_of i.«module» (import_kind k) i.field
+    by : (k : ImportKind) → import_symbol (record i { kind = k }) ≡ export_symbol_of i.«module» (import_kind k) i.field
     by (ImportFunc t) = refl
     by (ImportTable l) = refl
     by (ImportMemory l) = refl
@@ -97,12 +92,7 @@ type_as m (ImportGlobal t mutable) = accessor_type (pointer_type t)
 pub type_is : (m : Module) (i : Import) → import_type m i ≡ type_as m i.kind
 type_is m i = by i.kind
   where
-    by : (k : ImportKind) → (elim k [
-      | ImportFunc t ↦ c_func_type_if (type_in m t)
-      | ImportTable l ↦ accessor_type c_type.PtrTab
-      | ImportMemory l ↦ accessor_type c_type.PtrMem
-      | ImportGlobal t mutable ↦ accessor_type (pointer_type t)
-    ]) ≡ type_as m k
+    by : (k : ImportKind) → import_type m (record i { kind = k }) ≡ type_as m k
     by (ImportFunc t) = refl
     by (ImportTable l) = refl
     by (ImportMemory l) = refl
@@ -135,12 +125,7 @@ same_kind_types s u m is i j same (ImportFunc t') (ImportGlobal t true) r q e = 
 same_kind_types s u m is i j same (ImportFunc t') (ImportGlobal t false) r q e = absurd (cc)
 same_kind_types s u m is i j same _ (ImportGlobal t true) r q e = absurd (cc)
 same_kind_types s u m is i j same _ (ImportGlobal t false) r q e = absurd (cc)
-same_kind_types s u m is i j same (ImportFunc t) (ImportTable l) r q e = absurd (cc)
-same_kind_types s u m is i j same (ImportFunc t) (ImportMemory l) r q e = absurd (cc)
-same_kind_types s u m is i j same (ImportTable l) (ImportFunc t) r q e = absurd (cc)
-same_kind_types s u m is i j same (ImportTable l) (ImportMemory l') r q e = absurd (cc)
-same_kind_types s u m is i j same (ImportMemory l) (ImportFunc t) r q e = absurd (cc)
-same_kind_types s u m is i j same (ImportMemory l) (ImportTable l') r q e = absurd (cc)
+same_kind_types s u m is i j same _ _ r q e = absurd (cc)
 
 -- imports with one symbol have one type
 pub same_symbol_types : (s : LinkedSet) → IsAcceptedSet s → (u : ℕ) (m : NamedModule) → slice_get s.modules u ≡ Some m

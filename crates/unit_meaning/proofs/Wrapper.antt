@@ -148,6 +148,40 @@ passed p pending u item result stmts rest target name inner args locals m below 
 abbrev WrapperOf : List ValType → Option ValType → Name → Name → tree.Func
 WrapperOf params result symbol name = passes_on (record { params = c_params_of params; result = c_result_of result }) symbol (Some name)
 
+-- what such a function's body does
+abbrev whole : Option Name → Name → List CType → tree.Stmt → List tree.Stmt
+whole target name types last = tree.Call target (tree.Called name) (args_from 0 types) ∷ last ∷ []
+
+-- its frame, while the other function runs
+abbrev waiting : ℕ → ℕ → CType → Option Name → Name → tree.Stmt → List Value → Vars → Running
+waiting u item result target name last args locals =
+    running_at u item result (whole target name (map c_type_of (types_of args)) last) (last ∷ []) (arg_vars 0 args ++ locals)
+
+-- it begins, and calls the other function
+calls_other : (p : Program) (pending : Pending) (u item : ℕ) (symbol name : Name) (inner : FuncAddress) (f : tree.Func) (body : tree.Body)
+    (target : Option Name) (declared : _) (locals : Vars) (last : tree.Stmt) (args : List Value) (m : Machine) (below : List Frame)
+    → f.params ≡ named_params (proper_types (c_params_of (types_of args)))
+    → f.body ≡ Some (record { locals = declared; stmts = whole target name (proper_types (c_params_of (types_of args))) last })
+    → step.locals_of declared ≡ Some locals → f.body ≡ Some body
+    → definition_at p u symbol ≡ Some (record { item = item; func = f; body = body })
+    → length args < 2 ^ 64 → primitive name ≡ None → func_named p u name ≡ Some inner
+    → Reaches p 1 (called p pending (UnitFunc u symbol) m args below)
+    (called p pending inner m args (record { target = target; running = waiting u item f.result target name last args locals } ∷ below))
+calls_other p pending u item symbol name inner f body target declared locals last args m below params_are body_is locals_are has_body
+    definition few free is =
+    let stmts : List CType → List tree.Stmt = λ types. whole target name types last in
+    let types : List CType = map c_type_of (types_of args) in
+    let made : tree.Body = record { locals = declared; stmts = stmts types } in
+    let same : body ≡ made = some_same (sym has_body ∙ body_is
+    ∙ ap (λ (ts : List CType). Some (record { locals = declared; stmts = stmts ts })) (proper_params (types_of args))) in
+    let params : f.params ≡ named_params types = params_are ∙ ap (λ (ts : List CType). named_params ts) (proper_params (types_of args)) in
+    let begins = ap (λ (d : Option Definition). go_on p pending (step.begin d u m (map Number args) below))
+    (definition ∙ ap (λ (b : tree.Body). Some (record { item = item; func = f; body = b })) same)
+    ∙ begun p pending item u f made args locals m below
+    (ap (λ (ps : List tree.Param). step.are_of_types (step.param_types ps) (map Number args)) params ∙ args_fit args)
+    (ap (λ (ps : List tree.Param). step.bind (step.param_names ps) (map Number args)) params ∙ bound args) locals_are in
+    rw begins (passed p pending u item f.result (stmts types) (last ∷ []) target name inner args locals m below few free is)
+
 wraps_none : (p : Program) (pending : Pending) (u item : ℕ) (symbol name : Name) (inner : FuncAddress) (params : List ValType)
     (args : List Value) (m : Machine) (below : List Frame) (body : tree.Body)
     → (WrapperOf (types_of args) None symbol name).body ≡ Some body
@@ -158,46 +192,13 @@ wraps_none p pending u item symbol name inner params args m below body has_body 
   frames = record { target = None; running = running } ∷ [];
   back = 1;
   few = omega arith;
-  calls = subst (λ (x : Progress). Reaches p 1 x (called p pending inner m args (record { target = None; running = running } ∷ below)))
-      (sym (start ∙ begins)) way;
+  calls = calls_other p pending u item symbol name inner (WrapperOf (types_of args) None symbol name) body None [] [] tree.ReturnNone args m
+      below refl refl refl has_body definition few free is;
   gives = back;
 }
   where
-    f : tree.Func
-    f = WrapperOf (types_of args) None symbol name
-
-    types : List CType
-    types = map c_type_of (types_of args)
-
-    whole : List tree.Stmt
-    whole = tree.Call None (tree.Called name) (args_from 0 types) ∷ tree.ReturnNone ∷ []
-
     running : Running
-    running = running_at u item c_type.Void whole (tree.ReturnNone ∷ []) (arg_vars 0 args ++ [])
-
-    start : called p pending (UnitFunc u symbol) m args below
-        ≡ go_on p pending (step.begin (Some (record { item = item; func = f; body = record { locals = []; stmts = whole } })) u m
-        (map Number args) below)
-    start =
-        let body_is : body ≡ record { locals = []; stmts = whole } =
-        some_same (sym has_body ∙ ap (λ (ts : List CType). Some
-        (record { locals = []; stmts = tree.Call None (tree.Called name) (args_from 0 ts) ∷ tree.ReturnNone ∷ [] }))
-        (proper_params (types_of args))) in
-        ap (λ (d : Option Definition). go_on p pending (step.begin d u m (map Number args) below))
-        (definition ∙ ap (λ (b : tree.Body). Some (record { item = item; func = f; body = b })) body_is)
-
-    begins : go_on p pending (step.begin (Some (record { item = item; func = f; body = record { locals = []; stmts = whole } })) u m
-        (map Number args) below)
-        ≡ at_work pending m below (running_at u item c_type.Void whole whole (arg_vars 0 args ++ []))
-    begins = begun p pending item u f (record { locals = []; stmts = whole }) args [] m below
-        (ap (λ (ts : List CType). step.are_of_types (step.param_types (named_params ts)) (map Number args))
-        (proper_params (types_of args)) ∙ args_fit args)
-        (ap (λ (ts : List CType). step.bind (step.param_names (named_params ts)) (map Number args)) (proper_params (types_of args))
-        ∙ bound args) refl
-
-    way : Reaches p 1 (at_work pending m below (running_at u item c_type.Void whole whole (arg_vars 0 args ++ [])))
-        (called p pending inner m args (record { target = None; running = running } ∷ below))
-    way = passed p pending u item c_type.Void whole (tree.ReturnNone ∷ []) None name inner args [] m below few free is
+    running = waiting u item c_type.Void None name tree.ReturnNone args []
 
     back : (after : Machine) (value : Option Value) → is_result None value ≡ true
         → Reaches p 1 (given p pending after value (record { target = None; running = running } ∷ below))
@@ -207,90 +208,57 @@ wraps_none p pending u item symbol name inner params args m below body has_body 
 
 -- with a value, in a variable of the type `rt`
 wraps_value : (p : Program) (pending : Pending) (u item : ℕ) (symbol name : Name) (inner : FuncAddress) (params : List ValType)
-    (t : ValType) (rt : CType) (zero_value : CValue) (f : tree.Func) (args : List Value) (m : Machine) (below : List Frame)
+    (t : ValType) (rt : CType) (zero_value : CValue) (f : tree.Func) (body : tree.Body) (args : List Value) (m : Machine)
+    (below : List Frame)
     → initial_of rt (zero_number rt) ≡ Some zero_value → zero_like zero_value ≡ Number (value t 0) → f.result ≡ c_type_of t
-    → f.params ≡ named_params (map c_type_of (types_of args))
-    → definition_at p u symbol ≡ Some (record {
-      item = item;
-      func = f;
-      body = record {
-        locals = (rt, result_name, zero_number rt) ∷ [];
-        stmts = tree.Call (Some result_name) (tree.Called name) (args_from 0 (map c_type_of (types_of args))) ∷ tree.Return
-            (tree.Value (tree.Name result_name)) ∷ [];
-      };
+    → f.params ≡ named_params (proper_types (c_params_of (types_of args)))
+    → f.body ≡ Some (record {
+      locals = (rt, result_name, zero_number rt) ∷ [];
+      stmts = whole (Some result_name) name (proper_types (c_params_of (types_of args))) (tree.Return (tree.Value (tree.Name result_name)));
     })
+    → f.body ≡ Some body → definition_at p u symbol ≡ Some (record { item = item; func = f; body = body })
     → length args < 2 ^ 64 → primitive name ≡ None → func_named p u name ≡ Some inner
     → WrapsOnce p (record { params = params; result = Some t }) (UnitFunc u symbol) inner pending m args below
-wraps_value p pending u item symbol name inner params t rt zero_value f args m below zero_is zero_typed result params_are definition
-    few free is = record {
+wraps_value p pending u item symbol name inner params t rt zero_value f body args m below zero_is zero_typed result params_are body_is
+    has_body definition few free is = record {
       frames = record { target = Some result_name; running = running } ∷ [];
       back = 1;
       few = omega arith;
-      calls = subst (λ (x : Progress). Reaches p 1 x (called p pending inner m args
-          (record { target = Some result_name; running = running } ∷ below))) (sym (start ∙ begins)) way;
+      calls = calls_other p pending u item symbol name inner f body (Some result_name) _ locals last args m below params_are body_is
+          (ap (λ (o : Option CValue). if_found o (λ v. option_map (λ (vars : Vars). (result_name, v) ∷ vars) (Some []))) zero_is)
+          has_body definition few free is;
       gives = back;
     }
   where
-    types : List CType
-    types = map c_type_of (types_of args)
-
-    whole : List tree.Stmt
-    whole = tree.Call (Some result_name) (tree.Called name) (args_from 0 types) ∷ tree.Return (tree.Value (tree.Name result_name)) ∷ []
-
-    body : tree.Body
-    body = record { locals = (rt, result_name, zero_number rt) ∷ []; stmts = whole }
+    last : tree.Stmt
+    last = tree.Return (tree.Value (tree.Name result_name))
 
     locals : Vars
     locals = (result_name, zero_value) ∷ []
 
     running : Running
-    running = running_at u item f.result whole (tree.Return (tree.Value (tree.Name result_name)) ∷ [])
-        (arg_vars 0 args ++ (result_name, zero_value) ∷ [])
-
-    start : called p pending (UnitFunc u symbol) m args below
-        ≡ go_on p pending (step.begin (Some
-        (record { item = item; func = f; body = record { locals = (rt, result_name, zero_number rt) ∷ []; stmts = whole } })) u m
-        (map Number args) below)
-    start = ap (λ (d : Option Definition). go_on p pending (step.begin d u m (map Number args) below)) definition
-
-    begins : go_on p pending (step.begin
-        (Some (record { item = item; func = f; body = record { locals = (rt, result_name, zero_number rt) ∷ []; stmts = whole } })) u m
-        (map Number args) below)
-        ≡ at_work pending m below (running_at u item f.result whole whole (arg_vars 0 args ++ (result_name, zero_value) ∷ []))
-    begins = begun p pending item u f (record { locals = (rt, result_name, zero_number rt) ∷ []; stmts = whole }) args
-        ((result_name, zero_value) ∷ []) m below
-        (ap (λ (ps : List tree.Param). step.are_of_types (step.param_types ps) (map Number args)) params_are ∙ args_fit args)
-        (ap (λ (ps : List tree.Param). step.bind (step.param_names ps) (map Number args)) params_are ∙ bound args)
-        (ap (λ (o : Option CValue). if_found o (λ v. option_map (λ (vars : Vars). (result_name, v) ∷ vars) (Some []))) zero_is)
-
-    way : Reaches p 1 (at_work pending m below (running_at u item f.result whole whole (arg_vars 0 args ++ (result_name, zero_value) ∷ [])))
-        (called p pending inner m args (record { target = Some result_name; running = running } ∷ below))
-    way = passed p pending u item f.result whole (tree.Return (tree.Value (tree.Name result_name)) ∷ []) (Some result_name) name inner args
-        ((result_name, zero_value) ∷ []) m below few free is
+    running = waiting u item f.result (Some result_name) name last args locals
 
     back : (after : Machine) (value : Option Value) → is_result (Some t) value ≡ true
         → Reaches p 1 (given p pending after value (record { target = Some result_name; running = running } ∷ below))
         (given p pending after value below)
     back after None typed = absurd (cc)
     back after (Some v) typed =
-        let there : named result_name (arg_vars 0 args ++ (result_name, zero_value) ∷ []) ≡ Some zero_value =
-        result_named 0 args zero_value in
-        let is_there : is_some (named result_name (arg_vars 0 args ++ (result_name, zero_value) ∷ [])) ≡ true = ap is_some there in
+        let vars : Vars = arg_vars 0 args ++ locals in
+        let there : named result_name vars ≡ Some zero_value = result_named 0 args zero_value in
+        let is_there : is_some (named result_name vars) ≡ true = ap is_some there in
         let type_is : t ≡ type_of v = same_Some t (type_of v) (result_is_typed (Some t) v typed) in
-        let of_type_there : held result_name (arg_vars 0 args ++ (result_name, zero_value) ∷ []) ≡ Some (zero_like (Number v)) =
+        let of_type_there : held result_name vars ≡ Some (zero_like (Number v)) =
         ap (option_map zero_like) there ∙ (ap Some zero_typed ∙ ap (λ u. Some (Number (value u 0))) type_is) in
         let may_return : step.is_returned f.result (Some (Number v)) ≡ true =
         ap (λ r. step.is_returned r (Some (Number v))) (result ∙ ap c_type_of type_is) ∙ number_of_its_type v in
-        let vars : Vars = with_named result_name (Number v) (arg_vars 0 args ++ (result_name, zero_value) ∷ []) in
-        let s : State = record { machine = after; running = step.with_vars running vars; below = below } in
+        let new : Vars = with_named result_name (Number v) vars in
+        let s : State = record { machine = after; running = step.with_vars running new; below = below } in
         let given_is : given p pending after (Some v) (record { target = Some result_name; running = running } ∷ below) ≡ Going pending s =
-        rw is_there (ap (go_on p pending) (put_where_held after (named result_name (arg_vars 0 args ++ (result_name, zero_value) ∷ []))
-        (Number v) (step.Next s) of_type_there)) in
-        let now : named result_name vars ≡ Some (Number v) =
-        named-with_named result_name (Number v) (arg_vars 0 args ++ (result_name, zero_value) ∷ []) is_there in
+        rw is_there (ap (go_on p pending) (put_where_held after (named result_name vars) (Number v) (step.Next s) of_type_there)) in
+        let now : named result_name new ≡ Some (Number v) = named-with_named result_name (Number v) vars is_there in
         let e : go_on p pending (step.c_step p s) ≡ given p pending after (Some v) below = rw (now, may_return) refl in
-        subst (λ (x : Progress). Reaches p 1 x (given p pending after (Some v) below)) (sym given_is)
-        (subst (Reaches p 1 (Going pending s)) e (ways.step p pending s))
+        rw given_is (subst (Reaches p 1 (Going pending s)) e (ways.step p pending s))
 
 -- whatever the result
 pub wraps : (p : Program) (pending : Pending) (u item : ℕ) (symbol name : Name) (inner : FuncAddress) (ty : FuncType) (args : List Value)
@@ -300,36 +268,18 @@ pub wraps : (p : Program) (pending : Pending) (u item : ℕ) (symbol name : Name
     → length args < 2 ^ 64 → primitive name ≡ None → func_named p u name ≡ Some inner
     → WrapsOnce p ty (UnitFunc u symbol) inner pending m args below
 wraps p pending u item symbol name inner ty args m below body fit has_body definition few free is =
-    go ty.result (subst (λ (ps : List ValType). (WrapperOf ps ty.result symbol name).body ≡ Some body) (sym fit) has_body)
-    (subst (λ (ps : List ValType). definition_at p u symbol ≡ Some
-    (record { item = item; func = WrapperOf ps ty.result symbol name; body = body })) (sym fit) definition)
+    go ty.result (rw fit has_body) (rw fit definition)
   where
     go : (result : Option ValType) → (WrapperOf (types_of args) result symbol name).body ≡ Some body
         → definition_at p u symbol ≡ Some (record { item = item; func = WrapperOf (types_of args) result symbol name; body = body })
         → WrapsOnce p (record { params = ty.params; result = result }) (UnitFunc u symbol) inner pending m args below
     go None has_body definition = wraps_none p pending u item symbol name inner ty.params args m below body has_body definition few free is
     go (Some type.I32) has_body definition =
-        let f : tree.Func = WrapperOf (types_of args) (Some type.I32) symbol name in
-        let whole : List CType → tree.Body = λ ts. record {
-          locals = (c_type.U32, result_name, zero_number c_type.U32) ∷ [];
-          stmts = tree.Call (Some result_name) (tree.Called name) (args_from 0 ts) ∷ tree.Return (tree.Value (tree.Name result_name)) ∷ [];
-        } in
-        let body_is : body ≡ whole (map c_type_of (types_of args)) =
-        some_same (sym has_body ∙ ap (λ (ts : List CType). Some (whole ts)) (proper_params (types_of args))) in
-        wraps_value p pending u item symbol name inner ty.params type.I32 c_type.U32 (Number (I32 0)) f args m below refl refl refl
-        (ap (λ (ts : List CType). named_params ts) (proper_params (types_of args)))
-        (definition ∙ ap (λ (b : tree.Body). Some (record { item = item; func = f; body = b })) body_is) few free is
+        wraps_value p pending u item symbol name inner ty.params type.I32 c_type.U32 (Number (I32 0))
+        (WrapperOf (types_of args) (Some type.I32) symbol name) body args m below refl refl refl refl refl has_body definition few free is
     go (Some type.I64) has_body definition =
-        let f : tree.Func = WrapperOf (types_of args) (Some type.I64) symbol name in
-        let whole : List CType → tree.Body = λ ts. record {
-          locals = (c_type.U64, result_name, zero_number c_type.U64) ∷ [];
-          stmts = tree.Call (Some result_name) (tree.Called name) (args_from 0 ts) ∷ tree.Return (tree.Value (tree.Name result_name)) ∷ [];
-        } in
-        let body_is : body ≡ whole (map c_type_of (types_of args)) =
-        some_same (sym has_body ∙ ap (λ (ts : List CType). Some (whole ts)) (proper_params (types_of args))) in
-        wraps_value p pending u item symbol name inner ty.params type.I64 c_type.U64 (Number (I64 0)) f args m below refl refl refl
-        (ap (λ (ts : List CType). named_params ts) (proper_params (types_of args)))
-        (definition ∙ ap (λ (b : tree.Body). Some (record { item = item; func = f; body = b })) body_is) few free is
+        wraps_value p pending u item symbol name inner ty.params type.I64 c_type.U64 (Number (I64 0))
+        (WrapperOf (types_of args) (Some type.I64) symbol name) body args m below refl refl refl refl refl has_body definition few free is
 
 -- ---- types
 

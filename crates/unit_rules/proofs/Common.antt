@@ -1,6 +1,6 @@
 -- What proofs of this crate cite of std, of the crates below and of specs/, passed on from one place. Declares nothing.
 pub use Rattle.std.proofs.Common.{◌≡◌, ℕ, zero, suc, ◌+◌, ◌-◌, ◌^◌, ◌<◌, ◌≤◌, Bool, true, false, not, ◌&&◌, ◌||◌, ◌≢◌, ◌⊎◌, ◌↔◌, List, []}
-pub use Rattle.std.proofs.Common.{◌∷◌, ◌++◌, map, length, drop, ℤ, pos, negsuc, is_some, is_none, if◌then◌else◌, IsSome, nat_lt, nat_le}
+pub use Rattle.std.proofs.Common.{◌∷◌, ◌++◌, map, length, ℤ, pos, negsuc, is_some, is_none, if◌then◌else◌, IsSome, nat_lt, nat_le}
 pub use Rattle.std.proofs.Common.{◌==◌, slice_get, Some, None, codes, decimal, All, Contains, filter, Option, option_map, zip, flat_map}
 pub use Rattle.std.proofs.Common.{filter_map, bytes_eq, sym, refl, ap, ◌∙◌, subst, inl, inr, append_assoc, append-nil, arith, length-append}
 pub use Rattle.std.proofs.Common.{zero-add, true≢false}
@@ -14,7 +14,7 @@ pub use Rattle.std.proofs.lemmas.Option.{none-some, slice_get_within}
 pub use Rattle.std.proofs.lemmas.Slice.Eq.{bytes_eq-Decides}
 pub use Rattle.std.specs.List.{AllByRecursion, list_all, list_any, range_with_len}
 pub use Rattle.w2c_base.proofs.Conjunctions.{both_hold}
-pub use Rattle.w2c_base.proofs.Lists.{all_behind, all_front, all_of, all_weaker, get_mapped, get_unmapped}
+pub use Rattle.w2c_base.proofs.Lists.{all_behind, all_front, all_weaker, get_mapped, get_unmapped}
 pub use Rattle.w2c_base.proofs.OfEach.{all_append, all_at, all_flat, all_from, all_map, of_contained, all_filtered}
 pub use Rattle.w2c_base.proofs.Options.{some_is}
 pub use Rattle.w2c_base.proofs.Places.{take_with, get_front}
@@ -74,9 +74,9 @@ pub use Rattle.c_tree.specs.Rules.{is_runtime_name, is_symbol, is_value_type, is
 pub use Rattle.c_tree.specs.Rules.{local_names, may_be_assigned, may_be_called, may_both_stand, number_suits, points_to_number}
 pub use Rattle.c_tree.specs.Rules.{proper_params, proper_types, stmt_is_typed, stmt_suits, stmt_uses, target_suits, target_uses}
 pub use Rattle.c_tree.specs.Rules.{written_type_is_proper}
-pub use Rattle.c_tree.specs.Runtime.{primitives, same_func_type, same_type, same_types}
+pub use Rattle.c_tree.specs.Runtime.{primitives, same_func_type, same_type}
 pub use Rattle.c_tree.specs.Scope.{HasType, Name, Scope, array_of, arrays, func_type_of, function_of, functions, is_among, is_object_type}
-pub use Rattle.c_tree.specs.Scope.{local_variables, name_of, param_variables, pointed_by, pointer_to, variable_of, variables}
+pub use Rattle.c_tree.specs.Scope.{local_variables, name_of, param_variables, pointed_by, variable_of, variables}
 pub use Rattle.c_tree.specs.Spelled.{FitsArg, FitsExpr, FitsItem, FitsNum, FitsStmt, depth_limit}
 pub use Rattle.c_tree.specs.TypesInC.{c_params_of, c_result_of, c_type_of}
 pub use Rattle.c_tree.specs.WellFormed.{IsName, IsNamedIfAny, IsWellFormed, NamedArg, NamedItem, NamedStmt}
@@ -91,14 +91,14 @@ pub use Rattle.c_helpers.specs.Translated.{any_in}
 pub use Rattle.c_helpers.specs.declared.operation.Helper.{Helper}
 pub use Rattle.c_helpers.specs.declared.operation.NumOp.{NumOp}
 pub use Rattle.c_helpers.specs.declared.operation.TheConstants.{HELPERS}
-pub use Rattle.c_symbols.specs.Objects.{callee, function_name, global_value, memory_arg, pointers_of, table_arg}
+pub use Rattle.c_symbols.specs.Objects.{callee, function_name, global_value, memory_arg, table_arg}
 pub use Rattle.c_symbols.specs.Symbols.{Typed, accessor_type, c_func_type, c_func_type_if, declared_symbols, export_symbol, export_type}
 pub use Rattle.c_symbols.specs.Symbols.{exported_symbols, firsts, func_imports, global_accessor_type, global_imports, global_kind}
 pub use Rattle.c_symbols.specs.Symbols.{global_symbol, import_symbol, import_type, imported_symbols, is_usable, memory_imports}
 pub use Rattle.c_symbols.specs.Symbols.{pointer_type, symbol_type, table_imports}
 pub use Rattle.body_emitter.specs.Variables.{params_of}
 pub use Rattle.c_body.specs.Body.{body_of, func_of, stmts_of}
-pub use Rattle.c_prelude.proofs.Functions.{listed, made_static, names_differ}
+pub use Rattle.c_prelude.proofs.Functions.{listed, made_static}
 pub use Rattle.c_prelude.specs.Functions.{helper_type}
 pub use Rattle.body_rules.proofs.BodyRules.{all_true, pointer_points}
 pub use Rattle.c_tree.proofs.DeclaredNames.{past_none, named_in}
@@ -123,7 +123,7 @@ pub use Rattle.c_init.specs.Init.{limits_label, local_if, loop_label, make_globa
 pub use Rattle.c_init.specs.Init.{place_expr, set_pointer, signature, size_name, start_stmts, take_stmts, takes_from, test_bounds}
 pub use Rattle.c_init.specs.Init.{test_data, test_elements, test_max, test_min, tests_bounds, tests_limits, trap_if}
 pub use Rattle.c_init.specs.Init.{write_data, write_element, write_elements}
-pub use Rattle.c_unit.specs.Items.{bodies, data_of, declaration, items, objects_of, prototype}
+pub use Rattle.c_unit.specs.Items.{bodies, data_of, declaration, items, prototype}
 pub use Rattle.c_unit.specs.Accepted.{IsAccepted}
 pub use Rattle.unit_rules.specs.Shape.{DefinesExternal, GivesExport, GivesObject, HasShape, HaveSame, UnitsAreProper, declared_names}
 pub use Rattle.unit_rules.specs.Shape.{defined_names, module_objects, own_symbols, unit_objects}

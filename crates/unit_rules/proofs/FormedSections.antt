@@ -1,52 +1,43 @@
--- Each section of a module's unit is well formed, up to the init function.
-use Rattle.unit_rules.proofs.Common.{all_from, all_weaker, ◌≡◌, ℕ, suc, ◌+◌, ◌^◌, ◌<◌, ◌≤◌, Bool, true, false, List, [], ◌∷◌, ◌++◌, map}
-use Rattle.unit_rules.proofs.Common.{length, is_none, if◌then◌else◌, slice_get, Some, None, filter, Option, option_map, zip, flat_map, sym}
-use Rattle.unit_rules.proofs.Common.{refl, ap, ◌∙◌, subst, arith, length-append, AllByRecursion, range_with_len, all_append, all_at}
-use Rattle.unit_rules.proofs.Common.{all_map, numbered, FuncType, ValType, func_of_import, func_space, func_type_in, global_space}
-use Rattle.unit_rules.proofs.Common.{global_type_in, imported_funcs, imported_global_space, imported_globals, is_func_import}
-use Rattle.unit_rules.proofs.Common.{is_global_import, is_memory_import, is_table_import, type_in, Export, ExportKind, ExportFunc}
-use Rattle.unit_rules.proofs.Common.{ExportGlobal, ExportMemory, ExportTable, GlobalEntry, Import, ImportKind, ImportFunc, LimitsEntry}
-use Rattle.unit_rules.proofs.Common.{SegmentEntry, TypeEntry, Module, unknown_export, proper_types, Name, name_of, FitsArg, FitsItem}
-use Rattle.unit_rules.proofs.Common.{FitsNum, FitsStmt, depth_limit, IsName, IsNamedIfAny, NamedArg, NamedItem, NamedStmt, CType}
-use Rattle.unit_rules.proofs.Common.{NamedModule, c_type_of, func_name, global_name, memory_name, table_name, helper_of, accessor_type}
-use Rattle.unit_rules.proofs.Common.{c_func_type_if, declared_symbols, export_symbol, export_type, firsts, func_imports}
-use Rattle.unit_rules.proofs.Common.{global_accessor_type, global_imports, import_symbol, import_type, is_usable, memory_imports}
-use Rattle.unit_rules.proofs.Common.{pointer_type, symbol_type, table_imports, NamedItems, all_behind, all_front, get_unmapped, func_count}
-use Rattle.unit_rules.proofs.Common.{global_count, body_of, params_of, helpers_of, callee, pointers_of, accessor, args_from, call_if}
-use Rattle.unit_rules.proofs.Common.{export_func, external, zero_number, named_params, param_name, params_from, passes_on, result_name}
-use Rattle.unit_rules.proofs.Common.{usable_symbol, bodies, data_of, declaration, objects_of, prototype, IsAccepted, all_filtered}
-use Rattle.unit_rules.proofs.Common.{length-map}
+-- Each section of a module's unit has names that are words of C, and is well formed up to the parts of the init function.
+use Rattle.unit_rules.proofs.Common.{◌≡◌, ℕ, suc, ◌+◌, ◌^◌, ◌<◌, ◌≤◌, Bool, true, false, List, [], ◌∷◌, map, length, is_none, if◌then◌else◌}
+use Rattle.unit_rules.proofs.Common.{slice_get, Some, None, Option, option_map, flat_map, sym, refl, ap, ◌∙◌, subst, arith, length-append}
+use Rattle.unit_rules.proofs.Common.{length-map, slice_get_within, AllByRecursion, all_weaker, get_unmapped, all_at, all_from, all_map}
+use Rattle.unit_rules.proofs.Common.{of_contained, numbered, FuncType, ValType, func_count, func_of_import, func_space, func_type_in}
+use Rattle.unit_rules.proofs.Common.{is_func_import, NamedModule, Export, Import, SegmentEntry, TypeEntry, Module, unknown_export}
+use Rattle.unit_rules.proofs.Common.{func_name, zero_number, proper_types, Name, is_among, name_of, FitsArg, FitsItem, FitsNum, FitsStmt}
+use Rattle.unit_rules.proofs.Common.{depth_limit, IsName, IsNamedIfAny, NamedArg, NamedItem, NamedStmt, CType, helper_of, helpers_of}
+use Rattle.unit_rules.proofs.Common.{callee, accessor_type, c_func_type_if, export_symbol, firsts, func_imports, import_symbol, is_usable}
+use Rattle.unit_rules.proofs.Common.{symbol_type, params_of, at, NamedItems, accessor, args_from, call_if, export_func, external}
+use Rattle.unit_rules.proofs.Common.{named_params, param_name, params_from, passes_on, result_name, usable_symbol, data_name, bodies}
+use Rattle.unit_rules.proofs.Common.{data_of, items, prototype, IsAccepted}
 use Rattle.c_symbols.specs.Symbols.{declared_type}
-use Rattle.w2c_base.proofs.Nothing.{none_at}
 use Rattle.c_tree.specs.declared.tree.CType.TheVariants as type
 use Rattle.c_tree.specs.Tree as tree
 use Rattle.c_tree.proofs.Names.{numbered as numbered_name}
-use Rattle.c_unit.proofs.BodiesAt.{BodyAt, few_params, few_found}
-use Rattle.c_unit.proofs.Pairs.{all_range}
-use Rattle.c_unit.proofs.Sections.{bodies_class, few_funcs, few_globals}
-use Rattle.c_unit.proofs.AcceptedLimits.{accepted_limits}
-use Rattle.c_unit.proofs.SectionLists.{functions_of, globals, mems, pointers, tabs}
-use Rattle.wasm_typing.specs.declared.fault.ValidCause.TheVariants as cause
-use Rattle.c_init.proofs.NoFaults.{rows_of}
-use Rattle.unit_rules.proofs.PlainItems.{of_symbol}
 use Rattle.body_rules.proofs.FormedCode.{params_there}
 use Rattle.body_rules.specs.BodiesAreProper.{BodiesAreFormed}
-use Rattle.unit_rules.proofs.TypedBodies.{typed_body}
-use Rattle.unit_rules.proofs.NeedsDeclared.{all_known}
+use Rattle.c_init.proofs.FewParts.{few_parts}
+use Rattle.c_init.proofs.Small.{all_images, there_is}
+use Rattle.c_init.specs.Init.{part_func, parts_of}
+use Rattle.c_tree.specs.DefinedNames.{part_name}
+use Rattle.c_unit.proofs.AcceptedLimits.{accepted_limits}
+use Rattle.c_unit.proofs.BodiesAt.{few_found, few_params}
+use Rattle.c_unit.proofs.Pairs.{firsts_all}
+use Rattle.c_unit.proofs.SectionLists.{declarations, exports, functions_of, helpers, objects, prototypes}
+use Rattle.c_unit.proofs.Sections.{export_name, few_funcs}
+use Rattle.unit_rules.proofs.EachItem.{IsObject, each_data, each_declared, each_numbered, each_object, global_pointer, memory_pointer}
+use Rattle.unit_rules.proofs.EachItem.{own_global, own_memory, own_table, table_pointer}
 use Rattle.unit_rules.proofs.ExportFacts.{each_of}
-use Rattle.unit_rules.proofs.ExportSection.{few_types, first_there}
-use Rattle.unit_rules.proofs.InitSegments.{data_item}
-use Rattle.unit_rules.proofs.UnitNames.{import_named, export_named, func_named, global_named, helper_formed, objects_named, data_names}
-use Rattle.unit_rules.proofs.UnitNames.{symbols_named, body_here, prototypes_named, helpers_named, bodies_named, declarations_named}
-use Rattle.c_init.proofs.Small.{no_fault, all_images}
+use Rattle.unit_rules.proofs.ExportGiven.{each_export, few_types, valid_exports}
+use Rattle.unit_rules.proofs.KnownFuncs.{among_contained, kept_among}
+use Rattle.unit_rules.proofs.NeedsDeclared.{file_knows}
+use Rattle.unit_rules.proofs.SymbolTypes.{symbol_has}
+use Rattle.unit_rules.proofs.UnitNames.{data_named, export_named, func_named, global_named, helper_formed, import_named, init_named}
+use Rattle.unit_rules.proofs.UnitNames.{part_named, pointer_named}
+use Rattle.unit_rules.proofs.WholeUnit.{all_bodies, all_declared, all_items, all_known, body_here, typed_body}
 
 abbrev pub IsFormed : tree.Item → Type 0
 IsFormed o = NamedItem o × FitsItem depth_limit o
-
-vars_formed : {A : Type 0} (ty : A → CType) (name : A → Name) (xs : List A) → NamedItems (map (λ x. tree.Var (ty x) (name x) None) xs)
-    → AllByRecursion IsFormed (map (λ x. tree.Var (ty x) (name x) None) xs)
-vars_formed ty name [] h = tt
-vars_formed ty name (x ∷ xs) h = ((h.0, tt), vars_formed ty name xs h.1)
 
 -- ---- lists of parameters are not empty
 
@@ -56,32 +47,6 @@ HasParams ty = 0 < length ty.params
 func_has : (o : Option FuncType) → HasParams (c_func_type_if o)
 func_has None = omega arith
 func_has (Some ty) = params_there ty.params
-
-global_has : (o : Option (ValType × Bool)) → HasParams (global_accessor_type o)
-global_has None = omega arith
-global_has (Some g) = omega arith
-
-import_has : (m : Module) (i : Import) → HasParams (import_type m i)
-import_has m i = by i.kind
-  where
-    by : (kind : ImportKind) → HasParams (import_type m (record i { kind = kind }))
-    by (ImportFunc x) = func_has (type_in m x)
-    by _ = omega arith
-
-export_has : (m : Module) (e : Export) → HasParams (export_type m e)
-export_has m e = by e.kind
-  where
-    by : (kind : ExportKind) → HasParams (export_type m (record e { kind = kind }))
-    by ExportFunc = func_has (func_type_in m e.index)
-    by ExportGlobal = global_has (global_type_in m e.index)
-    by _ = omega arith
-
-symbol_has : (m : NamedModule) (name : Name) → HasParams (declared_type (symbol_type m name))
-symbol_has m name = by (symbol_type m name) refl
-  where
-    by : (o : Option tree.FuncType) → symbol_type m name ≡ o → HasParams (declared_type o)
-    by None e = omega arith
-    by (Some ty) e = of_symbol m HasParams (export_has m.tree) (import_has m.tree) name ty e
 
 mapped_has : {A B : Type 0} (f : A → B) (xs : List A) → 0 < length xs → 0 < length (map f xs)
 mapped_has f [] h = h
@@ -128,14 +93,11 @@ value_fits type.U32 = omega arith
 value_fits type.U64 = omega arith
 value_fits _ = omega arith
 
-pub passes_formed : (ty : tree.FuncType) (symbol : Name) (o : Option Name) → length (proper_types ty.params) ≤ 2 ^ 64 → IsName symbol
+passes_formed : (ty : tree.FuncType) (symbol : Name) (o : Option Name) → length (proper_types ty.params) ≤ 2 ^ 64 → IsName symbol
     → IsNamedIfAny o → IsFormed (tree.Function (passes_on ty symbol o))
 passes_formed ty symbol o few name known = by ty.result
   where
-    value : (r : CType) → NamedItem (tree.Function
-        (external (record { params = ty.params; result = r }) symbol ((r, result_name, zero_number r) ∷ [])
-        (call_if o (Some result_name) (proper_types ty.params) ∷ tree.Return (tree.Value (tree.Name result_name)) ∷ [])))
-        × FitsItem depth_limit (tree.Function
+    value : (r : CType) → IsFormed (tree.Function
         (external (record { params = ty.params; result = r }) symbol ((r, result_name, zero_number r) ∷ [])
         (call_if o (Some result_name) (proper_types ty.params) ∷ tree.Return (tree.Value (tree.Name result_name)) ∷ [])))
     value r =
@@ -163,7 +125,15 @@ accessor_formed m pointer symbol (Some i) object name own imported =
     by true = imported i refl
     by false = tt
 
--- ---- sections
+-- ---- names
+
+object_named : (ty : CType) (name : Name) → IsObject ty name → IsName name
+object_named _ _ own_table = refl
+object_named _ _ own_memory = refl
+object_named _ _ (own_global ty k less) = global_named k less
+object_named _ _ table_pointer = refl
+object_named _ _ memory_pointer = refl
+object_named _ _ (global_pointer ty k less) = pointer_named k less
 
 module _ (m : NamedModule) (a : IsAccepted m) where
   abbrev t : Module
@@ -172,177 +142,125 @@ module _ (m : NamedModule) (a : IsAccepted m) where
   abbrev Named : tree.Item → Type 0
   Named o = IsName (name_of o)
 
-  pub objects_formed : AllByRecursion IsFormed (objects_of t (pointers_of t))
-  objects_formed =
-      let names = objects_named m a in
-      let behind_tabs = all_behind Named (tabs m) (mems m ++ (globals m ++ pointers m)) names in
-      let behind_mems = all_behind Named (mems m) (globals m ++ pointers m) behind_tabs in
-      all_append IsFormed (tabs m) (mems m ++ (globals m ++ pointers m))
-      (vars_formed (λ (x : LimitsEntry). type.Tab) (λ (x : LimitsEntry). table_name) t.tables
-      (all_front Named (tabs m) (mems m ++ (globals m ++ pointers m)) names))
-      (all_append IsFormed (mems m) (globals m ++ pointers m)
-      (vars_formed (λ (x : LimitsEntry). type.Mem) (λ (x : LimitsEntry). memory_name) t.memories
-      (all_front Named (mems m) (globals m ++ pointers m) behind_tabs))
-      (all_append IsFormed (globals m) (pointers m)
-      (vars_formed (λ (g : ℕ × GlobalEntry). c_type_of g.1.ty) (λ (g : ℕ × GlobalEntry). global_name (imported_globals t + g.0))
-      (numbered t.globals) (all_front Named (globals m) (pointers m) behind_mems))
-      (vars_formed (λ (p : CType × Name). p.0) (λ (p : CType × Name). p.1) (pointers_of t)
-      (all_behind Named (globals m) (pointers m) behind_mems))))
+  import_names : AllByRecursion IsName (map import_symbol t.imports)
+  import_names = all_map IsName import_symbol t.imports
+      (all_weaker _ (λ i. IsName (import_symbol i)) t.imports (λ i h. import_named i h.0 h.1) (accepted_limits a).import_names)
 
-  abbrev of_bytes : SegmentEntry → List ℕ → SegmentEntry
-  of_bytes d bytes = record d { bytes = bytes }
+  symbols_named : AllByRecursion IsName (firsts [] (map import_symbol t.imports))
+  symbols_named = firsts_all IsName [] (map import_symbol t.imports) import_names
+
+  segment_named : (j : ℕ) (d : SegmentEntry) → slice_get t.segments j ≡ Some d → IsName (data_name j)
+  segment_named j d at = data_named j (omega (arith, slice_get_within t.segments j d at, (accepted_limits a).segments))
+
+  bodies_named : AllByRecursion (λ (f : tree.Func). IsName f.name) (bodies m)
+  bodies_named = all_bodies m a (λ f. IsName f.name) (λ k low high. subst (λ (f : tree.Func). IsName f.name)
+      (sym (body_here m a k low high).is) (func_named k (omega (arith, high, few_funcs m a))))
+
+  export_is_named : (i : ℕ) (e : Export) → slice_get t.exports i ≡ Some e → IsName (export_symbol m e)
+  export_is_named i e at = export_named m e (each_of (λ b. b < 256) m.name a.bytes)
+      (all_at (λ (e : Export). AllByRecursion (λ b. b < 256) e.name) t.exports i e (accepted_limits a).export_names at)
+
+  pub unit_named : NamedItems (items m)
+  unit_named =
+      all_items Named m
+      (all_known Named m (each_object m a Named object_named) (each_data m a Named (λ j d at b bytes e. segment_named j d at))
+      (each_declared m a Named IsName symbols_named (λ n h. h))
+      (all_map Named prototype (bodies m) bodies_named)
+      (all_images Named (λ which. tree.Function (helper_of which)) (helpers_of t) (λ which. (helper_formed which).0.0)))
+      (all_map Named tree.Function (bodies m) bodies_named)
+      (all_map Named (λ e. tree.Function (export_func m e)) t.exports (all_from _ t.exports
+      (λ i e at. subst IsName (sym (export_name m e)) (export_is_named i e at))))
+      (all_map Named (λ p. tree.Function (part_func t p)) (numbered (parts_of t)) (each_numbered (λ p. IsName (part_name p.0)) (parts_of t)
+      (λ j x at. let few = few_parts t a.within in let less = slice_get_within (parts_of t) j x at in
+      part_named j (omega (arith, less, few)))))
+      (init_named m.name (each_of (λ b. b < 256) m.name a.bytes), tt)
+
+  -- ---- sections
+
+  pub objects_formed : AllByRecursion IsFormed (objects m)
+  objects_formed = each_object m a IsFormed (λ ty name is. (object_named ty name is, tt))
 
   pub data_formed : AllByRecursion IsFormed (data_of t)
-  data_formed = each 0 t.segments (data_names m a) (accepted_limits a).bytes (accepted_limits a).are_bytes
-    where
-      each : (n : ℕ) (xs : List SegmentEntry) → NamedItems (flat_map data_item (zip (range_with_len n (length xs)) xs))
-          → AllByRecursion (λ (d : SegmentEntry). length d.bytes < 2 ^ 32) xs
-          → AllByRecursion (λ (d : SegmentEntry). AllByRecursion (λ b. b < 256) d.bytes) xs
-          → AllByRecursion IsFormed (flat_map data_item (zip (range_with_len n (length xs)) xs))
-      each n [] names few small = tt
-      each n (d ∷ xs) names few small = by d.bytes names few.0 small.0 (λ rest. each (n + 1) xs rest few.1 small.1)
-        where
-          by : (bytes : List ℕ) → NamedItems (data_item (n, of_bytes d bytes) ++ flat_map data_item
-              (zip (range_with_len (n + 1) (length xs)) xs)) → length bytes < 2 ^ 32 → AllByRecursion (λ b. b < 256) bytes
-              → (NamedItems (flat_map data_item (zip (range_with_len (n + 1) (length xs)) xs))
-              → AllByRecursion IsFormed (flat_map data_item (zip (range_with_len (n + 1) (length xs)) xs)))
-              → AllByRecursion IsFormed (data_item (n, of_bytes d bytes) ++ flat_map data_item
-              (zip (range_with_len (n + 1) (length xs)) xs))
-          by [] names few small rest = rest names
-          by (b ∷ bytes) names few small rest = ((names.0, (few, omega arith, small)), rest names.1)
+  data_formed = each_data m a IsFormed (λ j d at b bytes e. (
+    segment_named j d at,
+    (
+      all_at (λ (d : SegmentEntry). length d.bytes < 2 ^ 32) t.segments j d (accepted_limits a).bytes at,
+      subst (λ bs. 0 < length bs) (sym e) (omega arith),
+      all_at (λ (d : SegmentEntry). AllByRecursion (λ b. b < 256) d.bytes) t.segments j d (accepted_limits a).are_bytes at,
+    ),
+  ))
 
-  pub declarations_formed : AllByRecursion IsFormed (map declaration (declared_symbols m))
-  declarations_formed = each (firsts [] (map import_symbol t.imports)) (symbols_named m a)
-    where
-      each : (names : List Name) → AllByRecursion IsName names
-          → AllByRecursion IsFormed (map declaration (map (λ name. (name, declared_type (symbol_type m name))) names))
-      each [] h = tt
-      each (n ∷ names) h = (
-        (
-          (
-            h.0,
-            all_images (λ (p : tree.Param). IsNamedIfAny p.1) (λ t. (t, None)) (declared_type (symbol_type m n)).params (λ t. tt),
-            tt,
-          ),
-          (mapped_has (λ t. (t, None)) (declared_type (symbol_type m n)).params (symbol_has m n), tt),
-        ),
-        each names h.1,
-      )
+  pub declarations_formed : AllByRecursion IsFormed (declarations m)
+  declarations_formed = each_declared m a IsFormed IsName symbols_named (λ n h. (
+    (
+      h,
+      all_images (λ (p : tree.Param). IsNamedIfAny p.1) (λ t. (t, None)) (declared_type (symbol_type m n)).params (λ t. tt),
+      tt,
+    ),
+    (
+      mapped_has (λ t. (t, None)) (declared_type (symbol_type m n)).params
+          (symbol_has m HasParams func_has (λ pointer plain. omega arith) n),
+      tt,
+    ),
+  ))
 
-  pub prototypes_formed : AllByRecursion IsFormed (map prototype (bodies m))
-  prototypes_formed = all_map IsFormed prototype (bodies m)
-      (all_range (λ (f : tree.Func). IsFormed (prototype f)) (body_of t m.name) (imported_funcs t) (length t.funcs)
-      (imported_funcs t + length t.funcs) (omega arith)
-      (λ k low high. one k (omega (arith, high, few_funcs m a)) (body_here m a k low high)))
-    where
-      one : (k : ℕ) → k < 2 ^ 64 → BodyAt m k → IsFormed (prototype (body_of t m.name k))
-      one k less b = subst (λ (f : tree.Func). IsFormed (prototype f)) (sym b.is) (
+  pub prototypes_formed : AllByRecursion IsFormed (prototypes m)
+  prototypes_formed = all_map IsFormed prototype (bodies m) (all_bodies m a (λ f. IsFormed (prototype f)) (λ k low high.
+      let b = body_here m a k low high in
+      subst (λ (f : tree.Func). IsFormed (prototype f)) (sym b.is) (
         (
-          func_named k less,
+          func_named k (omega (arith, high, few_funcs m a)),
           all_images (λ (p : tree.Param). IsNamedIfAny p.1) (λ (p : tree.Param). (p.0, None)) (params_of b.ty.params) (λ p. tt),
           tt,
         ),
         (mapped_has (λ (p : tree.Param). (p.0, None)) (params_of b.ty.params) (body_has b.ty.params), tt),
-      )
+      )))
 
-  pub helpers_formed : AllByRecursion IsFormed (map (λ which. tree.Function (helper_of which)) (helpers_of t))
+  pub helpers_formed : AllByRecursion IsFormed (helpers m)
   helpers_formed = all_images IsFormed (λ which. tree.Function (helper_of which)) (helpers_of t) helper_formed
 
-  abbrev declared : List tree.Item
-  declared = objects_of t (pointers_of t) ++ (data_of t ++
-      (map declaration (declared_symbols m) ++ (map prototype (bodies m) ++
-      (map (λ which. tree.Function (helper_of which)) (helpers_of t) ++ functions_of m))))
-
-  declared_named : NamedItems declared
-  declared_named =
-      all_append Named (objects_of t (pointers_of t)) _ (objects_named m a)
-      (all_append Named (data_of t) _ (data_names m a) (all_append Named (map declaration (declared_symbols m)) _ (declarations_named m a)
-      (all_append Named (map prototype (bodies m)) _ (prototypes_named m a)
-      (all_append Named (map (λ which. tree.Function (helper_of which)) (helpers_of t)) (functions_of m) (helpers_named m a)
-      (bodies_named m a)))))
-
-  signatures : (x : ℕ) (ty : FuncType) → slice_get (map (λ (e : TypeEntry). e.ty) t.types) x ≡ Some ty → length ty.params ≤ 60
-  signatures x ty e =
-      let found = get_unmapped (λ (e : TypeEntry). e.ty) t.types x ty e in
-      few_params t (accepted_limits a) x ty (ap (option_map (λ (e : TypeEntry). e.ty)) found.1 ∙ ap Some found.2)
-
   pub bodies_formed : BodiesAreFormed → AllByRecursion IsFormed (functions_of m)
-  bodies_formed law = all_map IsFormed tree.Function (bodies m)
-      (all_range (λ (f : tree.Func). IsFormed (tree.Function f)) (body_of t m.name) (imported_funcs t) (length t.funcs)
-      (imported_funcs t + length t.funcs) (omega arith)
-      (λ k low high. one k (omega (arith, high, few_funcs m a)) (body_here m a k low high)))
+  bodies_formed law = all_map IsFormed tree.Function (bodies m) (all_bodies m a (λ f. IsFormed (tree.Function f)) (λ k low high.
+      let b = body_here m a k low high in
+      subst (λ (f : tree.Func). IsFormed (tree.Function f)) (sym b.is)
+      (law m k b.ty b.entry (items m) (typed_body m a k b) (λ x ty e. signatures x ty (sym e)) (file_knows m a (items m) (all_declared m a))
+      unit_named (func_named k (omega (arith, high, few_funcs m a))))))
     where
-      one : (k : ℕ) → k < 2 ^ 64 → BodyAt m k → IsFormed (tree.Function (body_of t m.name k))
-      one k less b =
-          let known = all_known m a (functions_of m) (bodies_class m a) in
-          subst (λ (f : tree.Func). IsFormed (tree.Function f)) (sym b.is)
-          (law m k b.ty b.entry declared (typed_body m k b) (λ x ty e. signatures x ty (sym e)) known declared_named (func_named k less))
+      signatures : (x : ℕ) (ty : FuncType) → slice_get (map (λ (e : TypeEntry). e.ty) t.types) x ≡ Some ty → length ty.params ≤ 60
+      signatures x ty e =
+          let found = get_unmapped (λ (e : TypeEntry). e.ty) t.types x ty e in
+          few_params t (accepted_limits a) x ty (ap (option_map (λ (e : TypeEntry). e.ty)) found.1 ∙ ap Some found.2)
 
-  import_names : AllByRecursion (λ (i : Import). IsName (import_symbol i)) t.imports
-  import_names = all_weaker (λ (i : Import). AllByRecursion (λ b. b < 256) i.«module» × AllByRecursion (λ b. b < 256) i.field)
-      (λ (i : Import). IsName (import_symbol i)) t.imports (λ i h. import_named i h.0 h.1) (accepted_limits a).import_names
+  -- ---- exports
 
-  kept_named : (test : Import → Bool) (k : ℕ) (i : Import) → slice_get (filter test t.imports) k ≡ Some i → IsName (import_symbol i)
-  kept_named test k i e = all_at (λ (i : Import). IsName (import_symbol i)) (filter test t.imports) k i
-      (all_filtered (λ (i : Import). IsName (import_symbol i)) test t.imports import_names) e
+  import_is : (i : Import) → is_among (import_symbol i) (map import_symbol t.imports) ≡ true → IsName (import_symbol i)
+  import_is i there = of_contained IsName (map import_symbol t.imports) (import_symbol i) import_names (among_contained _ _ there)
 
-  pub callee_named : (index : ℕ) → is_none (slice_get (func_space t) index) ≡ false → IsNamedIfAny (callee m index)
+  callee_named : (index : ℕ) → is_none (slice_get (func_space t) index) ≡ false → IsNamedIfAny (callee m index)
   callee_named index out = by (slice_get (func_imports t) index) refl
     where
       less : index < 2 ^ 64
       less =
-          let there = (first_there (func_space t) index out).1 in
+          let found = there_is (slice_get (func_space t) index) out in
+          let there = slice_get_within (func_space t) index found.0 found.1 in
           let whole = length-append (flat_map func_of_import t.imports) (map (λ f. f.type_index) t.funcs) in
           let own = length-map t.funcs (λ f. f.type_index) in
           let counted = func_count t.imports in
           omega (arith, there, whole, own, counted, few_funcs m a)
 
-      usable : (i : Import) (b : Bool) → slice_get (func_imports t) index ≡ Some i
-          → IsNamedIfAny (if b then Some (import_symbol i) else None)
-      usable i true e = kept_named is_func_import index i e
-      usable i false e = tt
+      usable : (i : Import) (b : Bool) → IsName (import_symbol i) → IsNamedIfAny (if b then Some (import_symbol i) else None)
+      usable i true name = name
+      usable i false name = tt
 
       by : (o : Option Import) → slice_get (func_imports t) index ≡ o
           → IsNamedIfAny (elim o [ None ↦ Some (func_name index) | Some i ↦ if is_usable m i then Some (import_symbol i) else None ])
       by None e = func_named index less
-      by (Some i) e = usable i (is_usable m i) e
+      by (Some i) e = usable i (is_usable m i) (import_is i (kept_among import_symbol is_func_import t.imports index i e).0)
 
-  func_types_few : (index : ℕ) → length (proper_types (c_func_type_if (func_type_in t index)).params) ≤ 2 ^ 64
-  func_types_few index = few_types (func_type_in t index) (λ ty e. few_found t (accepted_limits a) (slice_get (func_space t) index) ty e)
-
-  global_low : (index : ℕ) → is_none (slice_get (global_space t) index) ≡ false → index < 2 ^ 64
-  global_low index out =
-      let there = (first_there (global_space t) index out).1 in
-      let whole = length-append {A = ValType × Bool} (imported_global_space t) (map (λ (g : GlobalEntry). (g.ty, g.mutable)) t.globals) in
-      let own = length-map {B = ValType × Bool} t.globals (λ (g : GlobalEntry). (g.ty, g.mutable)) in
-      let counted = global_count t.imports in
-      omega (arith, there, whole, own, counted, few_globals m a)
-
-  export_formed : (e : Export) → IsName (export_symbol m e) → unknown_export t e ≡ [] → IsFormed (tree.Function (export_func m e))
-  export_formed e name valid = by e.kind name valid
-    where
-      global : (o : Option (ValType × Bool)) (n : Name) → IsName n → is_none (slice_get (global_space t) e.index) ≡ false
-          → IsFormed (tree.Function (accessor m (global_accessor_type o) n (slice_get (global_imports t) e.index) (global_name e.index)))
-      global None n name out = accessor_formed m type.PtrU32 n (slice_get (global_imports t) e.index) (global_name e.index) name
-          (global_named e.index (global_low e.index out)) (λ i at. kept_named is_global_import e.index i at)
-      global (Some g) n name out = accessor_formed m (pointer_type g.0) n (slice_get (global_imports t) e.index) (global_name e.index) name
-          (global_named e.index (global_low e.index out)) (λ i at. kept_named is_global_import e.index i at)
-
-      by : (kind : ExportKind) → IsName (export_symbol m (record e { kind = kind }))
-          → unknown_export t (record e { kind = kind }) ≡ []
-          → IsFormed (tree.Function (export_func m (record e { kind = kind })))
-      by ExportFunc name v = passes_formed (c_func_type_if (func_type_in t e.index)) _ (callee m e.index) (func_types_few e.index) name
-          (callee_named e.index (no_fault (is_none (slice_get (func_space t) e.index)) e.index_place cause.UnknownFunction v))
-      by ExportTable name v = accessor_formed m type.PtrTab _ (slice_get (table_imports t) e.index) table_name name refl
-          (λ i at. kept_named is_table_import e.index i at)
-      by ExportMemory name v = accessor_formed m type.PtrMem _ (slice_get (memory_imports t) e.index) memory_name name refl
-          (λ i at. kept_named is_memory_import e.index i at)
-      by ExportGlobal name v = global (global_type_in t e.index) _ name
-          (no_fault (is_none (slice_get (global_space t) e.index)) e.index_place cause.UnknownGlobal v)
-
-  pub exports_formed : AllByRecursion IsFormed (map (λ e. tree.Function (export_func m e)) t.exports)
-  exports_formed = all_map IsFormed (λ e. tree.Function (export_func m e)) t.exports
-      (all_from (λ e. IsFormed (tree.Function (export_func m e))) t.exports (λ i e at. export_formed e
-      (export_named m e (each_of (λ b. b < 256) m.name a.bytes)
-      (all_at (λ (e : Export). AllByRecursion (λ b. b < 256) e.name) t.exports i e (accepted_limits a).export_names at))
-      (none_at (unknown_export t) t.exports i e (rows_of t a.valid.no_faults).exports at)))
+  pub exports_formed : AllByRecursion IsFormed (exports m)
+  exports_formed = all_map IsFormed (λ e. tree.Function (export_func m e)) t.exports (all_from _ t.exports (λ i e at.
+      each_export m a (λ ty f. IsFormed (tree.Function f)) IsName
+      (λ k n out name. passes_formed (c_func_type_if (func_type_in t k)) n (callee m k)
+      (few_types (func_type_in t k) (λ ty e. few_found t (accepted_limits a) (slice_get (func_space t) k) ty e)) name (callee_named k out))
+      (λ pointer object o n g name. accessor_formed m pointer n o object name g.has_name (λ i e. import_is i (g.imported i e).0)) e
+      (all_at (λ e. unknown_export t e ≡ []) t.exports i e (valid_exports m a) at) (export_is_named i e at)))

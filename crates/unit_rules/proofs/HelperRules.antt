@@ -1,12 +1,12 @@
 -- The helpers keep the rules in every unit: what their own names and the runtime's stand for is the same there.
 use Rattle.unit_rules.proofs.Common.{◌≡◌, Bool, true, false, not, ◌&&◌, List, [], ◌∷◌, ◌++◌, map, is_some, Some, None, Option, flat_map}
-use Rattle.unit_rules.proofs.Common.{filter_map, sym, refl, ap, ◌∙◌, subst, list_all, all_parts, if_found, named, AsArray, AsFunction}
-use Rattle.unit_rules.proofs.Common.{AsVariable, Use, are_distinct_numbers, arg_has_type, arg_suits, arg_uses, args_suit, callee_type}
-use Rattle.unit_rules.proofs.Common.{callee_uses, case_value, cases_are_distinct, cases_suit, expr_uses, has_same_type, if_any, is_known}
-use Rattle.unit_rules.proofs.Common.{is_void, labels_named, labels_of, may_be_assigned, may_be_called, points_to_number, proper_types}
-use Rattle.unit_rules.proofs.Common.{stmt_is_typed, stmt_suits, stmt_uses, target_suits, target_uses, same_type, HasType, Name, Scope}
-use Rattle.unit_rules.proofs.Common.{array_of, function_of, functions, is_among, is_object_type, pointed_by, variable_of, variables, CType}
-use Rattle.unit_rules.proofs.Common.{both_hold, some_is, Passes, at, false≢true}
+use Rattle.unit_rules.proofs.Common.{filter_map, sym, refl, ap, ◌∙◌, subst, false≢true, list_all, both_hold, some_is, all_parts, if_found}
+use Rattle.unit_rules.proofs.Common.{named, AsArray, AsFunction, AsVariable, Use, are_distinct_numbers, arg_has_type, arg_suits, arg_uses}
+use Rattle.unit_rules.proofs.Common.{args_suit, callee_type, callee_uses, case_value, cases_are_distinct, cases_suit, expr_uses}
+use Rattle.unit_rules.proofs.Common.{has_same_type, if_any, is_known, is_void, labels_named, labels_of, may_be_assigned, may_be_called}
+use Rattle.unit_rules.proofs.Common.{points_to_number, proper_types, stmt_is_typed, stmt_suits, stmt_uses, target_suits, target_uses}
+use Rattle.unit_rules.proofs.Common.{same_type, HasType, Name, Scope, array_of, function_of, functions, is_among, is_object_type}
+use Rattle.unit_rules.proofs.Common.{pointed_by, variable_of, variables, CType, Passes, at}
 use Rattle.c_tree.specs.declared.tree.CType.TheVariants as type
 use Rattle.c_tree.specs.Tree as tree
 use Rattle.c_tree.specs.Scope.{file_variables, file_functions, typing_of, type_of, name_typing, value_typing, number_type, typed_if}

@@ -1,11 +1,9 @@
 -- The init function ends by a return or by a trap, and so do its parts.
-use Rattle.unit_rules.proofs.Common.{◌≡◌, Bool, true, false, not, List, [], ◌∷◌, ◌++◌, map, filter, flat_map, refl, numbered}
-use Rattle.unit_rules.proofs.Common.{is_func_import, NamedModule, ends_well, bounds_label, init_stmts, limits_label, make_global}
-use Rattle.std.proofs.Common.{ℕ, zero, suc, length}
-use Rattle.std.specs.List.{range_with_len}
-use Rattle.c_init.specs.Init.{Part, call_part, calling_stmts, part_stmts, parts_of, stmts_with, whole_stmts}
-use Rattle.unit_rules.proofs.Common.{make_memory, make_table, start_stmts, takes_from, test_data, test_elements, tests_bounds, tests_limits}
-use Rattle.unit_rules.proofs.Common.{trap_if, write_data, write_elements}
+use Rattle.unit_rules.proofs.Common.{◌≡◌, ℕ, zero, suc, Bool, true, false, not, List, [], ◌∷◌, ◌++◌, map, length, filter, flat_map, refl}
+use Rattle.unit_rules.proofs.Common.{range_with_len, numbered, is_func_import, NamedModule, ends_well, bounds_label, init_stmts}
+use Rattle.unit_rules.proofs.Common.{limits_label, make_global, make_memory, make_table, start_stmts, takes_from, test_data, test_elements}
+use Rattle.unit_rules.proofs.Common.{tests_bounds, tests_limits, trap_if, write_data, write_elements}
+use Rattle.c_init.specs.Init.{Part, begun, call_part, ended, part_stmts, parts_of, stmts_with}
 use Rattle.w2c_base.specs.declared.trap.TrapKind.TheVariants as trap
 use Rattle.c_tree.specs.Tree as tree
 use Rattle.c_tree.specs.Makers as makers
@@ -32,34 +30,26 @@ traps_end true false = refl
 traps_end false true = refl
 traps_end false false = refl
 
-whole_ends : (m : NamedModule) → ends_well (whole_stmts m) ≡ true
-whole_ends m = whole (whole_stmts m)
-    (behind (tree.Null ∷ []) _
-    (behind (takes_from m 0 (filter (λ i. not (is_func_import i)) m.tree.imports)) _
-    (behind (map (λ t. make_table t.limits) m.tree.tables) _
-    (behind (map (λ t. make_memory t.limits) m.tree.memories) _
-    (behind (map (make_global m.tree) (numbered m.tree.globals)) _
-    (behind (flat_map (test_elements m.tree) m.tree.elements) _
-    (behind (flat_map (test_data m.tree) m.tree.segments) _
-    (behind (flat_map (write_elements m.tree) m.tree.elements) _
-    (behind (flat_map (write_data m.tree) (numbered m.tree.segments)) _
-    (behind (start_stmts m m.tree.start) _ (traps_end (tests_limits m.tree) (tests_bounds m.tree))))))))))))
+-- the beginning before others, and the end
+begun_ends : (m : NamedModule) (rest : List tree.Stmt) → Ends rest → Ends (begun m rest)
+begun_ends m rest e =
+    behind (tree.Null ∷ []) _ (behind (takes_from m 0 (filter (λ i. not (is_func_import i)) m.tree.imports)) _
+    (behind (map (λ t. make_table t.limits) m.tree.tables) _ (behind (map (λ t. make_memory t.limits) m.tree.memories) rest e)))
 
-calling_ends : (m : NamedModule) (parts : ℕ) → ends_well (calling_stmts m parts) ≡ true
-calling_ends m parts = whole (calling_stmts m parts)
-    (behind (tree.Null ∷ []) _
-    (behind (takes_from m 0 (filter (λ i. not (is_func_import i)) m.tree.imports)) _
-    (behind (map (λ t. make_table t.limits) m.tree.tables) _
-    (behind (map (λ t. make_memory t.limits) m.tree.memories) _
-    (behind (map call_part (range_with_len 0 parts)) _
-    (behind (start_stmts m m.tree.start) _ (traps_end (tests_limits m.tree) false)))))))
+ended_ends : (m : NamedModule) (bounds : Bool) → Ends (ended m bounds)
+ended_ends m bounds = behind (start_stmts m m.tree.start) _ (traps_end (tests_limits m.tree) bounds)
 
 pub init_ends : (m : NamedModule) → ends_well (init_stmts m) ≡ true
-init_ends m = by (length (parts_of m.tree))
+init_ends m = whole (init_stmts m) (by (length (parts_of m.tree)))
   where
-    by : (parts : ℕ) → ends_well (stmts_with m parts) ≡ true
-    by zero = whole_ends m
-    by (suc parts) = calling_ends m (suc parts)
+    by : (parts : ℕ) → Ends (stmts_with m parts)
+    by zero = begun_ends m _
+        (behind (map (make_global m.tree) (numbered m.tree.globals)) _
+        (behind (flat_map (test_elements m.tree) m.tree.elements) _
+        (behind (flat_map (test_data m.tree) m.tree.segments) _
+        (behind (flat_map (write_elements m.tree) m.tree.elements) _
+        (behind (flat_map (write_data m.tree) (numbered m.tree.segments)) _ (ended_ends m (tests_bounds m.tree)))))))
+    by (suc parts) = begun_ends m _ (behind (map call_part (range_with_len 0 (suc parts))) _ (ended_ends m false))
 
 pub part_ends : (x : Part) → ends_well (part_stmts x) ≡ true
 part_ends x = whole (part_stmts x) (behind x.stmts _ (traps_end false x.tests))

@@ -1,32 +1,40 @@
--- The statements of the init function keep the rules in a scope that knows what they name: those that take imports
--- and make what the module defines.
-use Rattle.w2c_base.specs.declared.value.ValType.TheVariants.{I32, I64}
+-- The statements of the init function keep the rules in a scope that knows what they name, and their numbers fit: those that take
+-- imports and make what the module defines.
+use Rattle.unit_rules.proofs.Common.{◌≡◌, ℕ, zero, suc, ◌+◌, ◌^◌, ◌<◌, Bool, true, false, not, ◌||◌, List, [], ◌∷◌, map, length, is_some}
+use Rattle.unit_rules.proofs.Common.{is_none, if◌then◌else◌, IsSome, nat_lt, slice_get, Some, None, codes, filter, Option, flat_map}
+use Rattle.unit_rules.proofs.Common.{bytes_eq, sym, refl, ap, ◌∙◌, subst, arith, zero-add, or_left, or_right, slice_get_within}
+use Rattle.unit_rules.proofs.Common.{AllByRecursion, list_any, all_behind, all_front, get_mapped, all_append, all_at, all_from, all_map}
+use Rattle.unit_rules.proofs.Common.{get_front, at_index, named, FuncType, ValType, global_count, func_space, global_space}
+use Rattle.unit_rules.proofs.Common.{imported_global_space, imported_globals, is_func_import, is_global_import, is_memory_import}
+use Rattle.unit_rules.proofs.Common.{is_table_import, memory_of_import, memory_space, table_of_import, table_space, type_in, Code}
+use Rattle.unit_rules.proofs.Common.{GlobalGet, I32Const, I64Const, end_code, then_code, NamedModule, IsMaximum, GlobalEntry, Import}
+use Rattle.unit_rules.proofs.Common.{ImportKind, ImportFunc, ImportGlobal, ImportMemory, ImportTable, Limits, LimitsEntry, SegmentEntry}
+use Rattle.unit_rules.proofs.Common.{Module, shape_of, shape_of_global, global_name, memory_name, table_name, label_name, pointer_name}
+use Rattle.unit_rules.proofs.Common.{is_runtime_name, is_void, labels_of, proper_types, primitives, HasType, Name, Scope, arrays, functions}
+use Rattle.unit_rules.proofs.Common.{is_among, is_object_type, variables, FitsStmt, depth_limit, c_type_of, CType, bytes_equal, callee}
+use Rattle.unit_rules.proofs.Common.{function_name, global_value, memory_arg, table_arg, accessor_type, c_func_type, global_imports}
+use Rattle.unit_rules.proofs.Common.{import_symbol, import_type, is_usable, memory_imports, pointer_type, table_imports, pointer_points}
+use Rattle.unit_rules.proofs.Common.{IsArg, IsTyped, Passes, at, call_passes, call_passes_as, if_passes, n32_typed, n64_typed, name_typed}
+use Rattle.unit_rules.proofs.Common.{null_passes, op_typed, set_passes, star_typed, value_arg, wide_typed, no_object, byte_name}
+use Rattle.unit_rules.proofs.Common.{constant_expr, data_name, has_bytes, has_test, limits_label, make_global, make_memory, make_table}
+use Rattle.unit_rules.proofs.Common.{max_number, n32, n64, place_expr, set_pointer, size_name, take_stmts, takes_from, test_max, test_min}
+use Rattle.unit_rules.proofs.Common.{tests_bounds, tests_limits, IsAccepted}
+use Rattle.w2c_base.specs.declared.value.ValType.TheVariants.{I32}
+use Rattle.w2c_base.proofs.Lists.{all_unmapped, contains_kept, get_behind}
 use Rattle.w2c_base.proofs.Numbers.{one_moves}
+use Rattle.w2c_base.proofs.Places.{some_first}
+use Rattle.std.proofs.lemmas.Option.{slice_get_past}
 use Rattle.c_tree.specs.declared.tree.CType.TheVariants as type
 use Rattle.c_tree.specs.declared.tree.COp.TheVariants as op
 use Rattle.c_tree.specs.Tree as tree
 use Rattle.c_unit.proofs.KnownNames.{imported_global}
 use Rattle.c_init.specs.Fitting.{ShapeFits}
-use Rattle.unit_rules.proofs.Common.{◌≡◌, ℕ, zero, suc, ◌+◌, Bool, true, false, not, ◌||◌, List, [], ◌∷◌, ◌++◌, map, length, is_some}
-use Rattle.unit_rules.proofs.Common.{is_none, if◌then◌else◌, IsSome, nat_lt, slice_get, Some, None, codes, filter, Option, zip, filter_map}
-use Rattle.unit_rules.proofs.Common.{sym, refl, ap, ◌∙◌, subst, arith, or_left, or_right, AllByRecursion, list_any, range_with_len}
-use Rattle.unit_rules.proofs.Common.{all_append, at_index, named, FuncType, ValType, func_space, global_space, imported_global_space}
-use Rattle.unit_rules.proofs.Common.{imported_globals, is_func_import, is_global_import, is_memory_import, is_table_import, memory_space}
-use Rattle.unit_rules.proofs.Common.{table_space, type_in, Code, GlobalGet, I32Const, I64Const, end_code, then_code, GlobalEntry, Import}
-use Rattle.unit_rules.proofs.Common.{ImportKind, ImportFunc, ImportGlobal, ImportMemory, ImportTable, LimitsEntry, Module, shape_of}
-use Rattle.unit_rules.proofs.Common.{shape_of_global, is_runtime_name, is_void, labels_of, proper_types, primitives, HasType, Name, Scope}
-use Rattle.unit_rules.proofs.Common.{array_of, arrays, functions, is_among, is_object_type, variables, CType, NamedModule, c_type_of}
-use Rattle.unit_rules.proofs.Common.{global_name, memory_name, table_name, accessor_type, c_func_type, global_imports, import_symbol}
-use Rattle.unit_rules.proofs.Common.{import_type, is_usable, memory_imports, pointer_type, table_imports, get_front, IsArg, IsTyped, Passes}
-use Rattle.unit_rules.proofs.Common.{call_passes, call_passes_as, if_passes, n32_typed, n64_typed, name_typed, null_passes, op_typed}
-use Rattle.unit_rules.proofs.Common.{set_passes, star_typed, value_arg, wide_typed, no_object, label_name, pointer_name, callee}
-use Rattle.unit_rules.proofs.Common.{function_name, global_value, memory_arg, table_arg, byte_name, constant_expr, has_bytes, has_test}
-use Rattle.unit_rules.proofs.Common.{limits_label, make_global, make_memory, make_table, max_number, n32, n64, place_expr}
-use Rattle.unit_rules.proofs.Common.{set_pointer, size_name, take_stmts, takes_from, test_max, test_min, tests_bounds, tests_limits}
-use Rattle.unit_rules.proofs.Common.{data_of, pointer_points}
-use Rattle.c_init.specs.Init.{primitive}
-use Rattle.c_init.proofs.Small.{all_images}
-use Rattle.unit_rules.proofs.ExportSection.{accessor_is}
+use Rattle.c_init.specs.Init.{asks_something, primitive, test_limits}
+use Rattle.unit_rules.proofs.EachItem.{all_unflat}
+use Rattle.unit_rules.proofs.ExportTypes.{accessor_is, pointer_is}
+use Rattle.unit_rules.proofs.InitNumbers.{AreLimits, constant_fits, maximum_fits, memories_limits, one_fits, page_fits, tables_limits}
+use Rattle.unit_rules.proofs.InitNumbers.{wider}
+use Rattle.unit_rules.proofs.KnownFuncs.{any_at}
 
 -- what the init function's statements need of their scope
 pub record InitKnows (m : NamedModule) (s : Scope) : Type 0 where
@@ -41,9 +49,8 @@ pub record InitKnows (m : NamedModule) (s : Scope) : Type 0 where
   pub memory_pointer : is_some (slice_get (memory_imports m.tree) 0) ≡ true
       → named (pointer_name memory_name) (variables s) ≡ Some type.PtrMem
   pub table_pointer : is_some (slice_get (table_imports m.tree) 0) ≡ true → named (pointer_name table_name) (variables s) ≡ Some type.PtrTab
-  pub made_memory : (x : LimitsEntry) (rest : List LimitsEntry) → m.tree.memories ≡ x ∷ rest
-      → IsArg s type.PtrMem (tree.Address memory_name)
-  pub made_table : (x : LimitsEntry) (rest : List LimitsEntry) → m.tree.tables ≡ x ∷ rest → IsArg s type.PtrTab (tree.Address table_name)
+  pub made_memory : 0 < length m.tree.memories → IsArg s type.PtrMem (tree.Address memory_name)
+  pub made_table : 0 < length m.tree.tables → IsArg s type.PtrTab (tree.Address table_name)
   pub accessors : (i : Import) → is_among (import_symbol i) (map import_symbol m.tree.imports) ≡ true → is_usable m i ≡ true
       → named (import_symbol i) (functions s) ≡ Some (import_type m.tree i)
   pub callees : (k : ℕ) (ty : FuncType) (name : Name) → at_index (map (type_in m.tree) (func_space m.tree)) k ≡ Some ty
@@ -53,16 +60,42 @@ pub record InitKnows (m : NamedModule) (s : Scope) : Type 0 where
   pub runtime : (q : Name) → is_runtime_name q ≡ true → named q (functions s) ≡ named q primitives
   pub size : tests_limits m.tree || tests_bounds m.tree ≡ true → named size_name (variables s) ≡ Some type.U64
   pub byte : list_any has_bytes m.tree.segments ≡ true → named byte_name (variables s) ≡ Some type.U64
-  pub bytes : AllByRecursion (λ n. is_among n (arrays s) ≡ true) (filter_map array_of (data_of m.tree))
+  pub arrays_are : (j : ℕ) (d : SegmentEntry) → slice_get m.tree.segments j ≡ Some d → (b : ℕ) (bytes : List ℕ) → d.bytes ≡ b ∷ bytes
+      → is_among (data_name j) (arrays s) ≡ true
   pub returns : is_void s.func.result ≡ true
 
-module _ (m : NamedModule) (s : Scope) (k : InitKnows m s) where
+-- a statement that passes the rules in its scope, and whose numbers fit
+abbrev pub IsGood : Scope → tree.Stmt → Type 0
+IsGood s stmt = Passes s stmt × FitsStmt depth_limit stmt
+
+-- an import of the module
+record ImportIs (m : Module) (i : Import) : Type 0 where
+  there : is_among (import_symbol i) (map import_symbol m.imports) ≡ true
+  tested : has_test i ≡ true → tests_limits m ≡ true
+  memory : is_memory_import i ≡ true → is_some (slice_get (memory_imports m) 0) ≡ true
+  table : is_table_import i ≡ true → is_some (slice_get (table_imports m) 0) ≡ true
+  tables : AllByRecursion AreLimits (table_of_import i)
+  memories : AllByRecursion AreLimits (memory_of_import i)
+
+-- a global of the module, with its number
+pub record GlobalIs (m : Module) (g : ℕ × GlobalEntry) : Type 0 where
+  pub fits : ShapeFits g.1.ty (shape_of (imported_global_space m) g.1.code)
+  pub there : slice_get m.globals g.0 ≡ Some g.1
+
+kept_first : {A : Type 0} (test : A → Bool) (xs : List A) (i : ℕ) (x : A) → slice_get xs i ≡ Some x → test x ≡ true
+    → is_some (slice_get (filter test xs) 0) ≡ true
+kept_first test xs i x at e = let c = contains_kept test xs i x at e in some_first (filter test xs) (omega (arith, c.1))
+
+module _ (m : NamedModule) (a : IsAccepted m) (s : Scope) (k : InitKnows m s) where
   abbrev t : Module
   t = m.tree
 
+  abbrev Good : tree.Stmt → Type 0
+  Good stmt = IsGood s stmt
+
   -- ---- constants
 
-  pub global_value_typed : (index : ℕ) (g : ValType × Bool) → slice_get (global_space t) index ≡ Some g
+  global_value_typed : (index : ℕ) (g : ValType × Bool) → slice_get (global_space t) index ≡ Some g
       → IsTyped s (global_value t index) (HasType (c_type_of g.0))
   global_value_typed index g e = by (is_some (slice_get (global_imports t) index)) refl
     where
@@ -82,7 +115,7 @@ module _ (m : NamedModule) (s : Scope) (k : InitKnows m s) where
       by None e h = absurd h
       by (Some g) e h = subst (λ u. IsTyped s (global_value t index) (HasType (c_type_of u))) h.0 (global_value_typed index g (there g e))
 
-  pub constant_typed : (globals : List (ValType × Bool)) (ty : ValType) (code : Code) → ShapeFits ty (shape_of globals code)
+  constant_typed : (globals : List (ValType × Bool)) (ty : ValType) (code : Code) → ShapeFits ty (shape_of globals code)
       → ((index : ℕ) (g : ValType × Bool) → slice_get globals index ≡ Some g → slice_get (global_space t) index ≡ Some g)
       → IsTyped s (constant_expr t code) (HasType (c_type_of ty))
   constant_typed globals ty (then_code place (I32Const z) end_code) fits there =
@@ -103,183 +136,196 @@ module _ (m : NamedModule) (s : Scope) (k : InitKnows m s) where
   measured : (object : Name) (p : CType) (len_of : List ℕ) → named (pointer_name object) (variables s) ≡ Some p → is_object_type p ≡ false
       → named len_of (functions s) ≡ Some (record { params = p ∷ []; result = type.U64 }) → proper_types (p ∷ []) ≡ p ∷ []
       → named size_name (variables s) ≡ Some type.U64
-      → Passes s (primitive (Some size_name) len_of (tree.Value (tree.Name (pointer_name object)) ∷ []))
-  measured object p len_of found o len proper size =
-      call_passes_as s (Some size_name) len_of (tree.Value (tree.Name (pointer_name object)) ∷ [])
-      (record { params = p ∷ []; result = type.U64 }) (p ∷ []) len proper
-      (value_arg s _ p (name_typed s (pointer_name object) p found o), tt) (size, refl, refl)
+      → Good (primitive (Some size_name) len_of (tree.Value (tree.Name (pointer_name object)) ∷ []))
+  measured object p len_of found o len proper size = (
+    call_passes_as s (Some size_name) len_of (tree.Value (tree.Name (pointer_name object)) ∷ [])
+        (record { params = p ∷ []; result = type.U64 }) (p ∷ []) len proper
+        (value_arg s _ p (name_typed s (pointer_name object) p found o), tt) (size, refl, refl),
+    (tt, (tt, tt)),
+  )
 
-  limits_pass : (object : Name) (p : CType) (len_of max_of : List ℕ) (unit : ℕ) (min : ℕ) (max : Option ℕ)
+  limits_good : (object : Name) (p : CType) (len_of max_of : List ℕ) (unit : ℕ) (l : Limits) → unit < 2 ^ 64 → AreLimits l
       → named (pointer_name object) (variables s) ≡ Some p → is_object_type p ≡ false
       → named len_of (functions s) ≡ Some (record { params = p ∷ []; result = type.U64 })
       → named max_of (functions s) ≡ Some (record { params = p ∷ []; result = type.U64 })
       → proper_types (p ∷ []) ≡ p ∷ []
-      → (nat_lt 0 min || is_some max ≡ true → (named size_name (variables s) ≡ Some type.U64) ×
+      → (asks_something l ≡ true → (named size_name (variables s) ≡ Some type.U64) ×
       (is_among (label_name limits_label) (labels_of s.body.stmts) ≡ true))
-      → AllByRecursion (Passes s) (test_min object len_of unit min ++ test_max object max_of max)
-  limits_pass object p len_of max_of unit min max found o len most proper asks =
-      all_append (Passes s) (test_min object len_of unit min) (test_max object max_of max) (least min (λ e. asks (or_left _ _ e)))
-      (top max (λ e. asks (or_right (nat_lt 0 min) _ e)))
+      → AllByRecursion Good (test_limits object len_of max_of unit l)
+  limits_good object p len_of max_of unit l small fits found o len most proper asks =
+      all_append Good (test_min object len_of unit l.min) (test_max object max_of l.max) (least l.min fits.0 (λ e. asks (or_left _ _ e)))
+      (top l.max fits.1 (λ e. asks (or_right (nat_lt 0 l.min) _ e)))
     where
-      least : (n : ℕ) → (nat_lt 0 n ≡ true → (named size_name (variables s) ≡ Some type.U64) ×
+      least : (n : ℕ) → n < 2 ^ 32 → (nat_lt 0 n ≡ true → (named size_name (variables s) ≡ Some type.U64) ×
           (is_among (label_name limits_label) (labels_of s.body.stmts) ≡ true))
-          → AllByRecursion (Passes s) (test_min object len_of unit n)
-      least zero h = tt
-      least (suc n) h =
+          → AllByRecursion Good (test_min object len_of unit n)
+      least zero low h = tt
+      least (suc n) low h =
           let known = h (grind arith) in (
             measured object p len_of found o len proper known.0,
             (
-              if_passes s op.Lt _ _ (label_name limits_label) type.U64 refl refl
-                  (op_typed s op.Div _ _ type.U64 refl refl (name_typed s size_name type.U64 known.0 refl) (n64_typed s unit))
-                  (n64_typed s (suc n)) known.1,
+              (
+                if_passes s op.Lt _ _ (label_name limits_label) type.U64 refl refl
+                    (op_typed s op.Div _ _ type.U64 refl refl (name_typed s size_name type.U64 known.0 refl) (n64_typed s unit))
+                    (n64_typed s (suc n)) known.1,
+                ((tt, small), wider (suc n) low),
+              ),
               tt,
             ),
           )
 
-      top : (o : Option ℕ) → (is_some o ≡ true → (named size_name (variables s) ≡ Some type.U64) ×
+      top : (o : Option ℕ) → IsMaximum o → (is_some o ≡ true → (named size_name (variables s) ≡ Some type.U64) ×
           (is_among (label_name limits_label) (labels_of s.body.stmts) ≡ true))
-          → AllByRecursion (Passes s) (test_max object max_of o)
-      top None h = tt
-      top (Some n) h =
+          → AllByRecursion Good (test_max object max_of o)
+      top None high h = tt
+      top (Some n) high h =
           let known = h refl in (
             measured object p max_of found o most proper known.0,
             (
-              if_passes s op.Gt _ _ (label_name limits_label) type.U64 refl refl (name_typed s size_name type.U64 known.0 refl)
-                  (n64_typed s n) known.1,
+              (
+                if_passes s op.Gt _ _ (label_name limits_label) type.U64 refl refl (name_typed s size_name type.U64 known.0 refl)
+                    (n64_typed s n) known.1,
+                (tt, maximum_fits m a (Some n) high),
+              ),
               tt,
             ),
           )
 
   -- ---- imports
 
-  pointer_passes : (i : Import) (object : Name) (p : CType) → is_among (import_symbol i) (map import_symbol t.imports) ≡ true
+  pointer_good : (i : Import) (object : Name) (p : CType) → is_among (import_symbol i) (map import_symbol t.imports) ≡ true
       → import_type t i ≡ accessor_type p
       → named (pointer_name object) (variables s) ≡ Some p → is_object_type p ≡ false → is_void p ≡ false
-      → Passes s (set_pointer m i object)
-  pointer_passes i object p there typed found o v = by (is_usable m i) refl
+      → Good (set_pointer m i object)
+  pointer_good i object p there typed found o v = by (is_usable m i) refl
     where
-      by : (b : Bool) → is_usable m i ≡ b → Passes s
+      by : (b : Bool) → is_usable m i ≡ b → Good
           (if b then tree.Call (Some (pointer_name object)) (tree.Called (import_symbol i)) [] else tree.Null)
-      by true u = call_passes s (Some (pointer_name object)) (import_symbol i) [] (accessor_type p)
-          (k.accessors i there u ∙ ap Some typed) tt (found, o, v)
-      by false u = null_passes s
+      by true u = (
+        call_passes s (Some (pointer_name object)) (import_symbol i) [] (accessor_type p) (k.accessors i there u ∙ ap Some typed) tt
+            (found, o, v),
+        (tt, tt),
+      )
+      by false u = (null_passes s, tt)
 
-  global_passes : (i : Import) (number : ℕ) → is_among (import_symbol i) (map import_symbol t.imports) ≡ true
+  global_pointer_good : (i : Import) (number : ℕ) → is_among (import_symbol i) (map import_symbol t.imports) ≡ true
       → slice_get (global_imports t) number ≡ Some i
-      → Passes s (set_pointer m i (global_name number))
-  global_passes i number there at =
+      → Good (set_pointer m i (global_name number))
+  global_pointer_good i number there at =
       let found = imported_global t.imports number i at in
-      let plain = no_pointer_object found.1 in
-      pointer_passes i (global_name number) (pointer_type found.1) there (accessor_is t i found.1 found.0 found.3)
+      let plain = pointer_is found.1 in
+      pointer_good i (global_name number) (pointer_type found.1) there (accessor_is t i found.1 found.0 found.3)
       (k.pointed number (found.1, found.0) (get_front (imported_global_space t) _ number (found.1, found.0) found.2) (ap is_some at))
-      plain.0 plain.1
-    where
-      no_pointer_object : (ty : ValType) → (is_object_type (pointer_type ty) ≡ false) × (is_void (pointer_type ty) ≡ false)
-      no_pointer_object I32 = (refl, refl)
-      no_pointer_object I64 = (refl, refl)
+      plain.2 plain.1
 
   abbrev of_kind : Import → ImportKind → Import
   of_kind i kind = record i { kind = kind }
-
-  abbrev takes : ℕ → List Import → List tree.Stmt
-  takes number imports = takes_from m number (filter (λ i. not (is_func_import i)) imports)
 
   -- the label of failed tests of limits
   abbrev LimitsLabel : Type 0
   LimitsLabel = tests_limits t ≡ true → is_among (label_name limits_label) (labels_of s.body.stmts) ≡ true
 
-  pub takes_pass : (imports : List Import) (number : ℕ) → LimitsLabel
-      → AllByRecursion (λ i. is_among (import_symbol i) (map import_symbol t.imports) ≡ true) imports
-      → AllByRecursion (λ i. has_test i ≡ true → tests_limits t ≡ true) imports
-      → AllByRecursion (λ i. is_memory_import i ≡ true → is_some (slice_get (memory_imports t) 0) ≡ true) imports
-      → AllByRecursion (λ i. is_table_import i ≡ true → is_some (slice_get (table_imports t) 0) ≡ true) imports
+  abbrev takes : ℕ → List Import → List tree.Stmt
+  takes number imports = takes_from m number (filter (λ i. not (is_func_import i)) imports)
+
+  takes_good : (imports : List Import) (number : ℕ) → LimitsLabel → AllByRecursion (ImportIs t) imports
       → ((j : ℕ) (i : Import) → slice_get (filter is_global_import imports) j ≡ Some i → slice_get (global_imports t) (number + j) ≡ Some i)
-      → AllByRecursion (Passes s) (takes number imports)
-  takes_pass [] number label there tested memory table globals = tt
-  takes_pass (i ∷ imports) number label there tested memory table globals =
-      by i.kind there.0 tested.0 memory.0 table.0 globals (λ n h. takes_pass imports n label there.1 tested.1 memory.1 table.1 h)
+      → AllByRecursion Good (takes number imports)
+  takes_good [] number label are globals = tt
+  takes_good (i ∷ imports) number label are globals = by i.kind are.0 globals (λ n h. takes_good imports n label are.1 h)
     where
       -- what a test needs
       needs : tests_limits t ≡ true → (named size_name (variables s) ≡ Some type.U64) ×
           (is_among (label_name limits_label) (labels_of s.body.stmts) ≡ true)
       needs e = (k.size (or_left _ _ e), label e)
 
-      by : (kind : ImportKind) → is_among (import_symbol (of_kind i kind)) (map import_symbol t.imports) ≡ true
-          → (has_test (of_kind i kind) ≡ true → tests_limits t ≡ true)
-          → (is_memory_import (of_kind i kind) ≡ true → is_some (slice_get (memory_imports t) 0) ≡ true)
-          → (is_table_import (of_kind i kind) ≡ true → is_some (slice_get (table_imports t) 0) ≡ true)
+      by : (kind : ImportKind) → ImportIs t (of_kind i kind)
           → ((j : ℕ) (x : Import) → slice_get (filter is_global_import (of_kind i kind ∷ imports)) j ≡ Some x
           → slice_get (global_imports t) (number + j) ≡ Some x)
           → ((n : ℕ) → ((j : ℕ) (x : Import) → slice_get (filter is_global_import imports) j ≡ Some x
-          → slice_get (global_imports t) (n + j) ≡ Some x) → AllByRecursion (Passes s) (takes n imports))
-          → AllByRecursion (Passes s) (takes number (of_kind i kind ∷ imports))
-      by (ImportFunc x) a test mem tab glob rest = rest number glob
-      by (ImportTable l) a test mem tab glob rest =
-          all_append (Passes s) (take_stmts m number (of_kind i (ImportTable l))) _ (
-            pointer_passes (of_kind i (ImportTable l)) table_name type.PtrTab a refl (k.table_pointer (tab refl)) refl refl,
-            limits_pass table_name type.PtrTab (codes "w2c_tab_len") (codes "w2c_tab_max") 1 l.min l.max (k.table_pointer (tab refl)) refl
-                (k.runtime (codes "w2c_tab_len") refl) (k.runtime (codes "w2c_tab_max") refl) refl (λ e. needs (test e)),
+          → slice_get (global_imports t) (n + j) ≡ Some x) → AllByRecursion Good (takes n imports))
+          → AllByRecursion Good (takes number (of_kind i kind ∷ imports))
+      by (ImportFunc x) is glob rest = rest number glob
+      by (ImportTable l) is glob rest =
+          let found = k.table_pointer (is.table refl) in
+          all_append Good (take_stmts m number (of_kind i (ImportTable l))) _ (
+            pointer_good (of_kind i (ImportTable l)) table_name type.PtrTab is.there refl found refl refl,
+            limits_good table_name type.PtrTab (codes "w2c_tab_len") (codes "w2c_tab_max") 1 l one_fits is.tables.0 found refl
+                (k.runtime (codes "w2c_tab_len") refl) (k.runtime (codes "w2c_tab_max") refl) refl (λ e. needs (is.tested e)),
           )
           (rest number glob)
-      by (ImportMemory l) a test mem tab glob rest =
-          all_append (Passes s) (take_stmts m number (of_kind i (ImportMemory l))) _ (
-            pointer_passes (of_kind i (ImportMemory l)) memory_name type.PtrMem a refl (k.memory_pointer (mem refl)) refl refl,
-            limits_pass memory_name type.PtrMem (codes "w2c_mem_len") (codes "w2c_mem_max") 65536 l.min l.max
-                (k.memory_pointer (mem refl)) refl
-                (k.runtime (codes "w2c_mem_len") refl) (k.runtime (codes "w2c_mem_max") refl) refl (λ e. needs (test e)),
+      by (ImportMemory l) is glob rest =
+          let found = k.memory_pointer (is.memory refl) in
+          all_append Good (take_stmts m number (of_kind i (ImportMemory l))) _ (
+            pointer_good (of_kind i (ImportMemory l)) memory_name type.PtrMem is.there refl found refl refl,
+            limits_good memory_name type.PtrMem (codes "w2c_mem_len") (codes "w2c_mem_max") 65536 l page_fits is.memories.0 found refl
+                (k.runtime (codes "w2c_mem_len") refl) (k.runtime (codes "w2c_mem_max") refl) refl (λ e. needs (is.tested e)),
           )
           (rest number glob)
-      by (ImportGlobal ty mutable) a test mem tab glob rest =
+      by (ImportGlobal ty mutable) is glob rest =
           let zero_on : number + 0 ≡ number = omega arith in (
-            global_passes (of_kind i (ImportGlobal ty mutable)) number a
+            global_pointer_good (of_kind i (ImportGlobal ty mutable)) number is.there
                 (ap (slice_get (global_imports t)) (sym zero_on) ∙ glob 0 (of_kind i (ImportGlobal ty mutable)) refl),
             rest (suc number) (λ j x e. ap (slice_get (global_imports t)) (one_moves number j) ∙ glob (suc j) x e),
           )
 
+  imports_are : AllByRecursion (ImportIs t) t.imports
+  imports_are = all_from (ImportIs t) t.imports (λ i x at. record {
+    there = any_at (bytes_eq (import_symbol x)) (map import_symbol t.imports) i (import_symbol x)
+        (get_mapped import_symbol t.imports i x at) (bytes_equal (import_symbol x));
+    tested = any_at has_test t.imports i x at;
+    memory = kept_first is_memory_import t.imports i x at;
+    table = kept_first is_table_import t.imports i x at;
+    tables = all_at (λ i. AllByRecursion AreLimits (table_of_import i)) t.imports i x
+        (all_unflat AreLimits table_of_import t.imports (all_front AreLimits (flat_map table_of_import t.imports) _
+        (tables_limits m a))) at;
+    memories = all_at (λ i. AllByRecursion AreLimits (memory_of_import i)) t.imports i x
+        (all_unflat AreLimits memory_of_import t.imports
+        (all_front AreLimits (flat_map memory_of_import t.imports) _ (memories_limits m a))) at;
+  })
+
+  pub imports_good : LimitsLabel → AllByRecursion Good (takes 0 t.imports)
+  imports_good label = takes_good t.imports 0 label imports_are (λ j i e. ap (slice_get (global_imports t)) (zero-add j) ∙ e)
+
   -- ---- what the module defines
 
-  pub tables_pass : (ts : List LimitsEntry) → ((x : LimitsEntry) (rest : List LimitsEntry) → ts ≡ x ∷ rest → IsArg s type.PtrTab
-      (tree.Address table_name))
-      → AllByRecursion (Passes s) (map (λ x. make_table x.limits) ts)
-  tables_pass [] h = tt
-  tables_pass (x ∷ ts) h =
-      let made = h x ts refl in
-      all_images (Passes s) (λ x. make_table x.limits) (x ∷ ts)
-      (λ x. call_passes s None (codes "w2c_tab_new")
-      (tree.Address table_name ∷ tree.Value (n32 x.limits.min) ∷ tree.Value (n64 (max_number x.limits.max)) ∷ []) _
-      (k.runtime (codes "w2c_tab_new") refl)
-      (made, (value_arg s _ type.U32 (n32_typed s x.limits.min), (value_arg s _ type.U64 (n64_typed s (max_number x.limits.max)), tt))) tt)
+  made_good : (object : Name) (p : CType) (new_of : List ℕ) (xs : List LimitsEntry) → (0 < length xs → IsArg s p (tree.Address object))
+      → named new_of (functions s) ≡ Some (record { params = p ∷ type.U32 ∷ type.U64 ∷ []; result = type.Void })
+      → proper_types (p ∷ type.U32 ∷ type.U64 ∷ []) ≡ p ∷ type.U32 ∷ type.U64 ∷ []
+      → AllByRecursion AreLimits (map (λ (x : LimitsEntry). x.limits) xs)
+      → AllByRecursion Good (map (λ x. primitive None new_of
+      (tree.Address object ∷ tree.Value (n32 x.limits.min) ∷ tree.Value (n64 (max_number x.limits.max)) ∷ [])) xs)
+  made_good object p new_of xs made known proper limits = all_map Good _ xs (all_from _ xs (λ i x at.
+      let l = all_at (λ (x : LimitsEntry). AreLimits x.limits) xs i x (all_unmapped AreLimits (λ
+      (x : LimitsEntry). x.limits) xs limits) at in
+      let less = slice_get_within xs i x at in (
+        call_passes_as s None new_of (tree.Address object ∷ tree.Value (n32 x.limits.min) ∷ tree.Value (n64 (max_number x.limits.max)) ∷ [])
+            _ (p ∷ type.U32 ∷ type.U64 ∷ []) known proper (
+              made (omega (arith, less)),
+              (value_arg s _ type.U32 (n32_typed s x.limits.min), (value_arg s _ type.U64 (n64_typed s (max_number x.limits.max)), tt)),
+            ) tt,
+        (tt, (tt, (l.0, (maximum_fits m a x.limits.max l.1, tt)))),
+      )))
 
-  pub memories_pass : (ts : List LimitsEntry) → ((x : LimitsEntry) (rest : List LimitsEntry) → ts ≡ x ∷ rest → IsArg s type.PtrMem
-      (tree.Address memory_name))
-      → AllByRecursion (Passes s) (map (λ x. make_memory x.limits) ts)
-  memories_pass [] h = tt
-  memories_pass (x ∷ ts) h =
-      let made = h x ts refl in
-      all_images (Passes s) (λ x. make_memory x.limits) (x ∷ ts)
-      (λ x. call_passes s None (codes "w2c_mem_new")
-      (tree.Address memory_name ∷ tree.Value (n32 x.limits.min) ∷ tree.Value (n64 (max_number x.limits.max)) ∷ []) _
-      (k.runtime (codes "w2c_mem_new") refl)
-      (made, (value_arg s _ type.U32 (n32_typed s x.limits.min), (value_arg s _ type.U64 (n64_typed s (max_number x.limits.max)), tt))) tt)
+  pub tables_good : AllByRecursion Good (map (λ x. make_table x.limits) t.tables)
+  tables_good = made_good table_name type.PtrTab (codes "w2c_tab_new") t.tables k.made_table (k.runtime (codes "w2c_tab_new") refl) refl
+      (all_behind AreLimits (flat_map table_of_import t.imports) _ (tables_limits m a))
 
-  pub globals_pass : (n : ℕ) (xs : List GlobalEntry)
-      → AllByRecursion (λ g. ShapeFits g.ty (shape_of (imported_global_space t) g.code)) xs
-      → ((j : ℕ) (g : GlobalEntry) → slice_get xs j ≡ Some g
-      → slice_get (global_space t) (imported_globals t + (n + j)) ≡ Some (g.ty, g.mutable))
-      → ((j : ℕ) → is_some (slice_get (global_imports t) (imported_globals t + j)) ≡ false)
-      → AllByRecursion (Passes s) (map (make_global t) (zip (range_with_len n (length xs)) xs))
-  globals_pass n [] fits at own = tt
-  globals_pass n (g ∷ xs) fits at own =
-      let back : n + 0 ≡ n = omega arith in (
-        set_passes s (global_name (imported_globals t + n)) (tree.Value (constant_expr t g.code)) (c_type_of g.ty)
-            (k.own_globals (imported_globals t + n) (g.ty, g.mutable)
-            (ap (λ j. slice_get (global_space t) (imported_globals t + j)) (sym back) ∙ at 0 g refl) (own n))
-            (no_object g.ty)
-            (value_arg s _ (c_type_of g.ty) (constant_typed (imported_global_space t) g.ty g.code fits.0
+  pub memories_good : AllByRecursion Good (map (λ x. make_memory x.limits) t.memories)
+  memories_good = made_good memory_name type.PtrMem (codes "w2c_mem_new") t.memories k.made_memory (k.runtime (codes "w2c_mem_new")
+      refl) refl
+      (all_behind AreLimits (flat_map memory_of_import t.imports) _ (memories_limits m a))
+
+  pub global_good : (g : ℕ × GlobalEntry) → GlobalIs t g → Good (make_global t g)
+  global_good g is =
+      let counted = global_count t.imports in
+      let same : imported_globals t + g.0 ≡ length (imported_global_space t) + g.0 = omega (arith, counted) in
+      let at = ap (slice_get (global_space t)) same ∙ (get_behind (imported_global_space t) _ g.0
+      ∙ get_mapped (λ (g : GlobalEntry). (g.ty, g.mutable)) t.globals g.0 g.1 is.there) in (
+        set_passes s (global_name (imported_globals t + g.0)) (tree.Value (constant_expr t g.1.code)) (c_type_of g.1.ty)
+            (k.own_globals (imported_globals t + g.0) (g.1.ty, g.1.mutable) at
+            (ap is_some (slice_get_past (global_imports t) (imported_globals t + g.0) (omega arith)))) (no_object g.1.ty)
+            (value_arg s _ (c_type_of g.1.ty) (constant_typed (imported_global_space t) g.1.ty g.1.code is.fits
             (λ index x e. get_front (imported_global_space t) _ index x e))),
-        globals_pass (n + 1) xs fits.1
-            (λ j x e. ap (λ i. slice_get (global_space t) (imported_globals t + i)) (on n j) ∙ at (suc j) x e) own,
+        constant_fits m a 99 g.1.code,
       )
-    where
-      on : (a b : ℕ) → a + 1 + b ≡ a + suc b
-      on a b = omega arith

@@ -1,137 +1,63 @@
--- The functions that a module's bodies call are declared with their types.
-use Rattle.unit_rules.proofs.Common.{◌≡◌, ℕ, zero, suc, ◌+◌, ◌^◌, ◌<◌, ◌≤◌, Bool, true, false, ◌||◌, ◌⊎◌, List, [], ◌∷◌, map, if◌then◌else◌}
-use Rattle.unit_rules.proofs.Common.{slice_get, Some, None, filter, bytes_eq, sym, refl, ap, ◌∙◌, subst, inl, inr, arith, or_left, or_right}
-use Rattle.unit_rules.proofs.Common.{bytes_eq-Decides, list_any, range_with_len, named, ValType, BodyEntry, Module, Name, func_type_of}
-use Rattle.unit_rules.proofs.Common.{is_among, CType, bytes_equal, c_params_of, c_type_of, func_name, listed, made_static, names_differ}
-use Rattle.unit_rules.proofs.Common.{helper_type, helper_of, Helper, HELPERS, firsts, funcs_in, unlike_back, lettered, params_of, any_in}
-use Rattle.unit_rules.proofs.Common.{calls_helper, helpers_of, declaration}
-use Rattle.w2c_base.proofs.Numbers.{same_or_more}
+-- Types of functions that are declared, and names among others.
+use Rattle.unit_rules.proofs.Common.{◌≡◌, ℕ, zero, suc, Bool, true, false, ◌||◌, List, [], ◌∷◌, map, if◌then◌else◌, slice_get, Some, None}
+use Rattle.unit_rules.proofs.Common.{Contains, filter, flat_map, bytes_eq, sym, refl, ap, ◌∙◌, subst, or_left, or_right, false≢true}
+use Rattle.unit_rules.proofs.Common.{bytes_eq-Decides, AllByRecursion, list_any, get_mapped, all_at, all_from, ValType, func_of_import}
+use Rattle.unit_rules.proofs.Common.{is_func_import, Import, ImportKind, ImportFunc, Name, func_type_of, is_among, c_params_of, c_type_of}
+use Rattle.unit_rules.proofs.Common.{CType, bytes_equal, Typed, firsts, params_of, at}
+use Rattle.std.proofs.lemmas.Map.Views.{Contains-from_any}
 use Rattle.c_tree.specs.Tree as tree
 use Rattle.body_emitter.specs.Variables.{params_from}
-use Rattle.c_init.proofs.Small.{some_same}
+use Rattle.w2c_base.proofs.Lists.{get_kept}
+use Rattle.c_init.proofs.Small.{all_pass, some_same}
 
--- ---- types of prototypes
+-- ---- types of declarations
 
-no_name_types : (k : ℕ) (types : List ValType) → map (λ (p : tree.Param). p.0) (map (λ (p : tree.Param). (p.0, None)) (params_from k types))
-    ≡ map c_type_of types
-no_name_types k [] = refl
-no_name_types k (t ∷ types) = ap (λ ts. c_type_of t ∷ ts) (no_name_types (suc k) types)
+pub without_names : (params : List tree.Param) → map (λ (p : tree.Param). p.0) (map (λ (p : tree.Param). (p.0, None)) params) ≡ map
+    (λ (p : tree.Param). p.0) params
+without_names [] = refl
+without_names (p ∷ params) = ap (λ ts. p.0 ∷ ts) (without_names params)
 
-pub prototype_types : (types : List ValType) → map (λ (p : tree.Param). p.0) (map (λ (p : tree.Param). (p.0, None)) (params_of types))
-    ≡ c_params_of types
-prototype_types [] = refl
-prototype_types (t ∷ types) = no_name_types 0 (t ∷ types)
+types_from : (k : ℕ) (types : List ValType) → map (λ (p : tree.Param). p.0) (params_from k types) ≡ map c_type_of types
+types_from k [] = refl
+types_from k (t ∷ types) = ap (λ ts. c_type_of t ∷ ts) (types_from (suc k) types)
 
--- ---- own functions
+pub param_types : (types : List ValType) → map (λ (p : tree.Param). p.0) (params_of types) ≡ c_params_of types
+param_types [] = refl
+param_types (t ∷ types) = types_from 0 (t ∷ types)
 
-pub proto_named : (p : tree.Func → tree.Func) (f : ℕ → tree.Func) (ty : tree.FuncType) (a n k u : ℕ) → a + n ≤ u → u ≤ 2 ^ 64
-    → a ≤ k → k < a + n
-    → ((j : ℕ) → a ≤ j → j < u → (p (f j)).name ≡ func_name j) → func_type_of (p (f k)) ≡ ty
-    → named (func_name k) (funcs_in (map (λ (x : tree.Func). tree.Function (p x)) (map f (range_with_len a n)))) ≡ Some ty
-proto_named p f ty a zero k u le few low high name e = absurd (omega (arith, low, high))
-proto_named p f ty a (suc n) k u le few low high name e =
-    by (same_or_more a k low) (λ more. proto_named p f ty (a + 1) n k u (omega (arith, le)) few more (omega (arith, high))
-    (λ j lo hi. name j (omega (arith, lo)) hi) e)
-  where
-    head : bytes_eq (p (f a)).name (func_name k) ≡ bytes_eq (func_name a) (func_name k)
-    head = ap (λ q. bytes_eq q (func_name k)) (name a (omega arith) (omega (arith, le)))
+params_back : (types : List CType) → map (λ (p : tree.Param). p.0) (map (λ t. (t, None)) types) ≡ types
+params_back [] = refl
+params_back (t ∷ types) = ap (λ ts. t ∷ ts) (params_back types)
 
-    by : (a ≡ k) ⊎ (a + 1 ≤ k) → (a + 1 ≤ k → named (func_name k)
-        (funcs_in (map (λ (x : tree.Func). tree.Function (p x)) (map f (range_with_len (a + 1) n)))) ≡ Some ty)
-        → named (func_name k) (funcs_in (map (λ (x : tree.Func). tree.Function (p x)) (map f (range_with_len a (suc n))))) ≡ Some ty
-    by (inl same) rest = rw (head ∙ (ap (λ j. bytes_eq (func_name j) (func_name k)) same ∙ bytes_equal (func_name k)))
-        (ap Some (ap (λ j. func_type_of (p (f j))) same ∙ e))
-    by (inr more) rest = rw (head ∙ lettered 102 a k (omega (arith, more, few, le, high)) (omega (arith, few, le, high))
-        (λ f. absurd (omega (arith, f, more)))) (rest more)
+-- what is declared of a symbol
+abbrev pub declared_func : Typed → tree.Func
+declared_func s = record { is_static = false; result = s.1.result; name = s.0; params = map (λ t. (t, None)) s.1.params; body = None }
 
--- ---- helpers
+pub declared_typed : (s : Typed) → func_type_of (declared_func s) ≡ s.1
+declared_typed s = ap (λ ps. record { params = ps; result = s.1.result }) (params_back s.1.params)
 
-helper_named : (which : Helper) (others : List Helper) → list_any (λ other. bytes_eq (helper_of other).name (helper_of which).name)
-    others ≡ true
-    → named (helper_of which).name (funcs_in (map (λ w. tree.Function (helper_of w)) others)) ≡ Some (helper_type which)
-helper_named which [] e = absurd cc
-helper_named which (other ∷ others) e = by (bytes_eq (helper_of other).name (helper_of which).name) refl e (helper_named which others)
-  where
-    by : (b : Bool) → bytes_eq (helper_of other).name (helper_of which).name ≡ b
-        → b || list_any (λ other. bytes_eq (helper_of other).name (helper_of which).name) others ≡ true
-        → (list_any (λ other. bytes_eq (helper_of other).name (helper_of which).name) others ≡ true
-        → named (helper_of which).name (funcs_in (map (λ w. tree.Function (helper_of w)) others)) ≡ Some (helper_type which))
-        → (if b then Some (func_type_of (helper_of other)) else named (helper_of which).name
-        (funcs_in (map (λ w. tree.Function (helper_of w)) others))) ≡ Some (helper_type which)
-    by true f g rest =
-        let same : other ≡ which = names_differ other which ((bytes_eq-Decides (helper_of other).name (helper_of which).name).0 f) in
-        ap Some (ap (λ w. func_type_of (helper_of w)) same ∙ (made_static which (helper_of which) refl).typed)
-    by false f g rest = rest g
+-- ---- what a list has
 
-kept_any : {A : Type 0} (test keep : A → Bool) (xs : List A) (i : ℕ) (x : A) → slice_get xs i ≡ Some x → keep x ≡ true → test x ≡ true
-    → list_any test (filter keep xs) ≡ true
-kept_any test keep [] i x e k t = absurd cc
-kept_any test keep (y ∷ xs) zero x e k t = by (keep y) refl
-  where
-    by : (b : Bool) → keep y ≡ b → list_any test (if b then y ∷ filter keep xs else filter keep xs) ≡ true
-    by true f = or_left (test y) (list_any test (filter keep xs)) (ap test (some_same e) ∙ t)
-    by false f = absurd (differ (sym (ap keep (some_same e)) ∙ f))
-      where
-        differ : keep x ≡ false → ⊥
-        differ g = let h = sym k ∙ g in cc
-kept_any test keep (y ∷ xs) (suc i) x e k t = by (keep y) (kept_any test keep xs i x e k t)
-  where
-    by : (b : Bool) → list_any test (filter keep xs) ≡ true → list_any test (if b then y ∷ filter keep xs else filter keep xs) ≡ true
-    by true f = or_right (test y) (list_any test (filter keep xs)) f
-    by false f = f
+pub any_at : {A : Type 0} (test : A → Bool) (xs : List A) (i : ℕ) (x : A) → slice_get xs i ≡ Some x → test x ≡ true
+    → list_any test xs ≡ true
+any_at test [] i x at e = absurd cc
+any_at test (y ∷ xs) zero x at e = or_left (test y) (list_any test xs) (ap test (some_same at) ∙ e)
+any_at test (y ∷ xs) (suc i) x at e = or_right (test y) (list_any test xs) (any_at test xs i x at e)
 
-pub helper_known : (m : Module) (which : Helper) → list_any (λ (b : BodyEntry). any_in (calls_helper which) b.code) m.bodies ≡ true
-    → named (helper_of which).name (funcs_in (map (λ w. tree.Function (helper_of w)) (helpers_of m))) ≡ Some (helper_type which)
-helper_known m which e =
-    let at = listed which in
-    helper_named which (helpers_of m) (kept_any (λ other. bytes_eq (helper_of other).name (helper_of which).name)
-    (λ which. list_any (λ (b : BodyEntry). any_in (calls_helper which) b.code) m.bodies) HELPERS at.0 which at.1 e
-    (bytes_equal (helper_of which).name))
+pub self_among : (names : List Name) → AllByRecursion (λ n. is_among n names ≡ true) names
+self_among names = all_from _ names (λ i n at. any_at (bytes_eq n) names i n at (bytes_equal n))
 
--- ---- imported functions
+pub among_contained : (q : Name) (names : List Name) → is_among q names ≡ true → Contains names q
+among_contained q names e = Contains-from_any {eq = bytes_eq} (λ x y f. (bytes_eq-Decides x y).0 f) q names e
 
-pub symbol_named : (types : Name → tree.FuncType) (q : Name) (names : List Name) → is_among q names ≡ true
-    → named q (funcs_in (map declaration (map (λ name. (name, types name)) names)))
-    ≡ Some (func_type_of (record {
-      is_static = false;
-      result = (types q).result;
-      name = q;
-      params = map (λ t. (t, None))
-          (types q).params;
-      body = None;
-    }))
-symbol_named types q [] e = absurd cc
-symbol_named types q (n ∷ names) e = by (bytes_eq n q) refl (symbol_named types q names)
-  where
-    right : (a b : Bool) → a ≡ false → a || b ≡ true → b ≡ true
-    right true b f g = absurd cc
-    right false b f g = g
-
-    by : (b : Bool) → bytes_eq n q ≡ b
-        → (is_among q names ≡ true → named q (funcs_in (map declaration (map (λ name. (name, types name)) names))) ≡ Some
-        (func_type_of (record {
-          is_static = false;
-          result = (types q).result;
-          name = q;
-          params = map (λ t. (t, None))
-              (types q).params;
-          body = None;
-        })))
-        → (if b then Some (func_type_of
-        (record { is_static = false; result = (types n).result; name = n; params = map (λ t. (t, None)) (types n).params; body = None }))
-        else named q (funcs_in (map declaration (map (λ name. (name, types name)) names))))
-        ≡ Some (func_type_of (record {
-          is_static = false;
-          result = (types q).result;
-          name = q;
-          params = map (λ t. (t, None))
-              (types q).params;
-          body = None;
-        }))
-    by true f rest = ap (λ n. Some (func_type_of
-        (record { is_static = false; result = (types n).result; name = n; params = map (λ t. (t, None)) (types n).params; body = None })))
-        ((bytes_eq-Decides n q).0 f)
-    by false f rest = rest (right (bytes_eq q n) (is_among q names) (unlike_back n q f) e)
+-- what is kept was there, and passes the test
+pub kept_among : {A : Type 0} (f : A → Name) (test : A → Bool) (xs : List A) (k : ℕ) (x : A) → slice_get (filter test xs) k ≡ Some x
+    → (is_among (f x) (map f xs) ≡ true) × (test x ≡ true)
+kept_among f test xs k x e =
+    let there = get_kept test xs k x e in (
+      any_at (bytes_eq (f x)) (map f xs) there.0 (f x) (get_mapped f xs there.0 x there.1) (bytes_equal (f x)),
+      all_at (λ y. test y ≡ true) (filter test xs) k x (all_pass test xs) e,
+    )
 
 -- the first ones have every name
 pub firsts_have : (q : Name) (seen names : List Name) → is_among q names ≡ true → is_among q seen ≡ false
@@ -144,14 +70,21 @@ firsts_have q seen (n ∷ names) e f = by (bytes_eq q n) refl (is_among n seen) 
         → (is_among q names ≡ true → is_among q (firsts seen names) ≡ true)
         → (is_among q names ≡ true → is_among q (n ∷ seen) ≡ false → is_among q (firsts (n ∷ seen) names) ≡ true)
         → is_among q (if was then firsts seen names else n ∷ firsts (n ∷ seen) names) ≡ true
-    by true s true w g rest more = absurd (differ (subst (λ z. is_among z seen ≡ false) ((bytes_eq-Decides q n).0 s) f))
-      where
-        differ : is_among n seen ≡ false → ⊥
-        differ h = let k = sym w ∙ h in cc
+    by true s true w g rest more =
+        absurd (false≢true (sym (subst (λ z. is_among z seen ≡ false) ((bytes_eq-Decides q n).0 s) f) ∙ w))
     by true s false w g rest more = or_left (bytes_eq q n) (is_among q (firsts (n ∷ seen) names)) s
     by false s true w g rest more = rest g
     by false s false w g rest more = or_right (bytes_eq q n) (is_among q (firsts (n ∷ seen) names)) (more g (rw (s, f) refl))
 
-pub params_back : (types : List CType) → map (λ (p : tree.Param). p.0) (map (λ t. (t, None)) types) ≡ types
-params_back [] = refl
-params_back (t ∷ types) = ap (λ ts. t ∷ ts) (params_back types)
+pub imported_func : (imports : List Import) (k : ℕ) (i : Import) → slice_get (filter is_func_import imports) k ≡ Some i
+    → (x : ℕ) × (slice_get (flat_map func_of_import imports) k ≡ Some x) × (i.kind ≡ ImportFunc x)
+imported_func [] k i e = absurd cc
+imported_func (z ∷ imports) k i e = by z.kind k e (imported_func imports)
+  where
+    by : (kind : ImportKind) (k : ℕ) → slice_get (filter is_func_import (record z { kind = kind } ∷ imports)) k ≡ Some i
+        → ((k : ℕ) (i : Import) → slice_get (filter is_func_import imports) k ≡ Some i
+        → (x : ℕ) × (slice_get (flat_map func_of_import imports) k ≡ Some x) × (i.kind ≡ ImportFunc x))
+        → (x : ℕ) × (slice_get (flat_map func_of_import (record z { kind = kind } ∷ imports)) k ≡ Some x) × (i.kind ≡ ImportFunc x)
+    by (ImportFunc f) zero e rest = (f, refl, sym (ap (λ (j : Import). j.kind) (some_same e)))
+    by (ImportFunc f) (suc k) e rest = rest k i e
+    by _ k e rest = rest k i e

@@ -1,9 +1,9 @@
 -- What gives a pointer to an exported table, memory or global: its body returns the object's address, or what the import's symbol gives.
 use Rattle.unit_rules.proofs.Common.{◌≡◌, Bool, true, false, [], ◌∷◌, if◌then◌else◌, slice_get, Some, None, Option, sym, refl, ap, ◌∙◌}
-use Rattle.unit_rules.proofs.Common.{subst, ValType, global_type_in, Export, ExportKind, ExportFunc, ExportGlobal, ExportMemory}
-use Rattle.unit_rules.proofs.Common.{ExportTable, Import, same_func_type, Name, CType, Plain, NamedModule, global_name, memory_name}
-use Rattle.unit_rules.proofs.Common.{table_name, accessor_type, global_accessor_type, global_imports, import_symbol, import_type, is_usable}
-use Rattle.unit_rules.proofs.Common.{memory_imports, symbol_type, table_imports, same_c_func_type, accessor, export_func, passes_on}
+use Rattle.unit_rules.proofs.Common.{subst, ValType, global_type_in, NamedModule, Export, ExportKind, ExportFunc, ExportGlobal}
+use Rattle.unit_rules.proofs.Common.{ExportMemory, ExportTable, Import, same_c_func_type, global_name, memory_name, table_name}
+use Rattle.unit_rules.proofs.Common.{same_func_type, Name, CType, Plain, accessor_type, global_accessor_type, global_imports, import_symbol}
+use Rattle.unit_rules.proofs.Common.{import_type, is_usable, memory_imports, symbol_type, table_imports, accessor, export_func, passes_on}
 use Rattle.unit_rules.proofs.Common.{result_name, usable_symbol, GivesExport, GivesObject}
 use Rattle.w2c_base.specs.declared.value.ValType.TheVariants as val
 use Rattle.c_tree.specs.declared.tree.CType.TheVariants as type

@@ -1,33 +1,23 @@
 -- What the functions of a module's unit stand for: those of bodies by their index, of exports and init by their symbol.
-use Rattle.unit_rules.proofs.Common.{◌≡◌, ℕ, zero, suc, ◌-◌, ◌<◌, true, false, ◌≢◌, List, [], ◌∷◌, map, length, slice_get, Some, None}
-use Rattle.unit_rules.proofs.Common.{flat_map, bytes_eq, sym, refl, ap, ◌∙◌, subst, arith, AllByRecursion, all_at, all_from, if_found}
-use Rattle.unit_rules.proofs.Common.{ValType, init_symbol_of, func_of_import, func_type_in, imported_funcs, type_in, Export, FuncEntry}
-use Rattle.unit_rules.proofs.Common.{Module, context_of, Name, func_type_of, NamedModule, bytes_equal, Definition, c_params_of, c_result_of}
-use Rattle.unit_rules.proofs.Common.{defined, defined_for_all, func_name, c_func_type_if, export_symbol, export_type, get_mapped}
-use Rattle.unit_rules.proofs.Common.{body_locals, func_count, IsDefined, body_of, func_of, params_of, stmts_of, export_func, init_func}
-use Rattle.unit_rules.proofs.Common.{items, IsAccepted, DefinesExternal, GivesExport}
+use Rattle.unit_rules.proofs.Common.{◌≡◌, ℕ, zero, suc, ◌-◌, ◌<◌, true, false, List, [], ◌∷◌, map, length, slice_get, Some, flat_map}
+use Rattle.unit_rules.proofs.Common.{bytes_eq, sym, refl, ap, ◌∙◌, subst, arith, false≢true, AllByRecursion, get_mapped, all_at, all_from}
+use Rattle.unit_rules.proofs.Common.{if_found, init_symbol_of, func_count, func_of_import, func_type_in, imported_funcs, type_in}
+use Rattle.unit_rules.proofs.Common.{NamedModule, Export, FuncEntry, Module, context_of, func_name, Name, func_type_of, c_result_of}
+use Rattle.unit_rules.proofs.Common.{bytes_equal, Definition, defined, defined_for_all, IsDefined, c_func_type_if, export_symbol}
+use Rattle.unit_rules.proofs.Common.{export_type, body_of, func_of, stmts_of, body_locals, export_func, init_func, items, IsAccepted}
+use Rattle.unit_rules.proofs.Common.{DefinesExternal, GivesExport}
 use Rattle.c_tree.specs.declared.tree.CType.TheVariants as type
 use Rattle.c_tree.specs.Tree as tree
 use Rattle.c_unit.proofs.BodiesAt.{BodyAt}
 use Rattle.c_unit.proofs.Defined.{FirstExport, head, symbol_is, export_external, export_defined, init_defined, body_defined}
 use Rattle.unit_rules.proofs.ExportFacts.{symbols_differ}
-use Rattle.unit_rules.proofs.ExportsKeep.{export_shape}
+use Rattle.unit_rules.proofs.ExportGiven.{each_shape}
 use Rattle.unit_rules.proofs.ObjectsGiven.{gives_export}
 use Rattle.c_unit.proofs.KnownNames.{get_late}
-use Rattle.unit_rules.proofs.KnownFuncs.{prototype_types}
+use Rattle.unit_rules.proofs.KnownFuncs.{param_types}
 use Rattle.c_unit.proofs.Pairs.{AllPairs}
 use Rattle.c_unit.proofs.Sections.{few_funcs}
-use Rattle.unit_rules.proofs.UnitNames.{body_here}
-
-without_names : (params : List tree.Param) → map (λ (p : tree.Param). p.0) (map (λ (p : tree.Param). (p.0, None)) params) ≡ map
-    (λ (p : tree.Param). p.0) params
-without_names [] = refl
-without_names (p ∷ params) = ap (λ ts. p.0 ∷ ts) (without_names params)
-
-param_types : (types : List ValType) → map (λ (p : tree.Param). p.0) (params_of types) ≡ c_params_of types
-param_types types = sym (without_names (params_of types)) ∙ prototype_types types
-
--- ---- by places
+use Rattle.unit_rules.proofs.WholeUnit.{body_here}
 
 pair_at_places : {A : Type 0} (R : A → A → Type 0) (xs : List A) (i j : ℕ) (x y : A) → AllPairs R xs → i < j → slice_get xs i ≡ Some x
     → slice_get xs j ≡ Some y → R x y
@@ -83,37 +73,24 @@ module _ (m : NamedModule) (a : IsAccepted m) where
         i,
         at,
         refl,
-        λ j b less is. differ b e (pair_at_places
-            (λ (x y : Export). bytes_eq (export_symbol m x) (export_symbol m y) ≡ false) t.exports j i b e
-            (symbols_differ m a) less is at),
+        λ j b less is same. false≢true (sym (pair_at_places
+            (λ (x y : Export). bytes_eq (export_symbol m x) (export_symbol m y) ≡ false) t.exports j i b e (symbols_differ m a) less is at)
+            ∙ (ap (bytes_eq (export_symbol m b)) (sym same) ∙ bytes_equal (export_symbol m b))),
       ) in
       let found = (export_defined m (export_symbol m e) e (ap head (symbol_is m e)) first).1 in
       (record { item = found.0; func = export_func m e; body = (export_external m e).body }, found.1, refl)
-    where
-      differ : (b e : Export) → bytes_eq (export_symbol m b) (export_symbol m e) ≡ false → export_symbol m b ≢ export_symbol m e
-      differ b e f g =
-          let same : bytes_eq (export_symbol m b) (export_symbol m e) ≡ true = ap (bytes_eq (export_symbol m b)) (sym g)
-          ∙ bytes_equal (export_symbol m b) in
-          absurd (let wrong : true ≡ false = sym same ∙ f in cc)
 
   abbrev IsGiven : Export → Type 0
   IsGiven e = (d : Definition) × (defined_for_all (items m) (export_symbol m e) ≡ Some d) × GivesExport m e d.func
 
   pub accessors_stand : AllByRecursion IsGiven t.exports
-  accessors_stand = all_from IsGiven t.exports one
-    where
-      one : (i : ℕ) (e : Export) → slice_get t.exports i ≡ Some e → IsGiven e
-      one i e at =
-          let found = one_export i e at in
-          (found.0, found.1, subst (GivesExport m e) (sym found.2) (gives_export m e))
+  accessors_stand = all_from IsGiven t.exports (λ i e at.
+      let found = one_export i e at in (found.0, found.1, subst (GivesExport m e) (sym found.2) (gives_export m e)))
 
   pub exports_stand : AllByRecursion (λ e. DefinesExternal (items m) (export_symbol m e) (export_type t e)) t.exports
-  exports_stand = all_from (λ e. DefinesExternal (items m) (export_symbol m e) (export_type t e)) t.exports one
-    where
-      one : (i : ℕ) (e : Export) → slice_get t.exports i ≡ Some e → DefinesExternal (items m) (export_symbol m e) (export_type t e)
-      one i e at =
-          let found = one_export i e at in
-          record { definition = found.0; there = found.1; typed = ap func_type_of found.2 ∙ (export_shape m e).1 }
+  exports_stand = all_from (λ e. DefinesExternal (items m) (export_symbol m e) (export_type t e)) t.exports (λ i e at.
+      let found = one_export i e at in
+      record { definition = found.0; there = found.1; typed = ap func_type_of found.2 ∙ (each_shape m a i e at).1 })
 
   pub init_stands : DefinesExternal (items m) (init_symbol_of m.name) (record { params = type.Void ∷ []; result = type.Void })
   init_stands =

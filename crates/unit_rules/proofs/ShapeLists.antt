@@ -1,35 +1,31 @@
 -- What a module's unit shows to other units, and its objects, as lists.
+use Rattle.unit_rules.proofs.Common.{◌≡◌, ℕ, ◌+◌, true, false, ◌⊎◌, ◌↔◌, List, [], ◌∷◌, ◌++◌, map, is_some, if◌then◌else◌, Some, None}
+use Rattle.unit_rules.proofs.Common.{Contains, filter, Option, filter_map, bytes_eq, sym, refl, ap, ◌∙◌, subst, inl, inr, append-nil, arith}
+use Rattle.unit_rules.proofs.Common.{Contains-append_cases, Contains-append_left, Contains-append_right, filter_map-append, AllByRecursion}
+use Rattle.unit_rules.proofs.Common.{all_behind, all_weaker, all_append, all_at, all_from, all_map, of_contained, unlike_back, named}
+use Rattle.unit_rules.proofs.Common.{numbered, ValType, init_symbol_of, imported_globals, NamedModule, Export, GlobalEntry, LimitsEntry}
+use Rattle.unit_rules.proofs.Common.{Module, global_name, memory_name, table_name, Name, func_type_of, is_among, name_of, c_type_of, CType}
+use Rattle.unit_rules.proofs.Common.{external_functions, helper_of, helpers_of, Typed, declared_symbols, export_symbol, export_type}
+use Rattle.unit_rules.proofs.Common.{exported_symbols, firsts, import_symbol, import_type, imported_symbols, symbol_type, made_static}
+use Rattle.unit_rules.proofs.Common.{class_lettered, class, export_func, init_func, bodies, data_of, declaration, items, prototype}
+use Rattle.unit_rules.proofs.Common.{IsAccepted, HaveSame, declared_names, defined_names, module_objects, own_symbols, unit_objects}
 use Rattle.c_symbols.specs.Symbols.{declared_type}
-use Rattle.std.proofs.lemmas.Map.Views.{Contains-from_any}
 use Rattle.w2c_base.specs.declared.value.ValType.TheVariants.{I32, I64}
 use Rattle.c_tree.specs.declared.tree.CType.TheVariants as type
 use Rattle.c_tree.specs.Tree as tree
-use Rattle.c_unit.proofs.SectionLists.{declarations, exports, functions_of, helpers, init, objects, parts, prototypes}
+use Rattle.c_unit.proofs.SectionLists.{declarations, exports, functions_of, helpers, init, objects, parts, prototypes, globals, mems}
+use Rattle.c_unit.proofs.SectionLists.{pointers, tabs}
 use Rattle.c_init.specs.Init.{part_func, parts_of}
 use Rattle.c_unit.proofs.Defined.{body_is, export_external}
 use Rattle.c_unit.proofs.Pairs.{firsts_all}
-use Rattle.c_unit.proofs.Sections.{pointers_are}
-use Rattle.c_unit.proofs.AcceptedLimits.{accepted_limits}
-use Rattle.unit_rules.proofs.Common.{◌≡◌, ℕ, ◌+◌, Bool, true, false, ◌||◌, ◌⊎◌, ◌↔◌, List, [], ◌∷◌, ◌++◌, map, length, is_some}
-use Rattle.unit_rules.proofs.Common.{if◌then◌else◌, Some, None, Contains, filter, Option, filter_map, bytes_eq, sym, refl, ap, ◌∙◌, subst}
-use Rattle.unit_rules.proofs.Common.{inl, inr, Contains-append_cases, Contains-append_left, Contains-append_right, filter_map-append}
-use Rattle.unit_rules.proofs.Common.{bytes_eq-Decides, AllByRecursion, range_with_len, all_append, all_flat, all_map, of_contained, named}
-use Rattle.unit_rules.proofs.Common.{numbered, ValType, init_symbol_of, imported_funcs, imported_globals, is_global_import, Export}
-use Rattle.unit_rules.proofs.Common.{GlobalEntry, Import, ImportKind, ImportGlobal, LimitsEntry, SegmentEntry, Module, Name, func_type_of}
-use Rattle.unit_rules.proofs.Common.{is_among, CType, NamedModule, bytes_equal, c_type_of, external_functions, global_name, memory_name}
-use Rattle.unit_rules.proofs.Common.{table_name, made_static, helper_of, Typed, declared_symbols, export_symbol, export_type}
-use Rattle.unit_rules.proofs.Common.{exported_symbols, firsts, global_imports, import_symbol, import_type, imported_symbols, memory_imports}
-use Rattle.unit_rules.proofs.Common.{symbol_type, table_imports, all_of, all_weaker, unlike_back, body_of, pointer_name, helpers_of}
-use Rattle.unit_rules.proofs.Common.{pointers_of, export_func, data_name, init_func, bodies, data_of, declaration, items, prototype}
-use Rattle.unit_rules.proofs.Common.{IsAccepted, HaveSame, declared_names, defined_names, module_objects, own_symbols, unit_objects}
+use Rattle.c_init.proofs.Small.{all_images}
+use Rattle.w2c_base.proofs.Tests.{by_test}
+use Rattle.c_unit.proofs.Sections.{pointers_class}
+use Rattle.unit_rules.proofs.EachItem.{IsObject, each_data, each_object, global_pointer, own_global, own_memory, own_table}
 use Rattle.unit_rules.proofs.ExportFacts.{symbol_types}
-use Rattle.unit_rules.proofs.ExportsKeep.{export_shape}
-use Rattle.unit_rules.proofs.InitSection.{imports_apart}
-use Rattle.unit_rules.proofs.InitSegments.{data_item}
-use Rattle.unit_rules.proofs.KnownFuncs.{firsts_have, params_back}
-use Rattle.unit_rules.proofs.PlainItems.{all_zip_of}
-use Rattle.c_init.proofs.Small.{all_pass, all_images}
-use Rattle.unit_rules.proofs.InitPasses.{self_among}
+use Rattle.unit_rules.proofs.ExportGiven.{each_shape}
+use Rattle.unit_rules.proofs.KnownFuncs.{among_contained, declared_func, declared_typed, firsts_have, self_among}
+use Rattle.unit_rules.proofs.WholeUnit.{all_bodies, imports_apart}
 
 -- ---- lists
 
@@ -43,9 +39,6 @@ swapped xs ys x h = by (Contains-append_cases xs ys x h)
     by : Contains xs x ⊎ Contains ys x → Contains (ys ++ xs) x
     by (inl p) = Contains-append_right ys xs x p
     by (inr p) = Contains-append_left ys xs x p
-
-among_contained : (q : Name) (names : List Name) → is_among q names ≡ true → Contains names q
-among_contained q names e = Contains-from_any {eq = bytes_eq} (λ x y f. (bytes_eq-Decides x y).0 f) q names e
 
 contained_among : (q : Name) (names : List Name) → Contains names q → is_among q names ≡ true
 contained_among q names c = of_contained (λ n. is_among n names ≡ true) names q (self_among names) c
@@ -62,29 +55,12 @@ contained_firsts q names c = among_contained q (firsts [] names) (firsts_have q 
 named_there : {A : Type 0} (q : Name) (entries : List (Name × A)) → is_among q (map (λ (e : Name × A). e.0) entries) ≡ true
     → is_some (named q entries) ≡ true
 named_there q [] e = absurd cc
-named_there {A = A} q (x ∷ entries) e = by (bytes_eq x.0 q) refl (named_there q entries) e
-  where
-    same_test : (b : Bool) → bytes_eq x.0 q ≡ b → bytes_eq q x.0 ≡ true → b ≡ true
-    same_test b f g = sym f ∙ (ap (λ n. bytes_eq n q) (sym ((bytes_eq-Decides q x.0).0 g)) ∙ bytes_equal q)
-
-    by : (b : Bool) → bytes_eq x.0 q ≡ b → (is_among q (map (λ (e : Name × A). e.0) entries) ≡ true → is_some (named q entries) ≡ true)
-        → (bytes_eq q x.0 || is_among q (map (λ (e : Name × A). e.0) entries)) ≡ true
-        → is_some (if b then Some x.1 else named q entries) ≡ true
-    by true f rest e = refl
-    by false f rest e = other (bytes_eq q x.0) refl e
-      where
-        other : (c : Bool) → bytes_eq q x.0 ≡ c → (c || is_among q (map (λ (e : Name × A). e.0) entries)) ≡ true
-            → is_some (named q entries) ≡ true
-        other true g h = absurd (let wrong : false ≡ true = same_test false f g in cc)
-        other false g h = rest h
+named_there q (x ∷ entries) e =
+    by_test (bytes_eq x.0 q) (λ f. rw f refl) (λ f. rw f (named_there q entries (rw (unlike_back x.0 q f) at e)))
 
 named_behind : {A : Type 0} (q : Name) (xs ys : List (Name × A)) → is_some (named q ys) ≡ true → is_some (named q (xs ++ ys)) ≡ true
 named_behind q [] ys e = e
-named_behind q (x ∷ xs) ys e = by (bytes_eq x.0 q) (named_behind q xs ys e)
-  where
-    by : (b : Bool) → is_some (named q (xs ++ ys)) ≡ true → is_some (if b then Some x.1 else named q (xs ++ ys)) ≡ true
-    by true f = refl
-    by false f = f
+named_behind q (x ∷ xs) ys e = by_test (bytes_eq x.0 q) (λ f. rw f refl) (λ f. rw f (named_behind q xs ys e))
 
 names_back : {A B : Type 0} (name : A → Name) (f : A → B) (xs : List A)
     → map (λ (e : Name × B). e.0) (map (λ x. (name x, f x)) xs) ≡ map name xs
@@ -114,29 +90,30 @@ object_of _ = None
 static_hidden : (f : tree.Func) → f.is_static ≡ true → external_of (tree.Function f) ≡ None
 static_hidden f e = rw e refl
 
-abbrev declared_func : Typed → tree.Func
-declared_func s = record { is_static = false; result = s.1.result; name = s.0; params = map (λ t. (t, None)) s.1.params; body = None }
+-- pointers are no objects of the module
+pointer_hidden : (ty : CType) (name : Name) → IsObject ty name → class name ≡ 4 → object_of (tree.Var ty name None) ≡ None
+pointer_hidden _ _ own_table c = absurd (grind (arith, c))
+pointer_hidden _ _ own_memory c = absurd (grind (arith, c))
+pointer_hidden _ _ (own_global ty k less) c =
+    let three : class (global_name k) ≡ 3 = class_lettered 103 k less refl in absurd (omega (arith, c, three))
+pointer_hidden _ _ (global_pointer I32 k less) c = refl
+pointer_hidden _ _ (global_pointer I64 k less) c = refl
+pointer_hidden _ _ _ c = refl
+
+all_apply : {A : Type 0} (P Q : A → Type 0) (xs : List A) → AllByRecursion (λ x. P x → Q x) xs → AllByRecursion P xs → AllByRecursion Q xs
+all_apply P Q [] f h = tt
+all_apply P Q (x ∷ xs) f h = (f.0 h.0, all_apply P Q xs f.1 h.1)
+
+-- variables that are objects of the module
+vars_seen : {A : Type 0} (ty : A → CType) (name : A → Name) (xs : List A)
+    → ((x : A) → object_of (tree.Var (ty x) (name x) None) ≡ Some (ty x, name x))
+    → filter_map object_of (map (λ x. tree.Var (ty x) (name x) None) xs) ≡ map (λ x. (ty x, name x)) xs
+vars_seen ty name [] h = refl
+vars_seen ty name (x ∷ xs) h = rw (h x) (ap (λ os. (ty x, name x) ∷ os) (vars_seen ty name xs h))
 
 module _ (m : NamedModule) (a : IsAccepted m) where
   abbrev t : Module
   t = m.tree
-
-  data_none : {B : Type 0} (f : tree.Item → Option B) → ((n : Name) (count : ℕ) (bytes : List ℕ) → f (tree.Array n count bytes) ≡ None)
-      → filter_map f (data_of t) ≡ []
-  data_none f h = none_kept f (data_of t) (all_flat (λ o. f o ≡ None) data_item (numbered t.segments)
-      (all_of (λ d. AllByRecursion (λ o. f o ≡ None) (data_item d)) (numbered t.segments) (λ d. one d)))
-    where
-      one : (d : ℕ × SegmentEntry) → AllByRecursion (λ o. f o ≡ None) (data_item d)
-      one d = by d.1.bytes
-        where
-          by : (bs : List ℕ) → AllByRecursion (λ o. f o ≡ None)
-              (elim bs [ [] ↦ [] | b ∷ bytes ↦ tree.Array (data_name d.0) (length d.1.bytes) d.1.bytes ∷ [] ])
-          by [] = tt
-          by (b ∷ bytes) = (h (data_name d.0) (length d.1.bytes) d.1.bytes, tt)
-
-  functions_none : {B : Type 0} (f : tree.Item → Option B) (xs : List tree.Func) → ((g : tree.Func) → f (tree.Function g) ≡ None)
-      → filter_map f (map tree.Function xs) ≡ []
-  functions_none f xs h = none_kept f (map tree.Function xs) (all_images (λ o. f o ≡ None) tree.Function xs h)
 
   joined : {B : Type 0} (f : tree.Item → Option B) (xs ys : List tree.Item) (us vs : List B) → filter_map f xs ≡ us → filter_map f ys ≡ vs
       → filter_map f (xs ++ ys) ≡ us ++ vs
@@ -145,24 +122,21 @@ module _ (m : NamedModule) (a : IsAccepted m) where
   -- ---- functions that other units see
 
   objects_hidden : filter_map external_of (objects m) ≡ []
-  objects_hidden = none_kept external_of (objects m)
-      (all_append (λ o. external_of o ≡ None) _ _ (all_images (λ o. external_of o ≡ None)
-      (λ (x : LimitsEntry). tree.Var type.Tab table_name None) t.tables (λ x. refl))
-      (all_append (λ o. external_of o ≡ None) _ _ (all_images (λ o. external_of o ≡ None)
-      (λ (x : LimitsEntry). tree.Var type.Mem memory_name None) t.memories (λ x. refl))
-      (all_append (λ o. external_of o ≡ None) _ _ (all_images (λ o. external_of o ≡ None)
-      (λ (g : ℕ × GlobalEntry). tree.Var (c_type_of g.1.ty) (global_name (imported_globals t + g.0)) None) (numbered t.globals) (λ x. refl))
-      (all_images (λ o. external_of o ≡ None) (λ (p : CType × Name). tree.Var p.0 p.1 None) (pointers_of t) (λ x. refl)))))
+  objects_hidden = none_kept external_of (objects m) (each_object m a (λ o. external_of o ≡ None) (λ ty name is. refl))
+
+  data_hidden : filter_map external_of (data_of t) ≡ []
+  data_hidden = none_kept external_of (data_of t) (each_data m a (λ o. external_of o ≡ None) (λ j d at b bytes e. refl))
 
   declarations_seen : (ss : List Typed) → filter_map external_of (map declaration ss) ≡ map declared_func ss
   declarations_seen [] = refl
   declarations_seen (s ∷ ss) = ap (λ fs. declared_func s ∷ fs) (declarations_seen ss)
 
+  bodies_static : AllByRecursion (λ (f : tree.Func). f.is_static ≡ true) (bodies m)
+  bodies_static = all_bodies m a (λ f. f.is_static ≡ true) (λ k low high. (body_is t m.name k).1)
+
   prototypes_hidden : filter_map external_of (prototypes m) ≡ []
-  prototypes_hidden = none_kept external_of (prototypes m) (all_map (λ o. external_of o ≡ None) prototype (bodies m)
-      (all_images (λ (f : tree.Func). external_of (prototype f) ≡ None) (body_of t m.name)
-      (range_with_len (imported_funcs t) (length t.funcs))
-      (λ k. static_hidden _ (body_is t m.name k).1)))
+  prototypes_hidden = none_kept external_of (prototypes m) (all_map _ prototype (bodies m)
+      (all_weaker _ _ (bodies m) (λ f static. rw static refl) bodies_static))
 
   helpers_hidden : filter_map external_of (helpers m) ≡ []
   helpers_hidden = none_kept external_of (helpers m) (all_images (λ o. external_of o ≡ None) (λ which. tree.Function (helper_of which))
@@ -170,10 +144,8 @@ module _ (m : NamedModule) (a : IsAccepted m) where
       (λ which. static_hidden (helper_of which) (made_static which (helper_of which) refl).static))
 
   bodies_hidden : filter_map external_of (functions_of m) ≡ []
-  bodies_hidden = none_kept external_of (functions_of m) (all_map (λ o. external_of o ≡ None) tree.Function (bodies m)
-      (all_images (λ (f : tree.Func). external_of (tree.Function f) ≡ None) (body_of t m.name)
-      (range_with_len (imported_funcs t) (length t.funcs))
-      (λ k. static_hidden (body_of t m.name k) (body_is t m.name k).1)))
+  bodies_hidden = none_kept external_of (functions_of m) (all_map _ tree.Function (bodies m)
+      (all_weaker _ _ (bodies m) static_hidden bodies_static))
 
   parts_hidden : filter_map external_of (parts m) ≡ []
   parts_hidden = none_kept external_of (parts m) (all_images (λ o. external_of o ≡ None) (λ p. tree.Function (part_func t p))
@@ -189,7 +161,7 @@ module _ (m : NamedModule) (a : IsAccepted m) where
   seen_is : external_functions (items m) ≡ seen
   seen_is =
       joined external_of (objects m) _ [] _ objects_hidden
-      (joined external_of (data_of t) _ [] _ (data_none external_of (λ n count bytes. refl))
+      (joined external_of (data_of t) _ [] _ data_hidden
       (joined external_of (declarations m) _ (map declared_func (declared_symbols m)) _ (declarations_seen (declared_symbols m))
       (joined external_of (prototypes m) _ [] _ prototypes_hidden
       (joined external_of (helpers m) _ [] _ helpers_hidden
@@ -275,11 +247,7 @@ module _ (m : NamedModule) (a : IsAccepted m) where
       by : (o : Option tree.FuncType) → symbol_type m n ≡ o → is_some o ≡ true
           → symbol_type m n ≡ Some (func_type_of (declared_func (n, declared_type (symbol_type m n))))
       by None e f = absurd cc
-      by (Some ty) e f = e ∙ ap Some (sym (ap declared_type e) ∙ sym
-          (ap (λ ps. type_with ps (declared_type (symbol_type m n)).result) (params_back (declared_type (symbol_type m n)).params)))
-        where
-          type_with : List CType → CType → tree.FuncType
-          type_with ps r = record { params = ps; result = r }
+      by (Some ty) e f = e ∙ ap Some (sym (declared_typed (n, declared_type (symbol_type m n)) ∙ ap declared_type e))
 
   seen_typed : AllByRecursion IsTypedAs seen
   seen_typed =
@@ -289,11 +257,11 @@ module _ (m : NamedModule) (a : IsAccepted m) where
       (firsts [] import_symbols) declaration_typed))
       (all_append IsTypedAs (map (export_func m) t.exports) (init_func m ∷ [])
       (all_map IsTypedAs (export_func m) t.exports
-      (all_weaker (λ e. symbol_type m (export_symbol m e) ≡ Some (export_type t e)) (λ e. IsTypedAs (export_func m e)) t.exports
-      (λ e known there. ap (symbol_type m) (export_external m e).named ∙ (known ∙ ap Some (sym (export_shape m e).1)))
-      (symbol_types m a))) (
+      (all_from (λ e. IsTypedAs (export_func m e)) t.exports (λ i e at there. ap (symbol_type m) (export_external m e).named
+      ∙ (all_at (λ e. symbol_type m (export_symbol m e) ≡ Some (export_type t e)) t.exports i e (symbol_types m a) at
+      ∙ ap Some (sym (each_shape m a i e at).1))))) (
         (λ there. absurd (let wrong : true ≡ false = sym there
-            ∙ none_among (init_symbol_of m.name) import_symbols (imports_apart m a t.imports (accepted_limits a).import_names) in cc)),
+            ∙ none_among (init_symbol_of m.name) import_symbols (imports_apart m a) in cc)),
         tt,
       ))
 
@@ -303,84 +271,40 @@ module _ (m : NamedModule) (a : IsAccepted m) where
 
   -- ---- objects
 
-  tables_seen : (xs : List LimitsEntry) → filter_map object_of (map (λ (x : LimitsEntry). tree.Var type.Tab table_name None) xs) ≡ map
-      (λ x. (type.Tab, table_name)) xs
-  tables_seen [] = refl
-  tables_seen (x ∷ xs) = ap (λ os. (type.Tab, table_name) ∷ os) (tables_seen xs)
-
-  memories_seen : (xs : List LimitsEntry) → filter_map object_of (map (λ (x : LimitsEntry). tree.Var type.Mem memory_name None) xs) ≡ map
-      (λ x. (type.Mem, memory_name)) xs
-  memories_seen [] = refl
-  memories_seen (x ∷ xs) = ap (λ os. (type.Mem, memory_name) ∷ os) (memories_seen xs)
-
-  one_seen : (ty : ValType) (n : Name) (rest : List tree.Item) (os : List (CType × Name)) → filter_map object_of rest ≡ os
-      → filter_map object_of (tree.Var (c_type_of ty) n None ∷ rest) ≡ (c_type_of ty, n) ∷ os
-  one_seen I32 n rest os e = ap (λ os. (type.U32, n) ∷ os) e
-  one_seen I64 n rest os e = ap (λ os. (type.U64, n) ∷ os) e
-
-  globals_seen : (gs : List (ℕ × GlobalEntry)) → filter_map object_of
-      (map (λ (g : ℕ × GlobalEntry). tree.Var (c_type_of g.1.ty) (global_name (imported_globals t + g.0)) None) gs)
-      ≡ map (λ (g : ℕ × GlobalEntry). (c_type_of g.1.ty, global_name (imported_globals t + g.0))) gs
-  globals_seen [] = refl
-  globals_seen (g ∷ gs) = one_seen g.1.ty (global_name (imported_globals t + g.0))
-      (map (λ (g : ℕ × GlobalEntry). tree.Var (c_type_of g.1.ty) (global_name (imported_globals t + g.0)) None) gs) _ (globals_seen gs)
-
-  pointer_none : (i : Import) (n : Name) → is_global_import i ≡ true → object_of (tree.Var (import_type t i).result n None) ≡ None
-  pointer_none i n = by i.kind
-    where
-      by : (kind : ImportKind) → is_global_import (record i { kind = kind }) ≡ true
-          → object_of (tree.Var (import_type t (record i { kind = kind })).result n
-          None) ≡ None
-      by (ImportGlobal I32 mutable) e = refl
-      by (ImportGlobal I64 mutable) e = refl
-      by _ e = absurd cc
-
   abbrev NoObject : tree.Item → Type 0
   NoObject o = object_of o ≡ None
 
-  pointers_none : filter_map object_of (map (λ (p : CType × Name). tree.Var p.0 p.1 None) (pointers_of t)) ≡ []
-  pointers_none = subst (λ items. filter_map object_of items ≡ []) (sym (pointers_are m a)) (none_kept object_of _
-      (all_append NoObject _ _ (all_images NoObject (λ (i : Import). tree.Var type.PtrMem (pointer_name memory_name) None)
-      (memory_imports t) (λ i. refl))
-      (all_append NoObject _ _ (all_images NoObject (λ (i : Import). tree.Var type.PtrTab (pointer_name table_name) None) (table_imports t)
-      (λ i. refl))
-      (all_zip_of NoObject (λ i. is_global_import i ≡ true)
-      (λ (i : ℕ × Import). tree.Var (import_type t i.1).result (pointer_name (global_name i.0)) None) 0 (global_imports t)
-      (all_pass is_global_import t.imports)
-      (λ j i e. pointer_none i (pointer_name (global_name j)) e)))))
-
-  nothing_more : {A : Type 0} (xs ys : List A) → ys ≡ [] → xs ++ ys ≡ xs
-  nothing_more [] ys e = e
-  nothing_more (x ∷ xs) ys e = ap (λ zs. x ∷ zs) (nothing_more xs ys e)
+  pointers_none : filter_map object_of (pointers m) ≡ []
+  pointers_none = none_kept object_of (pointers m) (all_apply (λ o. class (name_of o) ≡ 4) NoObject (pointers m)
+      (all_behind _ (globals m) (pointers m) (all_behind _ (mems m) _ (all_behind _ (tabs m) _
+      (each_object m a (λ o. class (name_of o) ≡ 4 → NoObject o) pointer_hidden)))) (pointers_class m a))
 
   objects_seen : filter_map object_of (objects m) ≡ module_objects t
   objects_seen =
-      joined object_of (map (λ (x : LimitsEntry). tree.Var type.Tab table_name None) t.tables) _ _ _ (tables_seen t.tables)
-      (joined object_of (map (λ (x : LimitsEntry). tree.Var type.Mem memory_name None) t.memories) _ _ _ (memories_seen t.memories)
-      (joined object_of (map (λ (g : ℕ × GlobalEntry). tree.Var (c_type_of g.1.ty) (global_name (imported_globals t + g.0)) None)
-      (numbered t.globals)) _ _ [] (globals_seen (numbered t.globals)) pointers_none
-      ∙ nothing_more _ [] refl))
+      joined object_of (tabs m) _ _ _ (vars_seen (λ (x : LimitsEntry). type.Tab) (λ (x : LimitsEntry). table_name) t.tables (λ x. refl))
+      (joined object_of (mems m) _ _ _ (vars_seen (λ (x : LimitsEntry). type.Mem) (λ (x : LimitsEntry). memory_name) t.memories (λ x. refl))
+      (joined object_of (globals m) _ _ [] (vars_seen (λ (g : ℕ × GlobalEntry). c_type_of g.1.ty)
+      (λ (g : ℕ × GlobalEntry). global_name (imported_globals t + g.0)) (numbered t.globals) (λ g. number_seen g.1.ty _)) pointers_none
+      ∙ append-nil _))
+    where
+      number_seen : (ty : ValType) (n : Name) → object_of (tree.Var (c_type_of ty) n None) ≡ Some (c_type_of ty, n)
+      number_seen I32 n = refl
+      number_seen I64 n = refl
 
   rest_none : filter_map object_of
       (data_of t ++ (declarations m ++ (prototypes m ++ (helpers m ++ (functions_of m ++ (exports m ++ (parts m ++ init m))))))) ≡ []
-  rest_none =
-      joined object_of (data_of t) _ [] [] (data_none object_of (λ n count bytes. refl))
-      (joined object_of (declarations m) _ [] [] (none_kept object_of (declarations m)
-      (all_images NoObject declaration (declared_symbols m) (λ s. refl)))
-      (joined object_of (prototypes m) _ [] [] (none_kept object_of (prototypes m) (all_images NoObject prototype (bodies m) (λ f. refl)))
-      (joined object_of (helpers m) _ [] [] (none_kept object_of (helpers m)
-      (all_images NoObject (λ which. tree.Function (helper_of which)) (helpers_of t) (λ which. refl)))
-      (joined object_of (functions_of m) _ [] [] (functions_none object_of (bodies m) (λ f. refl))
-      (joined object_of (exports m) (parts m ++ init m) [] [] (none_kept object_of (exports m)
-      (all_images NoObject (λ e. tree.Function (export_func m e)) t.exports (λ e. refl)))
-      (joined object_of (parts m) (init m) [] [] (none_kept object_of (parts m)
-      (all_images NoObject (λ p. tree.Function (part_func t p)) (numbered (parts_of t)) (λ p. refl))) refl))))))
+  rest_none = none_kept object_of _
+      (all_append NoObject (data_of t) _ (each_data m a NoObject (λ j d at b bytes e. refl))
+      (all_append NoObject (declarations m) _ (all_images NoObject declaration (declared_symbols m) (λ s. refl))
+      (all_append NoObject (prototypes m) _ (all_images NoObject prototype (bodies m) (λ f. refl))
+      (all_append NoObject (helpers m) _ (all_images NoObject (λ which. tree.Function (helper_of which)) (helpers_of t) (λ which. refl))
+      (all_append NoObject (functions_of m) _ (all_images NoObject tree.Function (bodies m) (λ f. refl))
+      (all_append NoObject (exports m) _ (all_images NoObject (λ e. tree.Function (export_func m e)) t.exports (λ e. refl))
+      (all_append NoObject (parts m) (init m) (all_images NoObject (λ p. tree.Function (part_func t p)) (numbered (parts_of t)) (λ p. refl))
+      (refl, tt))))))))
 
   objects_are : unit_objects (items m) ≡ module_objects t
-  objects_are = filter_map-append object_of (objects m) _ ∙
-      (ap (λ os. os ++ filter_map object_of (data_of t ++
-      (declarations m ++ (prototypes m ++ (helpers m ++ (functions_of m ++ (exports m ++ (parts m ++ init m)))))))) objects_seen
-      ∙ nothing_more (module_objects t) _ rest_none)
+  objects_are = joined object_of (objects m) _ (module_objects t) [] objects_seen rest_none ∙ append-nil (module_objects t)
 
   pub objects_same : HaveSame (unit_objects (items m)) (module_objects t)
   objects_same x = (λ c. subst (λ os. Contains os x) objects_are c, λ c. subst (λ os. Contains os x) (sym objects_are) c)

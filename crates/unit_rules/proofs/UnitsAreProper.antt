@@ -1,8 +1,7 @@
 -- The unit of an accepted module is well formed, keeps the rules, and has its shape.
 use Rattle.unit_rules.proofs.Common.{NamedModule, items, IsAccepted, HasShape, UnitsAreProper}
 use Rattle.body_rules.specs.BodiesAreProper.{BodiesKeepTheRules, BodiesAreFormed}
-use Rattle.unit_rules.proofs.FormedUnit.{unit_well_formed}
-use Rattle.unit_rules.proofs.KeepsRules.{units_keep_rules}
+use Rattle.unit_rules.proofs.UnitRules.{unit_keeps_rules, unit_well_formed}
 use Rattle.unit_rules.proofs.ShapeFuncs.{accessors_stand, functions_stand, exports_stand, init_stands}
 use Rattle.unit_rules.proofs.ShapeLists.{defines_own, declares_all, types_declared, objects_same}
 
@@ -21,6 +20,6 @@ unit_shape m a = record {
 pub units_are_proper : BodiesKeepTheRules → BodiesAreFormed → UnitsAreProper
 units_are_proper keep formed m a = record {
   well_formed = unit_well_formed m a formed;
-  keeps_rules = units_keep_rules m a keep;
+  keeps_rules = unit_keeps_rules m a keep;
   shape = unit_shape m a;
 }

@@ -18,7 +18,7 @@ use w2c_io::{Files, WriteAnswer};
 use wasm_typing::ValidModule;
 
 /// Appends the text of a module's unit under a name to the current file: the include line, then an item at a time, so
-/// that one function's tree and text are held at most. It is the text that `translate` gives.
+/// that one function's tree and a piece of its text are held at most. It is the text that `translate` gives.
 ///
 /// # Errors
 ///

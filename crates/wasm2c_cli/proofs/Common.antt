@@ -1,7 +1,7 @@
 -- What proofs of this crate cite of std, of the crates below and of specs/, passed on from one place. Declares nothing.
-pub use Rattle.std.proofs.Common.{◌≡◌, ℕ, zero, suc, ◌+◌, ◌-◌, ◌*◌, ◌<◌, ◌≤◌, Bool, true, false, ◌&&◌, ◌||◌, ◌≢◌, ◌⊎◌, List, [], ◌∷◌, ◌++◌}
+pub use Rattle.std.proofs.Common.{◌≡◌, ℕ, zero, suc, ◌+◌, ◌-◌, ◌*◌, ◌≤◌, Bool, true, false, ◌&&◌, ◌≢◌, ◌⊎◌, List, [], ◌∷◌, ◌++◌}
 pub use Rattle.std.proofs.Common.{map, length, get_or, take, drop, replicate, IfOk, IfErr, if◌then◌else◌, OnOk, OnErr, IsTrue, nat_le}
-pub use Rattle.std.proofs.Common.{slice_get, slice_index_or, Some, None, Ok, Err, string_bytes, codes, Option, Result, MatchOption, zip}
+pub use Rattle.std.proofs.Common.{slice_get, Some, None, Ok, Err, string_bytes, codes, Option, Result, MatchOption, zip}
 pub use Rattle.std.proofs.Common.{option_and_then, bytes_eq, unwrap_or, sym, refl, ap, ◌∙◌, subst, inl, inr, append_assoc, append-nil}
 pub use Rattle.std.proofs.Common.{arith, rules, leb-true}
 pub use Rattle.std.proofs.lemmas.List.{append_cancel_left, length-map}
@@ -35,9 +35,9 @@ pub use Rattle.wasm_spelling.specs.declared.fault.Which.TheVariants.{ModuleBytes
 pub use Rattle.w2c_sim.specs.Refusals.{IsRefusal}
 pub use Rattle.w2c_sim.specs.Selections.{File, IsTranslated as IsTranslatedFile, TranslationTheorem}
 pub use Rattle.w2c_sim.specs.Translation.{IsModuleOf, header_text_of, text_of}
-pub use Rattle.wasm2c_words.specs.CommandLine.{FileSet, Generation, Line, Translation, are_names, count_of, generate, generation, in_range}
-pub use Rattle.wasm2c_words.specs.CommandLine.{is_set, line_by, line_of, line_of_values, line_with_count, line_with_dir, line_with_output}
-pub use Rattle.wasm2c_words.specs.CommandLine.{line_with_runtime, runtime, set, translate, translation}
+pub use Rattle.wasm2c_words.specs.CommandLine.{FileSet, Generation, Line, Translation, are_names, count_of, generate, generation}
+pub use Rattle.wasm2c_words.specs.CommandLine.{in_range, is_set, line_by, line_of, line_of_values, line_with_dir, runtime, set, translate}
+pub use Rattle.wasm2c_words.specs.CommandLine.{translation}
 pub use Rattle.wasm2c_words.specs.Seen.{seen_generation, seen_line, seen_set, seen_translation}
 pub use Rattle.wasm2c_cli.specs.Example.{two_c, two_call, two_files, two_h, two_run, two_wasm, two_words}
 pub use Rattle.wasm2c_cli.specs.Job.{AreAccepted, AreReadOf, AreSourcesBy, IsJob, IsJobBy, IsJobOf, Job, Missing, Refused}

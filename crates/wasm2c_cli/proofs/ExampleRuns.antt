@@ -1,7 +1,7 @@
 -- Runs of README's unit: two.c spells it and no other, and each call of its export is nine statements and gives 42.
-use Rattle.wasm2c_cli.proofs.Common.{◌≡◌, ℕ, zero, suc, ◌+◌, ◌*◌, ◌<◌, ◌≤◌, ◌≢◌, ◌⊎◌, List, [], ◌∷◌, ◌++◌, map, length, replicate, Some}
-use Rattle.wasm2c_cli.proofs.Common.{zip, sym, refl, ap, ◌∙◌, subst, inl, inr, append_assoc, append-nil, arith, range_with_len, two_c}
-use Rattle.wasm2c_cli.proofs.Common.{two_call, two_run}
+use Rattle.wasm2c_cli.proofs.Common.{◌≡◌, ℕ, zero, suc, ◌+◌, ◌*◌, ◌≤◌, ◌≢◌, List, [], ◌∷◌, ◌++◌, map, length, replicate, Some, zip, sym}
+use Rattle.wasm2c_cli.proofs.Common.{refl, ap, ◌∙◌, subst, inl, inr, append_assoc, append-nil, arith, range_with_len, two_c, two_call}
+use Rattle.wasm2c_cli.proofs.Common.{two_run}
 use Rattle.std.proofs.lemmas.Bool.{cases_lt}
 use Rattle.w2c_base.specs.declared.value.Value.TheVariants.{I32}
 use Rattle.w2c_base.specs.Run.{Call, CallEnded, Event, Host, Init, Phase, Reply, values_in}
@@ -72,48 +72,46 @@ nothing = record { vars = []; memories = []; tables = [] } ∷ []
 abbrev gave_42 : Event
 gave_42 = CallEnded (Some (I32 42))
 
-one_call : (hosts : List Host) (replies : List Reply) → IsOne (alone hosts) two_call gave_42 replies nothing
-one_call hosts replies k events last others = refl
+-- so many calls, with so many statements
+abbrev run : List Host → List Reply → ℕ → ℕ → CRun
+run hosts replies n steps = c_run (alone hosts) (replicate n two_call) steps replies
 
-begins : (hosts : List Host) (replies : List Reply) (n : ℕ) → after (alone hosts) 2 (c_start (alone hosts) (replicate n two_call) replies)
-    ≡ begin_entry (alone hosts) (between (alone hosts) two_call gave_42 replies nothing []) (Init 0)
-    (entries (alone hosts) two_call gave_42 replies nothing 0 n)
-begins hosts replies n = refl
+module _ (hosts : List Host) (replies : List Reply) where
+  one_call : IsOne (alone hosts) two_call gave_42 replies nothing
+  one_call k events last others = refl
 
--- with just enough statements
-abbrev whole : List Host → List Reply → ℕ → CRun
-whole hosts replies n =
-    ended (alone hosts) two_call gave_42 replies nothing (last_phase (alone hosts) two_call gave_42 replies nothing 0 n (Init 0))
-    (replicate n gave_42)
+  begins : (n : ℕ) → after (alone hosts) 2 (c_start (alone hosts) (replicate n two_call) replies)
+      ≡ begin_entry (alone hosts) (between (alone hosts) two_call gave_42 replies nothing []) (Init 0)
+      (entries (alone hosts) two_call gave_42 replies nothing 0 n)
+  begins n = refl
 
-enough_is : (hosts : List Host) (replies : List Reply) (n : ℕ)
-    → c_run (alone hosts) (replicate n two_call) (2 + 9 * n) replies ≡ whole hosts replies n
-enough_is hosts replies n =
-    ap run_of (after_sum (alone hosts) 2 (9 * n) (c_start (alone hosts) (replicate n two_call) replies)
-    ∙ ap (after (alone hosts) (9 * n)) (begins hosts replies n)
-    ∙ calls_run (alone hosts) two_call gave_42 replies nothing (one_call hosts replies) n 0 [] (Init 0))
+  -- with just enough statements
+  abbrev whole : ℕ → CRun
+  whole n = ended (alone hosts) two_call gave_42 replies nothing
+      (last_phase (alone hosts) two_call gave_42 replies nothing 0 n (Init 0)) (replicate n gave_42)
 
-not_out : (o : Outcome) → o ≡ Ended → o ≢ OutOfSteps
-not_out o is out = cc
+  enough_is : (n : ℕ) → run hosts replies n (2 + 9 * n) ≡ whole n
+  enough_is n = ap run_of (after_sum (alone hosts) 2 (9 * n) (c_start (alone hosts) (replicate n two_call) replies)
+      ∙ ap (after (alone hosts) (9 * n)) (begins n)
+      ∙ calls_run (alone hosts) two_call gave_42 replies nothing one_call n 0 [] (Init 0))
 
--- with any number of statements that is enough
-more_is : (hosts : List Host) (replies : List Reply) (n steps : ℕ) → 2 + 9 * n ≤ steps
-    → c_run (alone hosts) (replicate n two_call) steps replies ≡ whole hosts replies n
-more_is hosts replies n steps le =
-    let least = enough_is hosts replies n in
-    run_longer (alone hosts) (replicate n two_call) replies (2 + 9 * n) steps le
-    (not_out (c_run (alone hosts) (replicate n two_call) (2 + 9 * n) replies).outcome (ap (λ (r : CRun). r.outcome) least)) ∙ least
+  not_out : (o : Outcome) → o ≡ Ended → o ≢ OutOfSteps
+  not_out o is out = cc
 
--- with any at all, where they are not spent
-over_is : (hosts : List Host) (replies : List Reply) (n steps : ℕ)
-    → (c_run (alone hosts) (replicate n two_call) steps replies).outcome ≢ OutOfSteps
-    → c_run (alone hosts) (replicate n two_call) steps replies ≡ whole hosts replies n
-over_is hosts replies n steps is_over = by_size (cases_lt steps (2 + 9 * n))
-  where
-    by_size : (steps < 2 + 9 * n) ⊎ (2 + 9 * n ≤ steps) → c_run (alone hosts) (replicate n two_call) steps replies ≡ whole hosts replies n
-    by_size (inl less) = sym (run_longer (alone hosts) (replicate n two_call) replies steps (2 + 9 * n) (omega (arith, less)) is_over)
-        ∙ enough_is hosts replies n
-    by_size (inr le) = more_is hosts replies n steps le
+  -- with any number of statements that is enough
+  more_is : (n steps : ℕ) → 2 + 9 * n ≤ steps → run hosts replies n steps ≡ whole n
+  more_is n steps le =
+      let least = enough_is n in
+      run_longer (alone hosts) (replicate n two_call) replies (2 + 9 * n) steps le
+      (not_out (run hosts replies n (2 + 9 * n)).outcome (ap (λ (r : CRun). r.outcome) least)) ∙ least
+
+  -- with any at all, where they are not spent
+  over_is : (n steps : ℕ) → (run hosts replies n steps).outcome ≢ OutOfSteps → run hosts replies n steps ≡ whole n
+  over_is n steps is_over = elim (cases_lt steps (2 + 9 * n)) [
+    | inl less ↦ sym (run_longer (alone hosts) (replicate n two_call) replies steps (2 + 9 * n) (omega (arith, less)) is_over)
+        ∙ enough_is n
+    | inr le ↦ more_is n steps le
+  ]
 
 values_of_all : (n : ℕ) → values_in (replicate n gave_42) ≡ replicate n (Some (I32 42))
 values_of_all zero = refl

@@ -1,9 +1,8 @@
 -- Where reading stops, by the name of the file.
 use Rattle.wasm2c_cli.proofs.Common.{◌≡◌, ℕ, List, slice_get, Some, string_bytes, Option, sym, refl, ◌∙◌, subst, inl, inr, same_Some, Name}
-use Rattle.wasm2c_cli.proofs.Common.{Told, Tells, one_at, Past, TooLong, ReadStop, most_module_bytes, ModuleBytes, SetBytes, IsAtFile}
-use Rattle.wasm2c_cli.proofs.Common.{StopsAtLimit, StopsAtRead, StopsAtUnreadable, StopsByReading, most_set_bytes, PassesLimit, Reason}
-use Rattle.wasm2c_cli.proofs.Common.{Limit, Stop}
-use Rattle.w2c_files.specs.Stopping.{IsUnread, StopsAt}
+use Rattle.wasm2c_cli.proofs.Common.{Told, Tells, one_at, ReadStop, most_module_bytes, IsAtFile, StopsAtLimit, StopsAtRead}
+use Rattle.wasm2c_cli.proofs.Common.{StopsAtUnreadable, StopsByReading, most_set_bytes, PassesLimit, Reason, Stop}
+use Rattle.w2c_files.specs.Stopping.{StopsAt}
 use Rattle.w2c_files.specs.declared.reading.ReadStop.TheVariants as read
 use Rattle.wasm2c_cli.specs.declared.stop.Stop.TheVariants as stops
 
@@ -17,32 +16,12 @@ module _ (told : Told) (names : List Name) (before after : ℕ) (named : Option 
   at_file (read.Past k place) (few, name, at, why) = (few, name, at)
   at_file read.Memory why = tt
 
-  -- ---- what is said of the file that is named
-
-  unread : (k : ℕ) (name : Name) → slice_get names k ≡ Some name → At (read.Unread k)
-      → IsUnread most_module_bytes most_set_bytes told names before after named name
-  unread k name at (other, at', why) = rw (same_Some other name (sym at' ∙ at)) at why
-
-  too_long : (k : ℕ) (name : Name) → slice_get names k ≡ Some name → At (read.TooLong k)
-      → Tells told (λ contents. PassesLimit contents names name (Limit most_module_bytes ModuleBytes))
-  too_long k name at (other, at', why) = λ contents tells. inl (
-    rw (same_Some other name (sym at' ∙ at)) at (why contents tells),
-    refl,
-  )
-
-  past : (k place : ℕ) (name : Name) → slice_get names k ≡ Some name → At (read.Past k place)
-      → Tells told (λ contents. PassesLimit contents names name (Limit place SetBytes))
-  past k place name at (few, other, at', why) = λ contents tells. inr (
-    place,
-    rw (same_Some other name (sym at' ∙ at)) at (why contents tells),
-    refl,
-  )
-
   -- ---- the stop
 
   stops_unread : (k : ℕ) (stop : Stop) → At (read.Unread k) → StopsAtUnreadable names k stop
       → StopsByReading told names before after named stop
-  stops_unread k (stops.Unread name) why at = (one_at names k (string_bytes name) at, unread k (string_bytes name) at why)
+  stops_unread k (stops.Unread name) (other, at', why) at =
+      (one_at names k (string_bytes name) at, rw (same_Some other (string_bytes name) (sym at' ∙ at)) at why)
   stops_unread k stops.Memory why is = tt
   stops_unread k _ why is = absurd is
 
@@ -60,7 +39,8 @@ module _ (told : Told) (names : List Name) (before after : ℕ) (named : Option 
   pub reading_stops : (why : ReadStop) (stop : Stop) → At why → StopsAtRead why names stop
       → StopsByReading told names before after named stop
   reading_stops (read.Unread k) stop why is = stops_unread k stop why is
-  reading_stops (read.TooLong k) stop why is =
-      stops_at_limit (Limit most_module_bytes ModuleBytes) k stop (λ name at. too_long k name at why) is
-  reading_stops (read.Past k place) stop why is = stops_at_limit (Limit place SetBytes) k stop (λ name at. past k place name at why) is
+  reading_stops (read.TooLong k) stop (other, at', why) is = stops_at_limit _ k stop
+      (λ name at contents tells. inl (rw (same_Some other name (sym at' ∙ at)) at (why contents tells), refl)) is
+  reading_stops (read.Past k place) stop (few, other, at', why) is = stops_at_limit _ k stop
+      (λ name at contents tells. inr (place, rw (same_Some other name (sym at' ∙ at)) at (why contents tells), refl)) is
   reading_stops read.Memory stop why is = subst (StopsByReading told names before after named) (sym is) tt

@@ -1,12 +1,12 @@
 -- What stands after a call, where the files behave as files: what its clauses on contents say.
-use Rattle.wasm2c_cli.proofs.Common.{◌≡◌, ℕ, ◌⊎◌, List, [], ◌∷◌, ◌++◌, Some, None, Ok, Err, Option, Result, MatchOption, refl, ap, ◌∙◌}
-use Rattle.wasm2c_cli.proofs.Common.{subst, inl, inr, append-nil, arith, Contents, Name, Told, Event, Read, AreHonest, Does, ReadAnswer}
-use Rattle.wasm2c_cli.proofs.Common.{WriteAnswer, BreaksOffAt, FailsLast, WritesFiles, WritesSome, limited, AreRead, IsUnreadable, NotThere}
-use Rattle.wasm2c_cli.proofs.Common.{Past, StopsReading, TooLong, Unreadable, total, Stands, StandsAt, written, most_module_bytes, Line}
-use Rattle.wasm2c_cli.proofs.Common.{generate, line_of, runtime, AreReadOf, AreSourcesBy, IsJob, IsJobOf, Job, Missing, Refused}
-use Rattle.wasm2c_cli.proofs.Common.{TranslatesBy, Usage, Write, WritesBy, read_line, refused_line, usage_line, write_line, Follows}
-use Rattle.wasm2c_cli.proofs.Common.{IsJobOver, PassesLine, ReadsFirst, ReadsWhole, StopsAfter, StopsByAnswer, inputs_of, most_set_bytes}
-use Rattle.wasm2c_cli.proofs.Common.{Done, StandsOfJob, Answers, Reason, same_Some}
+use Rattle.wasm2c_cli.proofs.Common.{◌≡◌, ℕ, zero, suc, ◌⊎◌, List, [], ◌∷◌, ◌++◌, get_or, Some, None, Ok, Err, Option, Result, MatchOption}
+use Rattle.wasm2c_cli.proofs.Common.{sym, refl, ◌∙◌, subst, inl, inr, append-nil, arith, same_Some, Contents, Name, Told, Event, Read}
+use Rattle.wasm2c_cli.proofs.Common.{AreHonest, Does, ReadAnswer, WriteAnswer, BreaksOffAt, FailsLast, WritesFiles, WritesSome, limited}
+use Rattle.wasm2c_cli.proofs.Common.{AreRead, IsUnreadable, NotThere, Past, StopsReading, TooLong, Unreadable, total, Stands, StandsAt}
+use Rattle.wasm2c_cli.proofs.Common.{written, most_module_bytes, Line, generate, line_of, runtime, AreReadOf, AreSourcesBy, IsJob, IsJobOf}
+use Rattle.wasm2c_cli.proofs.Common.{Job, Missing, Refused, TranslatesBy, Usage, Write, WritesBy, read_line, refused_line, usage_line}
+use Rattle.wasm2c_cli.proofs.Common.{write_line, Follows, IsJobOver, PassesLine, ReadsFirst, ReadsWhole, StopsAfter, StopsByAnswer}
+use Rattle.wasm2c_cli.proofs.Common.{inputs_of, most_set_bytes, Done, StandsOfJob, Answers, Reason}
 use Rattle.w2c_io.specs.declared.answers.ReadAnswer.TheVariants as reading
 use Rattle.w2c_files.proofs.Honest.{broken_stands, files_hold, honest_both, in_order_keep, reads_are, some_stand}
 use Rattle.wasm2c_cli.specs.HonestPassing.{PassesHonestly}
@@ -45,29 +45,23 @@ module _ (P Q : List (List ℕ) → Type 0) (so : (all : List (List ℕ)) → P 
 module _ (line : Line) (m : Contents) (given put : List Event) (new : Told) (current after : Option Name)
     (reads : ReadsFirst (inputs_of line) given) (honest : AreHonest (given ++ put) (Some m) current new after) where
   -- what stands behind the reads is what stood before
-  none_put : put ≡ [] → new ≡ Some m
-  none_put none =
+  behind : (at : Option Name) × AreHonest put (Some m) at new after
+  behind =
       let (told, at, first, last) = honest_both given put (Some m) new current after honest in
-      (subst (λ (es : List Event). AreHonest es told at new after) none last).0
-      ∙ reads_keep (inputs_of line) given (Some m) told current at reads first
+      (at, subst (λ (t : Told). AreHonest put t at new after) (reads_keep (inputs_of line) given (Some m) told current at reads first) last)
+
+  none_put : put ≡ [] → new ≡ Some m
+  none_put none = (subst (λ (es : List Event). AreHonest es (Some m) behind.0 new after) none behind.1).0
 
   pub whole_put : (files : List (Name × List ℕ)) → WritesFiles files put → new ≡ written (Some m) files
-  whole_put files wrote =
-      let (told, at, first, last) = honest_both given put (Some m) new current after honest in
-      files_hold files put told new at after wrote last
-      ∙ ap (λ (t : Told). written t files) (reads_keep (inputs_of line) given (Some m) told current at reads first)
+  whole_put files wrote = files_hold files put (Some m) new behind.0 after wrote behind.1
 
   broken_put : (files : List (Name × List ℕ)) (name : Name) (why : WriteAnswer) → BreaksOffAt files name why put
       → StandsAt (Some m) new files name
-  broken_put files name why broken =
-      let (told, at, first, last) = honest_both given put (Some m) new current after honest in
-      subst (λ (t : Told). StandsAt t new files name) (reads_keep (inputs_of line) given (Some m) told current at reads first)
-      (broken_stands files name why put told new at after broken last)
+  broken_put files name why broken = broken_stands files name why put (Some m) new behind.0 after broken behind.1
 
   some_put : (files : List (Name × List ℕ)) → WritesSome files put → Stands (Some m) new files
-  some_put files some =
-      let (told, at, first, last) = honest_both given put (Some m) new current after honest in
-      rw (reads_keep (inputs_of line) given (Some m) told current at reads first) at (some_stand files put told new at after some last)
+  some_put files some = some_stand files put (Some m) new behind.0 after some behind.1
 
   pub all_held : (all : List (List ℕ)) → ReadsWhole (inputs_of line) given all → AreReadOf line m all
   all_held all read =
@@ -96,95 +90,92 @@ module _ (line : Line) (m : Contents) (given put : List Event) (new : Told) (cur
         record { held = held; fit = fit; together = at.together },
       )
 
-  -- where the file is there, the reading stopped as it does over what the files hold
-  stopped_job : (file : Name) (why : Unreadable) → (why ≡ NotThere → ⊥) → StopsAfter (inputs_of line) given file why
-      → StopsReading most_module_bytes most_set_bytes m (inputs_of line) file why
-  stopped_job file why there at =
+  -- the reading stopped as it does over what the files hold, or the last read failed
+  stopped_job : (file : Name) (why : Unreadable) → StopsAfter (inputs_of line) given file why
+      → StopsReading most_module_bytes most_set_bytes m (inputs_of line) file why ⊎ ((why ≡ NotThere) × FailsLast file given)
+  stopped_job file why at =
       let (last, read) = last_read file why at in
-      record {
-        front = at.front;
-        rest = at.rest;
-        all = at.all;
-        split = at.split;
-        read = read;
-        stops = unreadable last.0 last.1 last.2 at.answer why there at.stops last.3;
-      }
+      elim (by last.0 last.1 last.2 at.answer why at.stops at.calls last.3) [
+        | inl stops ↦ inl (record {
+          front = at.front;
+          rest = at.rest;
+          all = at.all;
+          split = at.split;
+          read = read;
+          stops = stops;
+        })
+        | inr fails ↦ inr fails
+      ]
     where
-      unreadable : (told : Told) (here there : Option Name) (answer : Result (List ℕ) ReadAnswer) (why : Unreadable)
-          → (why ≡ NotThere → ⊥) → StopsByAnswer (total at.all) answer why
-          → Does (Read file most_module_bytes answer) (Some m) here told there
-          → IsUnreadable most_module_bytes most_set_bytes (total at.all) m file why
-      unreadable told here now (Err reading.TooLong) TooLong there stops does = does.0
-      unreadable told here now answer NotThere there stops does = absurd (there refl)
-      unreadable told here now (Ok bytes) (Past place) there (long, is) does =
-          (bytes, does.0, does.3, omega (arith, long, at.together), is)
-      unreadable told here now _ _ there stops does = absurd stops
+      by : (told : Told) (here now : Option Name) (answer : Result (List ℕ) ReadAnswer) (why : Unreadable)
+          → StopsByAnswer (total at.all) answer why → given ≡ at.first ++ Read file most_module_bytes answer ∷ []
+          → Does (Read file most_module_bytes answer) (Some m) here told now
+          → IsUnreadable most_module_bytes most_set_bytes (total at.all) m file why ⊎ ((why ≡ NotThere) × FailsLast file given)
+      by told here now (Err reading.Absent) NotThere stops calls does = inl does.0
+      by told here now (Err reading.Failed) NotThere stops calls does = inr (refl, (at.first, most_module_bytes, calls))
+      by told here now (Err reading.TooLong) TooLong stops calls does = inl does.0
+      by told here now (Ok bytes) (Past place) (long, is) calls does =
+          inl (bytes, does.0, does.3, omega (arith, long, at.together), is)
+      by told here now _ _ stops calls does = absurd stops
 
-  missing_job : (file : Name) → StopsAfter (inputs_of line) given file NotThere
-      → IsJobOf line m (Missing file) ⊎ FailsLast file given
-  missing_job file at =
-      let (last, read) = last_read file NotThere at in
-      by_answer last.0 last.1 last.2 at.answer at.stops at.calls last.3 read
-    where
-      by_answer : (told : Told) (here now : Option Name) (answer : Result (List ℕ) ReadAnswer)
-          → StopsByAnswer (total at.all) answer NotThere
-          → given ≡ at.first ++ Read file most_module_bytes answer ∷ [] → Does (Read file most_module_bytes answer) (Some m) here told now
-          → AreRead most_module_bytes most_set_bytes m at.front at.all → IsJobOf line m (Missing file) ⊎ FailsLast file given
-      by_answer told here now (Err reading.Absent) stops calls does read = inl (record {
-        front = at.front;
-        rest = at.rest;
-        all = at.all;
-        split = at.split;
-        read = read;
-        stops = does.0;
-      })
-      by_answer told here now (Err reading.Failed) stops calls does read = inr (at.first, most_module_bytes, calls)
-      by_answer told here now _ stops calls does read = absurd stops
+  missing_job : (file : Name) → StopsAfter (inputs_of line) given file NotThere → IsJobOf line m (Missing file) ⊎ FailsLast file given
+  missing_job file at = elim (stopped_job file NotThere at) [ inl stops ↦ inl stops | inr fails ↦ inr fails.1 ]
+
+  -- where the file is there
+  limit_job : (file : Name) (why : Unreadable) → (why ≡ NotThere → ⊥) → StopsAfter (inputs_of line) given file why
+      → StopsReading most_module_bytes most_set_bytes m (inputs_of line) file why
+  limit_job file why there at = elim (stopped_job file why at) [ inl stops ↦ stops | inr fails ↦ absurd (there fails.0) ]
 
   refused_job : (file : Name) (reason : Reason) → IsJobOver line given (Refused file reason) → IsJobOf line m (Refused file reason)
-  refused_job file reason (inl (inl (stops, is))) = inl (inl (stopped_job file TooLong (λ e. cc) stops, is))
-  refused_job file reason (inl (inr (place, stops, is))) = inl (inr (place, stopped_job file (Past place) (λ e. cc) stops, is))
+  refused_job file reason (inl (inl (stops, is))) = inl (inl (limit_job file TooLong (λ e. cc) stops, is))
+  refused_job file reason (inl (inr (place, stops, is))) = inl (inr (place, limit_job file (Past place) (λ e. cc) stops, is))
   refused_job file reason (inr (sources, read, first)) =
       inr (sources, sources_so (ReadsWhole (inputs_of line) given) (AreReadOf line m) all_held line sources read, first)
 
 -- ---- the words
 
--- what a call comes to, by its status
-data Came (words : List Name) (status : ℕ) (says : List ℕ → Type 0) (m : Contents) (new : Told) (events : List Event) : Type 0 where
-  HasNoLine : line_of words ≡ None → status ≡ 2 → new ≡ Some m → Came words status says m new events
-  CannotRead : (file : Name) → status ≡ 3 → says (read_line file) → new ≡ Some m → IsJob words m (Missing file) ⊎ FailsLast file events
-      → Came words status says m new events
-  Refuses : (file : Name) → (reason : Reason) → status ≡ 1 → says (refused_line file reason) → new ≡ Some m
-      → IsJob words m (Refused file reason) → Came words status says m new events
-  Finishes : (files : List (Name × List ℕ)) → status ≡ 0 → IsJob words m (Write files) → new ≡ written (Some m) files
-      → Came words status says m new events
-  BreaksOff : (file : Name) → (files : List (Name × List ℕ)) → status ≡ 4 → says (write_line file) → IsJob words m (Write files)
-      → StandsAt (Some m) new files file → Came words status says m new events
-  Wants : status ≡ 5 → StandsOfJob words m (Some m) new → Came words status says m new events
+-- what a call comes to, for each status from 0 on: the job's files stand whole, a file is refused, the words have no line, a file is not
+-- there or its read failed, a write of a file failed, or memory was wanting
+abbrev Came : List Name → (List ℕ → Type 0) → Contents → Told → List Event → ℕ → Type 0
+Came words says m new events status = get_or (
+    ((files : List (Name × List ℕ)) × IsJob words m (Write files) × (new ≡ written (Some m) files))
+    ∷ ((new ≡ Some m) × ((file : Name) × (reason : Reason) × says (refused_line file reason) × IsJob words m (Refused file reason)))
+    ∷ ((new ≡ Some m) × (line_of words ≡ None))
+    ∷ ((new ≡ Some m) × ((file : Name) × says (read_line file) × (IsJob words m (Missing file) ⊎ FailsLast file events)))
+    ∷ ((file : Name) × (files : List (Name × List ℕ)) × IsJob words m (Write files) × StandsAt (Some m) new files file
+    × says (write_line file))
+    ∷ StandsOfJob words m (Some m) new ∷ []) status ⊥
 
 module _ (words : List Name) (status : ℕ) (says : List ℕ → Type 0) (m : Contents) (new : Told)
     (call : PassesHonestly words status says m new) where
+  abbrev Comes : ℕ → Type 0
+  Comes = Came words says m new call.events
+
   on_line : (line : Line) → line_of words ≡ Some line → (p : PassesLine line status says call.events)
-      → AreHonest (p.given ++ p.put) (Some m) call.current new call.after → Came words status says m new call.events
+      → AreHonest (p.given ++ p.put) (Some m) call.current new call.after → Comes status
   on_line line found p honest = elim p.follows [
     | inl job ↦ on_job job.0 job.1 job.2
-    | inr memory ↦ Wants memory.0 (inl (same memory.1))
+    | inr memory ↦ subst Comes (sym memory.0) (inl (same memory.1))
   ]
     where
       same : p.put ≡ [] → new ≡ Some m
-      same none = none_put line m p.given p.put new call.current call.after p.reads honest none
+      same none = none_put line _ _ _ _ _ _ p.reads honest none
 
       of_words : (job : Job) → IsJobOf line m job → IsJob words m job
       of_words job of_line = is_job words line m job found of_line
 
       writes : (files : List (Name × List ℕ)) → IsJobOver line p.given (Write files) → IsJob words m (Write files)
       writes files job =
-          of_words (Write files) (written_job line m p.given p.put new call.current call.after p.reads honest files job)
+          of_words (Write files) (written_job line _ _ _ _ _ _ p.reads honest files job)
 
-      on_job : (job : Job) → IsJobOver line p.given job → Follows job status says p.put → Came words status says m new call.events
+      on_job : (job : Job) → IsJobOver line p.given job → Follows job status says p.put → Comes status
       on_job Usage job follows = absurd follows
-      on_job (Missing file) job (is, none, said) =
-          CannotRead file is said (same none) (elim (missing_job line m p.given p.put new call.current call.after p.reads honest file job) [
+      on_job (Missing file) job (is, none, said) = subst Comes (sym is) (
+        same none,
+        (
+          file,
+          said,
+          elim (missing_job line _ _ _ _ _ _ p.reads honest file job) [
             | inl of_line ↦ inl (of_words (Missing file) of_line)
             | inr (front, limit, calls) ↦ inr (
               front,
@@ -192,20 +183,38 @@ module _ (words : List Name) (status : ℕ) (says : List ℕ → Type 0) (m : Co
               p.split ∙ (λ i. calls i ++ none i)
                   ∙ append-nil (front ++ Read file limit (Err reading.Failed) ∷ []),
             )
-          ])
-      on_job (Refused file reason) job (is, none, said) = Refuses file reason is said (same none) (of_words (Refused file reason)
-          (refused_job line m p.given p.put new call.current call.after p.reads honest file reason job))
-      on_job (Write files) job (inl (is, wrote)) = Finishes files is (writes files job)
-          (whole_put line m p.given p.put new call.current call.after p.reads honest files wrote)
-      on_job (Write files) job (inr (inl (is, file, broken, said))) = BreaksOff file files is said (writes files job)
-          (broken_put line m p.given p.put new call.current call.after p.reads honest files file _ broken)
-      on_job (Write files) job (inr (inr (is, some))) = Wants is (inr (
+          ],
+        ),
+      )
+      on_job (Refused file reason) job (is, none, said) = subst Comes (sym is) (
+        same none,
+        (
+          file,
+          reason,
+          said,
+          of_words (Refused file reason)
+              (refused_job line _ _ _ _ _ _ p.reads honest file reason job),
+        ),
+      )
+      on_job (Write files) job (inl (is, wrote)) = subst Comes (sym is) (
         files,
         writes files job,
-        some_put line m p.given p.put new call.current call.after p.reads honest files some,
+        whole_put line _ _ _ _ _ _ p.reads honest files wrote,
+      )
+      on_job (Write files) job (inr (inl (is, file, broken, said))) = subst Comes (sym is) (
+        file,
+        files,
+        writes files job,
+        broken_put line _ _ _ _ _ _ p.reads honest files file _ broken,
+        said,
+      )
+      on_job (Write files) job (inr (inr (is, some))) = subst Comes (sym is) (inr (
+        files,
+        writes files job,
+        some_put line _ _ _ _ _ _ p.reads honest files some,
       ))
 
-  came : Came words status says m new call.events
+  pub came : Comes status
   came = by (line_of words) refl call.passes
     where
       no_calls : call.events ≡ [] → new ≡ Some m
@@ -213,103 +222,37 @@ module _ (words : List Name) (status : ℕ) (says : List ℕ → Type 0) (m : Co
 
       by : (o : Option Line) → line_of words ≡ o
           → MatchOption o ((call.events ≡ []) × (((status ≡ 2) × says usage_line) ⊎ (status ≡ 5)))
-          (λ line. PassesLine line status says call.events) → Came words status says m new call.events
-      by None is (nothing, inl (two, said)) = HasNoLine is two (no_calls nothing)
-      by None is (nothing, inr five) = Wants five (inl (no_calls nothing))
+          (λ line. PassesLine line status says call.events) → Comes status
+      by None is (nothing, inl (two, said)) = subst Comes (sym two) (no_calls nothing, is)
+      by None is (nothing, inr five) = subst Comes (sym five) (inl (no_calls nothing))
       by (Some line) is p =
           on_line line is p (subst (λ (es : List Event). AreHonest es (Some m) call.current new call.after) p.split call.honest)
 
   -- status 1 to 3: nothing has changed
   pub honest_untouched : (status ≡ 1) ⊎ (status ≡ 2) ⊎ (status ≡ 3) → new ≡ Some m
-  honest_untouched ends = by came
-    where
-      by : Came words status says m new call.events → new ≡ Some m
-      by (HasNoLine none is same) = same
-      by (CannotRead file is said same job) = same
-      by (Refuses file reason is said same job) = same
-      by (Finishes files is job whole) = absurd (omega (arith, is, ends))
-      by (BreaksOff file files is said job at) = absurd (omega (arith, is, ends))
-      by (Wants is stands) = absurd (omega (arith, is, ends))
-
-  -- status 0: the job's files stand whole
-  pub honest_done : status ≡ 0 → Done words (Some m) new
-  honest_done zero = λ contents told.
-      subst (λ (c : Contents). (files : List (Name × List ℕ)) × IsJob words c (Write files) × (new ≡ written (Some m) files))
-      (same_Some m contents told) (by came)
-    where
-      by : Came words status says m new call.events
-          → (files : List (Name × List ℕ)) × IsJob words m (Write files) × (new ≡ written (Some m) files)
-      by (HasNoLine none is same) = absurd (omega (arith, is, zero))
-      by (CannotRead file is said same job) = absurd (omega (arith, is, zero))
-      by (Refuses file reason is said same job) = absurd (omega (arith, is, zero))
-      by (Finishes files is job whole) = (files, job, whole)
-      by (BreaksOff file files is said job at) = absurd (omega (arith, is, zero))
-      by (Wants is stands) = absurd (omega (arith, is, zero))
-
-  -- status 4: the files in front of the one that is named stand
-  pub honest_write_fault : status ≡ 4 → (file : Name) × (files : List (Name × List ℕ)) × IsJob words m (Write files)
-      × StandsAt (Some m) new files file × says (write_line file)
-  honest_write_fault four = by came
-    where
-      by : Came words status says m new call.events → (file : Name) × (files : List (Name × List ℕ)) × IsJob words m (Write files)
-          × StandsAt (Some m) new files file × says (write_line file)
-      by (HasNoLine none is same) = absurd (omega (arith, is, four))
-      by (CannotRead file is said same job) = absurd (omega (arith, is, four))
-      by (Refuses file reason is said same job) = absurd (omega (arith, is, four))
-      by (Finishes files is job whole) = absurd (omega (arith, is, four))
-      by (BreaksOff file files is said job at) = (file, files, job, at, said)
-      by (Wants is stands) = absurd (omega (arith, is, four))
-
-  -- status 5: some of the job's files stand
-  pub honest_stands : status ≡ 5 → StandsOfJob words m (Some m) new
-  honest_stands five = by came
-    where
-      by : Came words status says m new call.events → StandsOfJob words m (Some m) new
-      by (HasNoLine none is same) = inl same
-      by (CannotRead file is said same job) = inl same
-      by (Refuses file reason is said same job) = inl same
-      by (Finishes files is job whole) = absurd (omega (arith, is, five))
-      by (BreaksOff file files is said job at) = absurd (omega (arith, is, five))
-      by (Wants is stands) = stands
-
-  -- status 1: the job is a refusal
-  pub honest_refused : status ≡ 1 → (file : Name) × (reason : Reason) × says (refused_line file reason)
-      × IsJob words m (Refused file reason)
-  honest_refused one = by came
-    where
-      by : Came words status says m new call.events → (file : Name) × (reason : Reason) × says (refused_line file reason)
-          × IsJob words m (Refused file reason)
-      by (HasNoLine none is same) = absurd (omega (arith, is, one))
-      by (CannotRead file is said same job) = absurd (omega (arith, is, one))
-      by (Refuses file reason is said same job) = (file, reason, said, job)
-      by (Finishes files is job whole) = absurd (omega (arith, is, one))
-      by (BreaksOff file files is said job at) = absurd (omega (arith, is, one))
-      by (Wants is stands) = absurd (omega (arith, is, one))
-
-  -- status 3: the file is not there, or its read failed
-  pub honest_missing : status ≡ 3 → (file : Name) × says (read_line file) × (IsJob words m (Missing file) ⊎ FailsLast file call.events)
-  honest_missing three = by came
-    where
-      by : Came words status says m new call.events
-          → (file : Name) × says (read_line file) × (IsJob words m (Missing file) ⊎ FailsLast file call.events)
-      by (HasNoLine none is same) = absurd (omega (arith, is, three))
-      by (CannotRead file is said same job) = (file, said, job)
-      by (Refuses file reason is said same job) = absurd (omega (arith, is, three))
-      by (Finishes files is job whole) = absurd (omega (arith, is, three))
-      by (BreaksOff file files is said job at) = absurd (omega (arith, is, three))
-      by (Wants is stands) = absurd (omega (arith, is, three))
+  honest_untouched (inl is) = (subst Comes is came).0
+  honest_untouched (inr (inl is)) = (subst Comes is came).0
+  honest_untouched (inr (inr is)) = (subst Comes is came).0
 
   -- any status: that of the job, unless a read or a write failed or memory was wanting
   pub honest_answered : (status ≡ 4) ⊎ (status ≡ 5) ⊎ ((file : Name) × FailsLast file call.events)
       ⊎ ((job : Job) × IsJob words m job × Answers job status)
-  honest_answered = by came
+  honest_answered = by status came
     where
-      by : Came words status says m new call.events → (status ≡ 4) ⊎ (status ≡ 5) ⊎ ((file : Name) × FailsLast file call.events)
-          ⊎ ((job : Job) × IsJob words m job × Answers job status)
-      by (HasNoLine none is same) = inr (inr (inr (Usage, usage_job words m none, is)))
-      by (CannotRead file is said same (inl job)) = inr (inr (inr (Missing file, job, is)))
-      by (CannotRead file is said same (inr fails)) = inr (inr (inl (file, fails)))
-      by (Refuses file reason is said same job) = inr (inr (inr (Refused file reason, job, is)))
-      by (Finishes files is job whole) = inr (inr (inr (Write files, job, is)))
-      by (BreaksOff file files is said job at) = inl is
-      by (Wants is stands) = inr (inl is)
+      by : (n : ℕ) → Comes n → (n ≡ 4) ⊎ (n ≡ 5) ⊎ ((file : Name) × FailsLast file call.events)
+          ⊎ ((job : Job) × IsJob words m job × Answers job n)
+      by zero (files, job, whole) = inr (inr (inr (Write files, job, refl)))
+      by (suc zero) (same, (file, reason, said, job)) = inr (inr (inr (Refused file reason, job, refl)))
+      by (suc (suc zero)) (same, none) = inr (inr (inr (Usage, usage_job words m none, refl)))
+      by (suc (suc (suc zero))) (same, (file, said, inl job)) = inr (inr (inr (Missing file, job, refl)))
+      by (suc (suc (suc zero))) (same, (file, said, inr fails)) = inr (inr (inl (file, fails)))
+      by (suc (suc (suc (suc zero)))) broken = inl refl
+      by (suc (suc (suc (suc (suc zero))))) stands = inr (inl refl)
+      by _ none = absurd none
+
+-- status 0: the job's files stand whole
+pub honest_done : (words : List Name) (says : List ℕ → Type 0) (m : Contents) (new : Told) → PassesHonestly words 0 says m new
+    → Done words (Some m) new
+honest_done words says m new call = λ contents told.
+    subst (λ (c : Contents). (files : List (Name × List ℕ)) × IsJob words c (Write files) × (new ≡ written (Some m) files))
+    (same_Some m contents told) (came words 0 says m new call)

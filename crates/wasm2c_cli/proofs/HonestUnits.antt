@@ -1,13 +1,13 @@
 -- The units that were put stand, where the files behave as files.
-use Rattle.wasm2c_cli.proofs.Common.{◌≡◌, ℕ, List, [], ◌∷◌, ◌++◌, Some, Option, refl, subst, inl, inr, Contents, HasFile, Name, Told, Event}
-use Rattle.wasm2c_cli.proofs.Common.{AreHonest, AreDistinct, HasText, Module, header_text_of, text_of, Line, line_of, runtime, AreReadOf}
-use Rattle.wasm2c_cli.proofs.Common.{files_of, IsUnitOf, PutsLinked, PutsLinkedUnits, ReadsWhole, Target, inputs_of, names_of_targets}
-use Rattle.wasm2c_cli.proofs.Common.{targets_of, DoTheSameWithOthers, HoldAll, HoldsText, HoldsUnit, StandAll, WritesLinkedUnits}
-use Rattle.wasm2c_cli.proofs.Common.{WritesUnits, texts_made, same_Some}
+use Rattle.wasm2c_cli.proofs.Common.{◌≡◌, ℕ, List, [], ◌∷◌, ◌++◌, Some, Option, refl, subst, inl, inr, same_Some, Contents, HasFile, Name}
+use Rattle.wasm2c_cli.proofs.Common.{Told, Event, AreHonest, AreDistinct, HasText, Module, header_text_of, text_of, Line, line_of, runtime}
+use Rattle.wasm2c_cli.proofs.Common.{AreReadOf, files_of, IsUnitOf, PutsLinked, PutsLinkedUnits, ReadsWhole, Target, inputs_of}
+use Rattle.wasm2c_cli.proofs.Common.{names_of_targets, targets_of, DoTheSameWithOthers, HoldAll, HoldsText, HoldsUnit, StandAll}
+use Rattle.wasm2c_cli.proofs.Common.{WritesLinkedUnits, WritesUnits, texts_made}
 use Rattle.wasm2c_cli.proofs.HonestTop.{all_held, sources_so, whole_put}
 use Rattle.wasm2c_cli.proofs.JobLaws.{files_distinct}
 use Rattle.wasm2c_cli.proofs.Passed.{distinct_outputs, passed}
-use Rattle.wasm2c_cli.proofs.TopLaws.{all_there, hold_weaker}
+use Rattle.wasm2c_cli.proofs.TopLaws.{all_there, texts_stand}
 
 -- the files of modules whose units were put
 units_hold : (new : Told) (targets : List Target) (sources : List (List ℕ)) (modules : List Module)
@@ -47,15 +47,6 @@ module _ (words : List Name) (line : Line) (is : line_of words ≡ Some line) (m
         puts.files));
   }
 
-  abbrev texts_stand : StandAll (HoldsText new) line m
-  texts_stand = record {
-    sources = puts.stand.sources;
-    modules = puts.stand.modules;
-    read = units_stand.read;
-    all = hold_weaker (HoldsUnit new) (HoldsText new) (λ t bytes tree held. held.text) (targets_of line) puts.stand.sources
-        puts.stand.modules units_stand.all;
-  }
-
 pub honest_units : (words : List Name) (events : List Event) (m : Contents) (new : Told) (current after : Option Name)
     → PutsLinkedUnits words events → AreHonest events (Some m) current new after → WritesUnits words (Some m) new
 honest_units words events m new current after (line, is, puts) honest = λ contents told.
@@ -67,4 +58,4 @@ pub honest_linked : (words : List Name) (events : List Event) (m : Contents) (ne
 honest_linked words events m new current after (line, is, puts) honest = λ contents told.
     subst (λ (c : Contents). (line : Line) × (line_of words ≡ Some line) × (stand : StandAll (HoldsText new) line c)
     × DoTheSameWithOthers (texts_made (targets_of line) stand.sources stand.modules)) (same_Some m contents told)
-    (line, is, texts_stand words line is m new current after events puts honest, puts.same)
+    (line, is, texts_stand new line m (units_stand words line is m new current after events puts honest), puts.same)

@@ -1,15 +1,15 @@
 -- Words ask for at most one job, and the files of a job have distinct names.
-use Rattle.wasm2c_cli.proofs.Common.{◌≡◌, ℕ, ◌⊎◌, List, [], ◌∷◌, ◌++◌, Some, None, Option, MatchOption, sym, refl, ap, ◌∙◌, subst, inl, inr}
-use Rattle.wasm2c_cli.proofs.Common.{Contents, Name, Event, NotThere, Past, StopsReading, TooLong, Unreadable, AreDistinct, IsOneOf}
-use Rattle.wasm2c_cli.proofs.Common.{file_names, Module, most_module_bytes, Line, generate, line_of, runtime, set, translate, AreReadOf}
-use Rattle.wasm2c_cli.proofs.Common.{AreSourcesBy, IsJob, IsJobBy, IsJobOf, Job, Missing, Refused, Translates, TranslatesBy, Usage, Write}
-use Rattle.wasm2c_cli.proofs.Common.{Writes, WritesBy, files_of, HasPassed, IsJobOver, ReadsWhole, StopsAfter, Target, inputs_of}
-use Rattle.wasm2c_cli.proofs.Common.{most_set_bytes, names_of_targets, targets_of, IsFirstRefused, PassesLimitBy, Reason}
+use Rattle.wasm2c_cli.proofs.Common.{◌≡◌, ℕ, ◌⊎◌, List, [], ◌∷◌, Some, None, Option, MatchOption, sym, refl, ap, ◌∙◌, subst, inl, inr}
+use Rattle.wasm2c_cli.proofs.Common.{Contents, Name, Event, NotThere, StopsReading, Unreadable, AreDistinct, IsOneOf, file_names}
+use Rattle.wasm2c_cli.proofs.Common.{most_module_bytes, Module, Line, generate, line_of, runtime, AreReadOf, AreSourcesBy, IsJob, IsJobBy}
+use Rattle.wasm2c_cli.proofs.Common.{IsJobOf, Job, Missing, Refused, Translates, TranslatesBy, Usage, Write, Writes, WritesBy, files_of}
+use Rattle.wasm2c_cli.proofs.Common.{HasPassed, IsJobOver, ReadsWhole, StopsAfter, Target, inputs_of, most_set_bytes, names_of_targets}
+use Rattle.wasm2c_cli.proofs.Common.{targets_of, IsFirstRefused, PassesLimitBy, Reason}
 use Rattle.w2c_gen.proofs.Formed.{one_file}
 use Rattle.wasm2c_cli.proofs.ModuleFiles.{one_of_targets}
 use Rattle.wasm2c_cli.proofs.OneReading.{contents_end, EndsOnce, reads_end}
 use Rattle.wasm2c_cli.proofs.Passed.{passed, distinct_outputs}
-use Rattle.wasm2c_cli.proofs.ReasonLaws.{accepted_not_first, one_first_refused, one_limit, limit_not_missing, one_modules}
+use Rattle.wasm2c_cli.proofs.ReasonLaws.{accepted_not_first, one_first_refused, one_limit, limit_not_missing, one_modules, over}
 
 -- Below, reading the files of a line ends in one way: `S` says where it stops, and `R` what it gives.
 
@@ -18,34 +18,30 @@ use Rattle.wasm2c_cli.proofs.ReasonLaws.{accepted_not_first, one_first_refused, 
 -- a line whose modules' bytes are had reads all its files
 stop_not_sources : (line : Line) (S : Name → Unreadable → Type 0) (R : List (List ℕ) → Type 0) → EndsOnce (inputs_of line) S R
     → (file : Name) (why : Unreadable) (sources : List (List ℕ)) → S file why → AreSourcesBy R line sources → ⊥
-stop_not_sources (translate t) S R ends file why sources s read = ends.stops_or_reads file why sources s read
-stop_not_sources (set l) S R ends file why sources s read = ends.stops_or_reads file why sources s read
 stop_not_sources (generate g) S R ends file why sources s made = ends.none_stops file why refl s
 stop_not_sources (runtime dir) S R ends file why sources s none = ends.none_stops file why refl s
+stop_not_sources line S R ends file why sources s read = ends.stops_or_reads file why sources s read
 
 same_sources : (line : Line) (S : Name → Unreadable → Type 0) (R : List (List ℕ) → Type 0) → EndsOnce (inputs_of line) S R
     → (sources others : List (List ℕ)) → HasPassed line → AreSourcesBy R line sources → AreSourcesBy R line others → sources ≡ others
-same_sources (translate t) S R ends sources others p r s = ends.same_read sources others r s
-same_sources (set l) S R ends sources others p r s = ends.same_read sources others r s
 same_sources (generate g) S R ends sources others p r s =
     let made : r.0 ≡ s.0 = one_file g.count r.0 s.0 p.3 r.1 s.1 in
     r.2 ∙ ap (λ (bytes : List ℕ). bytes ∷ []) made ∙ sym s.2
 same_sources (runtime dir) S R ends sources others p r s = r ∙ sym s
+same_sources line S R ends sources others p r s = ends.same_read sources others r s
 
 -- what is written is what is translated, or the runtime
 translated_or_not : {C : Type 0} (line : Line) (R : List (List ℕ) → Type 0) (files : List (Name × List ℕ)) → WritesBy R line files
     → (TranslatesBy R line files → C) → ((dir : Name) → line ≡ runtime dir → C) → C
-translated_or_not (translate t) R files w by_files by_runtime = by_files w
-translated_or_not (set s) R files w by_files by_runtime = by_files w
-translated_or_not (generate g) R files w by_files by_runtime = by_files w
 translated_or_not (runtime dir) R files w by_files by_runtime = by_runtime dir refl
+translated_or_not line R files w by_files by_runtime = by_files w
 
 module _ (line : Line) (S : Name → Unreadable → Type 0) (R : List (List ℕ) → Type 0) (ends : EndsOnce (inputs_of line) S R)
     (p : HasPassed line) where
   limit_not_sources : (file : Name) (reason : Reason) (sources : List (List ℕ)) → PassesLimitBy (S file) reason
       → AreSourcesBy R line sources → ⊥
-  limit_not_sources file reason sources (inl long) read = stop_not_sources line S R ends file TooLong sources long.0 read
-  limit_not_sources file reason sources (inr past) read = stop_not_sources line S R ends file (Past past.0) sources past.1 read
+  limit_not_sources file reason sources limit read =
+      let (why, s, for) = over (S file) reason limit in stop_not_sources line S R ends file why sources s read
 
   -- ---- what is written
 
@@ -61,8 +57,8 @@ module _ (line : Line) (S : Name → Unreadable → Type 0) (R : List (List ℕ)
 
   limit_not_written : (file : Name) (reason : Reason) (files : List (Name × List ℕ)) → PassesLimitBy (S file) reason
       → WritesBy R line files → ⊥
-  limit_not_written file reason files (inl long) w = stop_not_written file TooLong files long.0 w
-  limit_not_written file reason files (inr past) w = stop_not_written file (Past past.0) files past.1 w
+  limit_not_written file reason files limit w =
+      let (why, s, for) = over (S file) reason limit in stop_not_written file why files s w
 
   refused_not_written : (sources : List (List ℕ)) (file : Name) (reason : Reason) (files : List (Name × List ℕ))
       → AreSourcesBy R line sources → IsFirstRefused (inputs_of line) sources file reason → WritesBy R line files → ⊥
@@ -116,10 +112,8 @@ module _ (line : Line) (S : Name → Unreadable → Type 0) (R : List (List ℕ)
 
 same_files : (line : Line) (S : Name → Unreadable → Type 0) (R : List (List ℕ) → Type 0) → EndsOnce (inputs_of line) S R → HasPassed line
     → (files others : List (Name × List ℕ)) → WritesBy R line files → WritesBy R line others → files ≡ others
-same_files (translate t) S R ends p files others w v = same_translation (translate t) S R ends p files others w v
-same_files (set s) S R ends p files others w v = same_translation (set s) S R ends p files others w v
-same_files (generate g) S R ends p files others w v = same_translation (generate g) S R ends p files others w v
 same_files (runtime dir) S R ends p files others w v = w ∙ sym v
+same_files line S R ends p files others w v = same_translation line S R ends p files others w v
 
 pub one_line_job : (line : Line) (S : Name → Unreadable → Type 0) (R : List (List ℕ) → Type 0) → EndsOnce (inputs_of line) S R
     → HasPassed line → (job other : Job) → IsJobBy S R line job → IsJobBy S R line other → job ≡ other
@@ -165,14 +159,11 @@ distinct_of_line : (line : Line) (contents : Contents) (files : List (Name × Li
 distinct_of_line (runtime dir) contents files p w = rw w (distinct_outputs (runtime dir) p)
 distinct_of_line line contents files p w = translated_distinct line contents files (distinct_outputs line p) w
 
-no_usage : (files : List (Name × List ℕ)) → Write files ≡ Usage → ⊥
-no_usage files e = cc
-
 pub distinct_files : (words : List Name) (contents : Contents) (files : List (Name × List ℕ)) → IsJob words contents (Write files)
     → AreDistinct (file_names files)
 distinct_files words contents files job = by_line (line_of words) refl job
   where
     by_line : (line : Option Line) → line_of words ≡ line → MatchOption line (Write files ≡ Usage) (λ l. IsJobOf l contents (Write files))
         → AreDistinct (file_names files)
-    by_line None is e = absurd (no_usage files e)
+    by_line None is e = absurd cc
     by_line (Some line) is w = distinct_of_line line contents files (passed words line is) w

@@ -1,20 +1,39 @@
 -- What the stop of each form says of its line's job.
 use Rattle.wasm2c_cli.proofs.Common.{◌≡◌, ℕ, List, [], ◌∷◌, length, IfOk, IfErr, OnOk, Some, Ok, Err, string_bytes, Option, Result, refl}
-use Rattle.wasm2c_cli.proofs.Common.{ap, ◌∙◌, inl, inr, IfErr-weaker, IfOk-weaker, Contents, Name, Told, is_one, written, Module, AreBytes}
-use Rattle.wasm2c_cli.proofs.Common.{Generation, Line, generate, line_of, runtime, Translates, files_of, module_files, AreAllTaken}
-use Rattle.wasm2c_cli.proofs.Common.{FinishesLine, FinishesWork, HasPassed, IsGenerated, IsTakenFile, StopsTranslating, StopsWriting}
-use Rattle.wasm2c_cli.proofs.Common.{inputs_of, target, targets_of, runtime_files, KeepsCurrent, StopsLine, StopsWork, Stop, Finished}
+use Rattle.wasm2c_cli.proofs.Common.{ap, ◌∙◌, subst, inl, inr, IfErr-weaker, IfOk-weaker, Contents, Name, Told, is_one, written, Module}
+use Rattle.wasm2c_cli.proofs.Common.{Generation, Line, generate, line_of, runtime, AreReadOf, Translates, TranslatesBy, files_of}
+use Rattle.wasm2c_cli.proofs.Common.{module_files, AreAllTaken, FinishesLine, FinishesWork, HasPassed, IsGenerated, IsNamed, IsTakenFile}
+use Rattle.wasm2c_cli.proofs.Common.{StopsTranslating, StopsWriting, inputs_of, target, targets_of, runtime_files, KeepsCurrent, StopsLine}
+use Rattle.wasm2c_cli.proofs.Common.{StopsWork, Stop, Finished}
 use Rattle.wasm2c_cli.specs.declared.stop.Stop.TheVariants as stops
 use Rattle.wasm2c_cli.specs.declared.work.Finished.TheVariants as finished
+use Rattle.wasm2c_cli.specs.Plan as plan
 use Rattle.wasm2c_cli.proofs.ModuleFiles.{one_of_targets}
 
--- the files of a generated module that is taken
+-- ---- a generated module, whose files have the names of its target
+
+pub generated_by : (Reads : List (List ℕ) → Type 0) (g : Generation) (bytes : List ℕ) (m : Module) → IsTakenFile g bytes m
+    → TranslatesBy Reads (generate g) (module_files (target g.output g.module_name) m)
+generated_by Reads g bytes m taken = record {
+  sources = bytes ∷ [];
+  modules = m ∷ [];
+  read = (bytes, taken.file, refl);
+  accepted = (taken.accepted, tt);
+  written = refl;
+}
+
 pub all_generated : (old new : Told) (g : Generation) (bytes : List ℕ) (m : Module) (r : Result Unit Stop) → IsTakenFile g bytes m
-    → AreBytes g.module_name → OnOk r (new ≡ written old (module_files (target g.output g.module_name) m))
+    → (t : plan.Target) → t ≡ target g.output g.module_name → IsNamed t → OnOk r (new ≡ written old (module_files t m))
     → OnOk r (IsGenerated g (length bytes) old new)
-all_generated old new g bytes m (Ok done) taken named stand =
-    record { bytes = bytes; generated = m; taken = taken; many = refl; named = named; stand = stand }
-all_generated old new g bytes m (Err stop) taken named stand = stand
+all_generated old new g bytes m (Ok done) taken t is named stand = record {
+  bytes = bytes;
+  generated = m;
+  taken = taken;
+  many = refl;
+  named = subst IsNamed is named;
+  stand = stand ∙ ap (λ (t : plan.Target). written old (module_files t m)) is;
+}
+all_generated old new g bytes m (Err stop) taken t is named stand = stand
 
 -- a line of files that are read: of one file, and of a set
 abbrev pub IsOfFiles : Line → Type 0
@@ -56,16 +75,6 @@ module _ (old new : Told) (r r' w w' : ℕ) (named : Option Name) where
 
   -- ---- a generated module
 
-  generates : (g : Generation) (contents : Contents) (bytes : List ℕ) (m : Module) → IsTakenFile g bytes m
-      → Translates (generate g) contents (module_files (target g.output g.module_name) m)
-  generates g contents bytes m taken = record {
-    sources = bytes ∷ [];
-    modules = m ∷ [];
-    read = (bytes, taken.file, refl);
-    accepted = (taken.accepted, tt);
-    written = refl;
-  }
-
   generating_stops : (g : Generation) (bytes : List ℕ) (m : Module) → IsTakenFile g bytes m → (stop : Stop)
       → StopsWriting old new (module_files (target g.output g.module_name) m) w w' named stop
       → StopsLine (generate g) old new r r' w w' named stop
@@ -73,16 +82,17 @@ module _ (old new : Told) (r r' w w' : ℕ) (named : Option Name) where
     one_of_targets (target g.output g.module_name ∷ []) (m ∷ []) (string_bytes name)
         (is_one old new (module_files (target g.output g.module_name) m) (string_bytes name) stands),
     faulted,
-    λ contents tells. (module_files (target g.output g.module_name) m, generates g contents bytes m taken, stands),
+    λ contents tells. (_, generated_by (AreReadOf (generate g) contents) g bytes m taken, stands),
   )
   generating_stops g bytes m taken stops.Memory stands =
-      λ contents tells. inr (module_files (target g.output g.module_name) m, generates g contents bytes m taken, stands)
+      λ contents tells. inr (_, generated_by (AreReadOf (generate g) contents) g bytes m taken, stands)
   generating_stops g bytes m taken _ why = absurd why
 
   pub all_stopped : {A : Type 0} (g : Generation) (bytes : List ℕ) (m : Module) (result : Result A Stop) → IsTakenFile g bytes m
-      → IfErr result (StopsWriting old new (module_files (target g.output g.module_name) m) w w' named)
+      → (t : plan.Target) → t ≡ target g.output g.module_name → IfErr result (StopsWriting old new (module_files t m) w w' named)
       → IfErr result (StopsLine (generate g) old new r r' w w' named)
-  all_stopped g bytes m result taken = IfErr-weaker result _ _ (generating_stops g bytes m taken)
+  all_stopped g bytes m result taken t is why = IfErr-weaker result _ _ (generating_stops g bytes m taken)
+      (subst (λ (t : plan.Target). IfErr result (StopsWriting old new (module_files t m) w w' named)) is why)
 
   -- ---- the runtime
 

@@ -1,11 +1,10 @@
 -- The files of modules, one module after another.
-use Rattle.wasm2c_cli.proofs.Common.{◌≡◌, ℕ, zero, suc, ◌+◌, ◌<◌, ◌≤◌, List, [], ◌∷◌, ◌++◌, map, length, take, drop, OnOk, OnErr, slice_get}
-use Rattle.wasm2c_cli.proofs.Common.{slice_index_or, Some, Ok, Err, string_bytes, Option, Result, sym, refl, ap, ◌∙◌, subst, inl, inr}
-use Rattle.wasm2c_cli.proofs.Common.{arith, AllByRecursion, take_next, both_passed, Faulted, Name, Told, holding, Event, Passes}
-use Rattle.wasm2c_cli.proofs.Common.{WriteAnswer, both_written, at_before, at_behind, at_first, stands_before, stands_behind}
-use Rattle.wasm2c_cli.proofs.Common.{written_joined, WritesFiles, IsBegun, IsOneOf, Stands, StandsAt, file_names, written, Module, files_of}
-use Rattle.wasm2c_cli.proofs.Common.{module_files, IsNamed, StopsAtFile, StopsWriting, seen_target, seen_targets, EndsWriting}
-use Rattle.wasm2c_cli.proofs.Common.{names_of_targets, Stop}
+use Rattle.wasm2c_cli.proofs.Common.{◌≡◌, ℕ, suc, ◌+◌, ◌≤◌, List, [], ◌∷◌, ◌++◌, map, length, take, drop, OnOk, OnErr, slice_get, Some, Ok}
+use Rattle.wasm2c_cli.proofs.Common.{Err, string_bytes, Option, Result, sym, refl, ap, ◌∙◌, subst, inl, inr, arith, AllByRecursion}
+use Rattle.wasm2c_cli.proofs.Common.{take_next, both_passed, Faulted, Name, Told, holding, Event, Passes, WriteAnswer, both_written}
+use Rattle.wasm2c_cli.proofs.Common.{at_before, at_behind, at_first, stands_before, stands_behind, written_joined, WritesFiles, IsBegun}
+use Rattle.wasm2c_cli.proofs.Common.{IsOneOf, Stands, StandsAt, file_names, written, Module, files_of, module_files, IsNamed, StopsAtFile}
+use Rattle.wasm2c_cli.proofs.Common.{StopsWriting, seen_target, seen_targets, EndsWriting, names_of_targets, Stop}
 use Rattle.w2c_io.specs.declared.answers.WriteAnswer.TheVariants as answers
 use Rattle.w2c_io.proofs.Telling.{rose_from}
 use Rattle.wasm2c_cli.specs.declared.plan.Target.{Target}
@@ -14,6 +13,7 @@ use Rattle.wasm2c_cli.specs.Plan as plan
 use Rattle.wasm2c_cli.proofs.Passing.{ends_among}
 use Rattle.std.proofs.Common.{min, take_all}
 use Rattle.std.proofs.lemmas.List.{length-map, length-take, map_push}
+use Rattle.w2c_base.proofs.OfEach.{all_push}
 use Rattle.w2c_base.proofs.Places.{around, seen_at}
 
 -- ---- what holds, whatever the answer
@@ -112,36 +112,11 @@ module _ (targets : List plan.Target) (modules : List Module) (k : ℕ) (t : pla
         (λ first last whole ends.
         ends_among (files_of (take k targets) (take k modules)) (module_files t m) rest first last stop whole ends) so_far tried)
 
--- ---- what code has at a place
-
-pub target_at : (ts : List Target) (k : ℕ) (t : Target) → k < length ts → t ≡ slice_index_or ts k t
-    → slice_get (seen_targets ts) k ≡ Some (seen_target t)
-target_at [] k t within is = absurd (omega arith)
-target_at (x ∷ ts) zero t within is = λ i. Some (seen_target (sym is i))
-target_at (x ∷ ts) (suc k) t within is = target_at ts k t (omega arith) is
-
-pub module_at : (ms : List Module) (k : ℕ) (m : Module) → k < length ms → m ≡ slice_index_or ms k m → slice_get ms k ≡ Some m
-module_at [] k m within is = absurd (omega arith)
-module_at (x ∷ ms) zero m within is = λ i. Some (sym is i)
-module_at (x ∷ ms) (suc k) m within is = module_at ms k m (omega arith) is
-
-pub length-targets : (ts : List Target) → length (seen_targets ts) ≡ length ts
-length-targets [] = refl
-length-targets (t ∷ ts) = ap suc (length-targets ts)
-
-pub target_has : (P : plan.Target → Type 0) (ts : List plan.Target) (k : ℕ) (t : plan.Target) → slice_get ts k ≡ Some t
-    → AllByRecursion P ts → P t
-target_has P [] k t at all = cc
-target_has P (x ∷ ts) zero t at all = let same : x ≡ t = cc in subst P same all.0
-target_has P (x ∷ ts) (suc k) t at all = target_has P ts k t at all.1
-
-named_joined : (ts : List plan.Target) (t : plan.Target) → AllByRecursion IsNamed ts → IsNamed t → AllByRecursion IsNamed (ts ++ t ∷ [])
-named_joined [] t all one = (one, tt)
-named_joined (x ∷ ts) t all one = (all.0, named_joined ts t all.1 one)
+-- ---- what holds of each
 
 pub named_more : (ts : List plan.Target) (k : ℕ) (t : plan.Target) → slice_get ts k ≡ Some t → AllByRecursion IsNamed (take k ts)
     → IsNamed t → AllByRecursion IsNamed (take (k + 1) ts)
-named_more ts k t at all one = rw (take_next ts k t at) (named_joined (take k ts) t all one)
+named_more ts k t at all one = rw (take_next ts k t at) (all_push IsNamed (take k ts) t all one)
 
 -- ---- the names of the files
 
@@ -155,14 +130,11 @@ one_of_targets (t ∷ ts) (m ∷ ms) name (inr (inr one)) = inr (inr (one_of_tar
 
 -- ---- the targets of a set
 
-pub seen_more : (ts more : List Target) (t : Target) → more ≡ ts ++ t ∷ [] → seen_targets more ≡ seen_targets ts ++ seen_target t ∷ []
-seen_more ts more t same = ap seen_targets same ∙ map_push seen_target ts t
-
 pub one_more_target : (f : Name → plan.Target) (names : List Name) (k : ℕ) (name : Name) (ts more : List Target) (t : Target)
     → slice_get names k ≡ Some name → seen_targets ts ≡ take k (map f names) → seen_target t ≡ f name → more ≡ ts ++ t ∷ []
     → seen_targets more ≡ take (k + 1) (map f names)
 one_more_target f names k name ts more t at so_far is same =
-    seen_more ts more t same ∙ (λ i. so_far i ++ is i ∷ [])
+    ap seen_targets same ∙ map_push seen_target ts t ∙ (λ i. so_far i ++ is i ∷ [])
     ∙ sym (take_next (map f names) k (f name) (seen_at f names k name at))
 
 pub all_targets : (f : Name → plan.Target) (names : List Name) (k : ℕ) (ts : List Target) → k ≡ length names

@@ -1,5 +1,5 @@
 -- Reading files ends in one way: they all give bytes, or it stops at one of them.
-use Rattle.wasm2c_cli.proofs.Common.{◌≡◌, ℕ, ◌+◌, ◌≤◌, List, [], ◌∷◌, ◌++◌, length, Ok, Err, Result, sym, refl, ap, ◌∙◌, subst, arith}
+use Rattle.wasm2c_cli.proofs.Common.{◌≡◌, ℕ, ◌+◌, ◌-◌, ◌≤◌, List, [], ◌∷◌, ◌++◌, length, Ok, Err, Result, sym, refl, ap, ◌∙◌, subst, arith}
 use Rattle.wasm2c_cli.proofs.Common.{Contents, Name, Event, Read, ReadAnswer, AreRead, NotThere, Past, StopsReading, TooLong, Unreadable}
 use Rattle.wasm2c_cli.proofs.Common.{total, most_module_bytes, ReadsWhole, StopsAfter, StopsByAnswer, most_set_bytes}
 use Rattle.w2c_io.specs.declared.answers.ReadAnswer.TheVariants as reading
@@ -30,28 +30,19 @@ contents_end contents names = record {
 
 -- ---- by what the reads gave
 
-one_reason : (before : ℕ) (answer : Result (List ℕ) ReadAnswer) (why reason : Unreadable) → StopsByAnswer before answer why
-    → StopsByAnswer before answer reason → why ≡ reason
-one_reason before (Ok bytes) NotThere reason s t = absurd s
-one_reason before (Ok bytes) TooLong reason s t = absurd s
-one_reason before (Ok bytes) (Past place) NotThere s t = absurd t
-one_reason before (Ok bytes) (Past place) TooLong s t = absurd t
-one_reason before (Ok bytes) (Past place) (Past other) s t = ap Past (s.1 ∙ sym t.1)
-one_reason before (Err reading.Absent) NotThere NotThere s t = refl
-one_reason before (Err reading.Absent) NotThere TooLong s t = absurd t
-one_reason before (Err reading.Absent) NotThere (Past other) s t = absurd t
-one_reason before (Err reading.Absent) TooLong reason s t = absurd s
-one_reason before (Err reading.Absent) (Past place) reason s t = absurd s
-one_reason before (Err reading.Failed) NotThere NotThere s t = refl
-one_reason before (Err reading.Failed) NotThere TooLong s t = absurd t
-one_reason before (Err reading.Failed) NotThere (Past other) s t = absurd t
-one_reason before (Err reading.TooLong) TooLong TooLong s t = refl
-one_reason before (Err reading.TooLong) TooLong NotThere s t = absurd t
-one_reason before (Err reading.TooLong) TooLong (Past other) s t = absurd t
-one_reason before (Err reading.TooLong) NotThere reason s t = absurd s
-one_reason before (Err reading.Memory) NotThere reason s t = absurd s
-one_reason before (Err _) TooLong reason s t = absurd s
-one_reason before (Err _) (Past place) reason s t = absurd s
+-- an answer stops the reading for one reason
+abbrev reason_of : ℕ → Result (List ℕ) ReadAnswer → Unreadable
+reason_of before (Ok bytes) = Past (most_set_bytes - before)
+reason_of before (Err reading.TooLong) = TooLong
+reason_of before (Err _) = NotThere
+
+is_reason : (before : ℕ) (answer : Result (List ℕ) ReadAnswer) (why : Unreadable) → StopsByAnswer before answer why
+    → why ≡ reason_of before answer
+is_reason before (Ok bytes) (Past place) s = ap Past s.1
+is_reason before (Err reading.TooLong) TooLong s = refl
+is_reason before (Err reading.Absent) NotThere s = refl
+is_reason before (Err reading.Failed) NotThere s = refl
+is_reason before _ _ s = absurd s
 
 -- a read that gave bytes with room does not stop the reading
 room : (before : ℕ) (bytes : List ℕ) (answer : Result (List ℕ) ReadAnswer) (why : Unreadable) → answer ≡ Ok bytes
@@ -71,7 +62,7 @@ module _ (given : List Event) (names : List Name) where
       let answers = one_answer file other most_module_bytes s.answer t.answer last.1 in
       let all = one_given most_module_bytes s.front t.front s.all t.all s.first s.read (rw last.0 t.read) in (
         answers.0,
-        one_reason (total t.all) t.answer why reason (rw (all, answers.1) at s.stops) t.stops,
+        is_reason (total t.all) t.answer why (rw (all, answers.1) at s.stops) ∙ sym (is_reason (total t.all) t.answer reason t.stops),
       )
 
   after_or_whole : (file : Name) (why : Unreadable) (all : List (List ℕ)) → StopsAfter names given file why → ReadsWhole names given all → ⊥

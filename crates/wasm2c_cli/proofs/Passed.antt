@@ -1,11 +1,10 @@
 -- What a line has passed, and what follows of the modules and files that it asks for.
-use Rattle.wasm2c_cli.proofs.Common.{◌≡◌, ℕ, ◌≤◌, Bool, true, false, ◌&&◌, ◌||◌, List, [], ◌∷◌, ◌++◌, map, length, get_or, if◌then◌else◌}
-use Rattle.wasm2c_cli.proofs.Common.{IsTrue, nat_le, Some, None, codes, Option, option_and_then, bytes_eq, unwrap_or, sym, refl, ap, ◌∙◌}
-use Rattle.wasm2c_cli.proofs.Common.{subst, inl, inr, arith, leb-true, append_cancel_left, AllByRecursion, list_all, list_any, Name}
-use Rattle.wasm2c_cli.proofs.Common.{AreDistinct, IsOneOf, FileSet, Generation, Line, Translation, are_names, count_of, generate}
-use Rattle.wasm2c_cli.proofs.Common.{generation, in_range, is_set, line_by, line_of, line_of_values, line_with_count, line_with_dir}
-use Rattle.wasm2c_cli.proofs.Common.{line_with_output, line_with_runtime, runtime, set, translate, translation, HasName, HasPassed}
-use Rattle.wasm2c_cli.proofs.Common.{names_of_targets, outputs_of, target_in}
+use Rattle.wasm2c_cli.proofs.Common.{◌≡◌, ℕ, ◌≤◌, Bool, true, false, ◌&&◌, List, [], ◌∷◌, ◌++◌, map, length, get_or, if◌then◌else◌, IsTrue}
+use Rattle.wasm2c_cli.proofs.Common.{nat_le, Some, None, codes, Option, option_and_then, bytes_eq, unwrap_or, sym, refl, ap, subst, inl}
+use Rattle.wasm2c_cli.proofs.Common.{inr, arith, leb-true, append_cancel_left, AllByRecursion, list_all, list_any, Name, AreDistinct}
+use Rattle.wasm2c_cli.proofs.Common.{IsOneOf, FileSet, Generation, Line, Translation, are_names, count_of, generate, generation, in_range}
+use Rattle.wasm2c_cli.proofs.Common.{is_set, line_by, line_of, line_of_values, line_with_dir, runtime, set, translate, translation, HasName}
+use Rattle.wasm2c_cli.proofs.Common.{HasPassed, names_of_targets, outputs_of, target_in}
 use Rattle.std.specs.Str.Parse.{digits_value}
 use Rattle.std.proofs.lemmas.Bool.{not-true, or_parts}
 use Rattle.w2c_base.proofs.Conjunctions.{both_hold}
@@ -43,15 +42,8 @@ translation_passed input output name line is =
     let parts = both_hold _ _ passed.0 in
     subst HasPassed passed.1 (parts.0, fit_name name parts.1)
 
-output_passed : (output : Name) (name : Option (List ℕ)) (files : List Name) (line : Line) → line_with_output output name files ≡ Some line
-    → HasPassed line
-output_passed output name (input ∷ []) line is = translation_passed input output (unwrap_or name (module_name_of input)) line is
-output_passed output name _ line is = absurd (cc)
-
-dir_passed : (dir : Name) (name : Option (List ℕ)) (files : List Name) (line : Line) → line_with_dir dir name files ≡ Some line
-    → HasPassed line
-dir_passed dir (Some name) files line is = absurd (cc)
-dir_passed dir None files line is =
+set_passed : (dir : Name) (files : List Name) (line : Line) → line_with_dir dir None files ≡ Some line → HasPassed line
+set_passed dir files line is =
     let s : FileSet = record { dir = dir; inputs = files } in
     let passed = given (is_set files) (set s) line is in
     let parts = both_hold _ _ passed.0 in
@@ -83,26 +75,17 @@ generation_passed (Some count) output name line fits is =
     let fit = fits count refl in
     subst HasPassed passed.1 (parts.0, fit_name name parts.1, fit.0, fit.1)
 
-count_passed : (count : List ℕ) (output : Name) (name : Option (List ℕ)) (files : List Name) (line : Line)
-    → line_with_count count output name files ≡ Some line → HasPassed line
-count_passed count output name [] line is =
-    generation_passed (count_of count) output (unwrap_or name (codes "gen")) line (count_fits count) is
-count_passed count output name (file ∷ files) line is = absurd (cc)
-
-runtime_passed : (dir : Name) (name : Option (List ℕ)) (files : List Name) (line : Line) → line_with_runtime dir name files ≡ Some line
-    → HasPassed line
-runtime_passed dir None [] line is = let same : runtime dir ≡ line = cc in subst HasPassed same tt
-runtime_passed dir _ _ line is = absurd (cc)
-
 -- ---- the options
 
 options_passed : (output dir : Option Name) (count : Option (List ℕ)) (runs : Option Name) (name : Option (List ℕ)) (files : List Name)
     (line : Line) → line_by output dir count runs name files ≡ Some line → HasPassed line
-options_passed (Some output) None None None name files line is = output_passed output name files line is
-options_passed None (Some dir) None None name files line is = dir_passed dir name files line is
-options_passed (Some output) None (Some count) None name files line is = count_passed count output name files line is
-options_passed None None None (Some dir) name files line is = runtime_passed dir name files line is
-options_passed _ _ _ _ name files line is = absurd (cc)
+options_passed (Some output) None None None name (input ∷ []) line is =
+    translation_passed input output (unwrap_or name (module_name_of input)) line is
+options_passed None (Some dir) None None None files line is = set_passed dir files line is
+options_passed (Some output) None (Some count) None name [] line is =
+    generation_passed (count_of count) output (unwrap_or name (codes "gen")) line (count_fits count) is
+options_passed None None None (Some dir) None [] line is = let same : runtime dir ≡ line = cc in subst HasPassed same tt
+options_passed _ _ _ _ _ _ line is = absurd (cc)
 
 values_passed : (values : Option Values) (line : Line) → option_and_then line_of_values values ≡ Some line → HasPassed line
 values_passed None line is = absurd (cc)

@@ -1,15 +1,16 @@
 -- What passes through files that are read or written one after another, by the stop.
-use Rattle.wasm2c_cli.proofs.Common.{◌≡◌, ℕ, zero, suc, ◌-◌, List, [], ◌∷◌, ◌++◌, length, IfErr, OnOk, slice_get, Some, Ok, Err}
-use Rattle.wasm2c_cli.proofs.Common.{string_bytes, Result, sym, refl, ap, ◌∙◌, subst, inl, inr, append_assoc, arith, both_passed}
-use Rattle.wasm2c_cli.proofs.Common.{file_written, finished_in_vain, passed_so, Name, Begin, Event, Finish, Read, BreaksOff, Passes}
-use Rattle.wasm2c_cli.proofs.Common.{PutsText, WritesFile, ReadAnswer, WriteAnswer, behind_broken, both_written, broken_some, first_broken}
-use Rattle.wasm2c_cli.proofs.Common.{longer_broken, one_written, BreaksOffAt, ReadsAll, ReadsSome, StopsBy, WritesFiles, NotThere, Past}
-use Rattle.wasm2c_cli.proofs.Common.{TooLong, Unreadable, total, ReadStop, most_module_bytes, ModuleBytes, SetBytes, StopsAtFile}
-use Rattle.wasm2c_cli.proofs.Common.{StopsAtLimit, StopsAtRead, StopsAtUnreadable, EndsReading, EndsWriting, TriesReading, ReadsFirst}
-use Rattle.wasm2c_cli.proofs.Common.{StopsAfter, StopsByAnswer, most_set_bytes, PassesLimitBy, Reason, Limit, Stop}
+use Rattle.wasm2c_cli.proofs.Common.{◌≡◌, ℕ, suc, ◌-◌, List, [], ◌∷◌, ◌++◌, length, IfErr, OnOk, slice_get, Some, Ok, Err, string_bytes}
+use Rattle.wasm2c_cli.proofs.Common.{Result, sym, refl, ap, ◌∙◌, subst, inl, inr, append_assoc, same_Some, both_passed, file_written}
+use Rattle.wasm2c_cli.proofs.Common.{finished_in_vain, passed_so, Name, Begin, Event, Finish, Read, BreaksOff, Passes, PutsText, WritesFile}
+use Rattle.wasm2c_cli.proofs.Common.{ReadAnswer, WriteAnswer, behind_broken, both_written, broken_some, first_broken, longer_broken}
+use Rattle.wasm2c_cli.proofs.Common.{one_written, BreaksOffAt, ReadsAll, ReadsSome, StopsBy, WritesFiles, NotThere, Past, TooLong}
+use Rattle.wasm2c_cli.proofs.Common.{Unreadable, total, ReadStop, most_module_bytes, StopsAtFile, StopsAtLimit, StopsAtRead}
+use Rattle.wasm2c_cli.proofs.Common.{StopsAtUnreadable, EndsReading, EndsWriting, TriesReading, ReadsFirst, StopsAfter, StopsByAnswer}
+use Rattle.wasm2c_cli.proofs.Common.{most_set_bytes, PassesLimitBy, Reason, Stop}
 use Rattle.w2c_io.specs.declared.answers.ReadAnswer.TheVariants as reading
 use Rattle.w2c_io.specs.declared.answers.WriteAnswer.TheVariants as writing
 use Rattle.w2c_files.specs.declared.reading.ReadStop.TheVariants as read
+use Rattle.w2c_base.proofs.Places.{right_behind}
 use Rattle.w2c_files.proofs.InOrder.{all_in_order, some_in_order}
 use Rattle.wasm2c_cli.specs.declared.stop.Stop.TheVariants as stops
 
@@ -30,47 +31,38 @@ many_read each _ _ _ reads = absurd reads
 
 -- ---- where reading stops
 
--- the name behind so many
-name_behind : (front rest : List Name) (name file : Name) (k : ℕ) → k ≡ length front → slice_get (front ++ name ∷ rest) k ≡ Some file
-    → name ≡ file
-name_behind [] rest name file zero many at = cc
-name_behind (n ∷ front) rest name file (suc k) many at = name_behind front rest name file k (omega (arith, many)) at
-name_behind _ rest name file _ many at = absurd (omega (arith, many))
+-- the number of the file at which reading stops, and why
+abbrev stop_of : ReadStop → ℕ × Unreadable
+stop_of (read.Unread k) = (k, NotThere)
+stop_of (read.TooLong k) = (k, TooLong)
+stop_of (read.Past k place) = (k, Past place)
+stop_of read.Memory = (0, NotThere)
 
-by_unread : (left number before : ℕ) (answer : Result (List ℕ) ReadAnswer) (k : ℕ) → StopsBy left number answer (read.Unread k)
-    → (k ≡ number) × StopsByAnswer before answer NotThere
-by_unread left number before (Err reading.Absent) k is = (is, tt)
-by_unread left number before (Err reading.Failed) k is = (is, tt)
-by_unread left number before _ k is = absurd is
-
-by_length : (left number before : ℕ) (answer : Result (List ℕ) ReadAnswer) (k : ℕ) → StopsBy left number answer (read.TooLong k)
-    → (k ≡ number) × StopsByAnswer before answer TooLong
-by_length left number before (Err reading.TooLong) k is = (is, tt)
-by_length left number before _ k is = absurd is
-
-by_place : (number before : ℕ) (answer : Result (List ℕ) ReadAnswer) (k place : ℕ)
-    → StopsBy (most_set_bytes - before) number answer (read.Past k place) → (k ≡ number) × StopsByAnswer before answer (Past place)
-by_place number before (Ok bytes) k place (same, is, long) = (same, (long, is))
-by_place number before (Err reading.Absent) k place is = absurd is
-by_place number before (Err _) k place is = absurd is
+by_answer : (number before : ℕ) (answer : Result (List ℕ) ReadAnswer) (why : ReadStop) → (why ≡ read.Memory → ⊥)
+    → StopsBy (most_set_bytes - before) number answer why
+    → ((stop_of why).0 ≡ number) × StopsByAnswer before answer (stop_of why).1
+by_answer number before (Ok bytes) (read.Past k place) apart (same, is, long) = (same, (long, is))
+by_answer number before (Err reading.TooLong) (read.TooLong k) apart is = (is, tt)
+by_answer number before (Err reading.Absent) (read.Unread k) apart is = (is, tt)
+by_answer number before (Err reading.Failed) (read.Unread k) apart is = (is, tt)
+by_answer number before (Err reading.Memory) read.Memory apart is = absurd (apart refl)
+by_answer number before _ _ apart is = absurd is
 
 module _ (names : List Name) (given : List Event) where
   abbrev Stopped : ReadStop → Type 0
   Stopped why = ReadsSome most_module_bytes most_set_bytes names why given
 
   -- the file with a number
-  stopped_at : (why : ReadStop) (k : ℕ) (reason : Unreadable) (file : Name) → (why ≡ read.Memory → ⊥)
-      → ((all : List (List ℕ)) (answer : Result (List ℕ) ReadAnswer) → StopsBy (most_set_bytes - total all) (length all) answer why
-      → (k ≡ length all) × StopsByAnswer (total all) answer reason)
-      → Stopped why → slice_get names k ≡ Some file → StopsAfter names given file reason
-  stopped_at why k reason file not_memory by (front, rest, all, first, last, split, reads, calls, inl (none, memory)) at =
-      absurd (not_memory memory)
-  stopped_at why k reason file apart by
-      (front, rest, all, first, last, split, reads, calls, inr (name, after, answer, is, one, stops, together)) at =
-      let because = by all answer stops in
+  stopped_at : (why : ReadStop) (file : Name) → (why ≡ read.Memory → ⊥) → Stopped why → slice_get names (stop_of why).0 ≡ Some file
+      → StopsAfter names given file (stop_of why).1
+  stopped_at why file apart (front, rest, all, first, last, split, reads, calls, inl (none, memory)) at = absurd (apart memory)
+  stopped_at why file apart (front, rest, all, first, last, split, reads, calls, inr (name, after, answer, is, one, stops, together)) at =
+      let because = by_answer (length all) (total all) answer why apart stops in
       let parts : names ≡ front ++ name ∷ after = split ∙ ap (λ (l : List Name). front ++ l) is in
-      let same : name ≡ file = name_behind front after name file k
-      (because.0 ∙ many_read most_module_bytes front all first reads) (subst (λ (l : List Name). slice_get l k ≡ Some file) parts at) in
+      let number = because.0 ∙ many_read most_module_bytes front all first reads in
+      let here = subst (λ (l : List Name). slice_get l (stop_of why).0 ≡ Some file) parts at in
+      let same : name ≡ file = same_Some name file (sym (right_behind front name after)
+      ∙ subst (λ (n : ℕ). slice_get (front ++ name ∷ after) n ≡ Some file) number here) in
       record {
         front = front;
         rest = after;
@@ -84,21 +76,8 @@ module _ (names : List Name) (given : List Event) where
         stops = because.1;
       }
 
-  unread_at : (k : ℕ) (file : Name) → Stopped (read.Unread k) → slice_get names k ≡ Some file → StopsAfter names given file NotThere
-  unread_at k file = stopped_at (read.Unread k) k NotThere file (λ e. cc)
-      (λ all answer stops. by_unread (most_set_bytes - total all) (length all) (total all) answer k stops)
-
-  too_long_at : (k : ℕ) (file : Name) → Stopped (read.TooLong k) → slice_get names k ≡ Some file → StopsAfter names given file TooLong
-  too_long_at k file = stopped_at (read.TooLong k) k TooLong file (λ e. cc)
-      (λ all answer stops. by_length (most_set_bytes - total all) (length all) (total all) answer k stops)
-
-  past_at : (k place : ℕ) (file : Name) → Stopped (read.Past k place) → slice_get names k ≡ Some file
-      → StopsAfter names given file (Past place)
-  past_at k place file = stopped_at (read.Past k place) k (Past place) file (λ e. cc)
-      (λ all answer stops. by_place (length all) (total all) answer k place stops)
-
   ends_unread : (k : ℕ) (stop : Stop) → Stopped (read.Unread k) → StopsAtUnreadable names k stop → EndsReading names given stop
-  ends_unread k (stops.Unread name) why at = unread_at k (string_bytes name) why at
+  ends_unread k (stops.Unread name) why at = stopped_at (read.Unread k) (string_bytes name) (λ e. cc) why at
   ends_unread k stops.Memory why is = tt
   ends_unread k _ why is = absurd is
 
@@ -112,9 +91,9 @@ module _ (names : List Name) (given : List Event) where
   reading_ends : (why : ReadStop) (stop : Stop) → Stopped why → StopsAtRead why names stop → EndsReading names given stop
   reading_ends (read.Unread k) stop why is = ends_unread k stop why is
   reading_ends (read.TooLong k) stop why is =
-      ends_at_limit (Limit most_module_bytes ModuleBytes) k stop (λ file at. inl (too_long_at k file why at, refl)) is
+      ends_at_limit _ k stop (λ file at. inl (stopped_at (read.TooLong k) file (λ e. cc) why at, refl)) is
   reading_ends (read.Past k place) stop why is =
-      ends_at_limit (Limit place SetBytes) k stop (λ file at. inr (place, past_at k place file why at, refl)) is
+      ends_at_limit _ k stop (λ file at. inr (place, stopped_at (read.Past k place) file (λ e. cc) why at, refl)) is
   reading_ends read.Memory stop why is = subst (EndsReading names given) (sym is) tt
 
   tries_reading : (why : ReadStop) (stop : Stop) → StopsAtRead why names stop → Stopped why → TriesReading names stop given

@@ -1,14 +1,14 @@
 -- What passes through the files for each form of a line.
-use Rattle.wasm2c_cli.proofs.Common.{◌≡◌, ℕ, ◌≤◌, List, [], ◌∷◌, ◌++◌, length, IfErr, OnOk, Some, Ok, Err, Result, sym, refl, subst, inl}
-use Rattle.wasm2c_cli.proofs.Common.{inr, append-nil, IfErr-weaker, on_ok_weaker, AllByRecursion, both_passed, passed_so, Name, Event}
-use Rattle.wasm2c_cli.proofs.Common.{Passes, ReadsAll, WritesFiles, total, Module, AreBytes, most_module_bytes, Generation, Line, generate}
-use Rattle.wasm2c_cli.proofs.Common.{line_of, runtime, Write, files_of, module_files, AreTaken, HasPassed, IsNamed, IsTakenFile}
-use Rattle.wasm2c_cli.proofs.Common.{StopsAccepting, AllAccepted, EndsLine, EndsTranslating, EndsWriting, PassesWhole, PassesWork}
-use Rattle.wasm2c_cli.proofs.Common.{TranslatesAll, TriesLine, TriesReading, TriesTranslating, TriesWork, IsJobOver, inputs_of}
-use Rattle.wasm2c_cli.proofs.Common.{most_set_bytes, target, targets_of, runtime_files, Stop}
+use Rattle.wasm2c_cli.proofs.Common.{◌≡◌, ℕ, ◌≤◌, List, [], ◌++◌, length, IfErr, OnOk, Some, Ok, Err, Result, sym, refl, subst, inl, inr}
+use Rattle.wasm2c_cli.proofs.Common.{append-nil, IfErr-weaker, on_ok_weaker, AllByRecursion, both_passed, passed_so, Name, Event, Passes}
+use Rattle.wasm2c_cli.proofs.Common.{ReadsAll, WritesFiles, total, most_module_bytes, Module, Generation, Line, generate, line_of, runtime}
+use Rattle.wasm2c_cli.proofs.Common.{Write, files_of, module_files, AreTaken, HasPassed, IsNamed, IsTakenFile, StopsAccepting, AllAccepted}
+use Rattle.wasm2c_cli.proofs.Common.{EndsLine, EndsTranslating, EndsWriting, PassesWhole, PassesWork, TranslatesAll, TriesLine}
+use Rattle.wasm2c_cli.proofs.Common.{TriesReading, TriesTranslating, TriesWork, IsJobOver, ReadsWhole, inputs_of, most_set_bytes, target}
+use Rattle.wasm2c_cli.proofs.Common.{targets_of, runtime_files, Stop}
 use Rattle.wasm2c_cli.specs.declared.stop.Stop.TheVariants as stops
 use Rattle.wasm2c_cli.specs.Plan as plan
-use Rattle.wasm2c_cli.proofs.LineStops.{IsOfFiles}
+use Rattle.wasm2c_cli.proofs.LineStops.{IsOfFiles, generated_by}
 use Rattle.wasm2c_cli.proofs.Passing.{all_read_first, none_read}
 use Rattle.wasm2c_cli.proofs.Taken.{taken_accepted}
 
@@ -160,24 +160,19 @@ module _ (line : Line) (files : List (Name × List ℕ)) (job : IsJobOver line [
 
 -- a generated module
 module _ (g : Generation) (bytes : List ℕ) (m : Module) (taken : IsTakenFile g bytes m) where
-  abbrev files : List (Name × List ℕ)
-  files = module_files (target g.output g.module_name) m
-
-  module _ {A : Type 0} (old new : List Event) (result : Result A Stop) where
-    pub generation_tried : IfErr result (λ stop. Passes old new (EndsWriting files stop))
+  module _ {A : Type 0} (old new : List Event) (result : Result A Stop) (t : plan.Target) (is : t ≡ target g.output g.module_name) where
+    pub generation_tried : IfErr result (λ stop. Passes old new (EndsWriting (module_files t m) stop))
         → IfErr result (λ stop. Passes old new (TriesLine (generate g) stop))
-    generation_tried = put_tried (generate g) files (record {
-      sources = bytes ∷ [];
-      modules = m ∷ [];
-      read = (bytes, taken.file, refl);
-      accepted = (taken.accepted, tt);
-      written = refl;
-    }) old new result
+    generation_tried tried = put_tried (generate g) (module_files (target g.output g.module_name) m)
+        (generated_by (ReadsWhole [] []) g bytes m taken) old new result
+        (subst (λ (t : plan.Target). IfErr result (λ stop. Passes old new (EndsWriting (module_files t m) stop))) is tried)
 
-    pub generation_passed : AreBytes g.module_name → OnOk result (Passes old new (WritesFiles files))
+    pub generation_passed : IsNamed t → OnOk result (Passes old new (WritesFiles (module_files t m)))
         → OnOk result (Passes old new (PassesWhole (generate g)))
-    generation_passed named = on_ok_weaker result (passed_so old new (WritesFiles files) (PassesWhole (generate g))
-        (λ events whole. record { bytes = bytes; generated = m; taken = taken; named = named; files = whole }))
+    generation_passed named wrote = on_ok_weaker result
+        (passed_so old new (WritesFiles (module_files (target g.output g.module_name) m)) (PassesWhole (generate g)) (λ events whole.
+        record { bytes = bytes; generated = m; taken = taken; named = subst IsNamed is named; files = whole }))
+        (subst (λ (t : plan.Target). OnOk result (Passes old new (WritesFiles (module_files t m)))) is wrote)
 
 -- the runtime
 module _ {A : Type 0} (old new : List Event) (dir : Name) (files : List (Name × List ℕ)) (same : files ≡ runtime_files dir)

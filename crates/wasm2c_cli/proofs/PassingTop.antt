@@ -1,6 +1,6 @@
 -- What the end of the work says of what passed through the files.
 use Rattle.wasm2c_cli.proofs.Common.{◌≡◌, ℕ, ◌⊎◌, List, [], ◌∷◌, ◌++◌, Some, None, string_bytes, Option, refl, ap, ◌∙◌, subst, inl, inr}
-use Rattle.wasm2c_cli.proofs.Common.{Name, Event, all_some, broken_some, WritesFiles, Module, most_module_bytes, TranslationTheorem, Line}
+use Rattle.wasm2c_cli.proofs.Common.{Name, Event, all_some, broken_some, WritesFiles, most_module_bytes, Module, TranslationTheorem, Line}
 use Rattle.wasm2c_cli.proofs.Common.{generate, line_of, runtime, Job, Missing, Refused, Write, files_of, line_for, status_of, usage_line}
 use Rattle.wasm2c_cli.proofs.Common.{PassesWhole, PassesWork, TriesLine, TriesWork, Follows, IsJobOver, IsUnitOf, PassesFor, PassesLine}
 use Rattle.wasm2c_cli.proofs.Common.{PutsLinkedUnits, ReadsFirst, ReadsWhole, inputs_of, targets_of, runtime_files, NamesModules, HoldAll}
@@ -46,31 +46,6 @@ is_made line events names whole = record {
   files = whole.files;
 }
 
--- the files of the line's job are put whole
-record Written (line : Line) (events : List Event) : Type 0 where
-  given : List Event
-  put : List Event
-  files : List (Name × List ℕ)
-  split : events ≡ given ++ put
-  reads : ReadsFirst (inputs_of line) given
-  job : IsJobOver line given (Write files)
-  wrote : WritesFiles files put
-
-is_written : (line : Line) (events : List Event) → PassesWhole line events → Written line events
-is_written (runtime dir) events whole =
-    record { given = []; put = events; files = runtime_files dir; split = refl; reads = tt; job = refl; wrote = whole }
-is_written line events whole =
-    let m : Puts line events = is_made line events (λ dir e. cc) whole in
-    record {
-      given = m.given;
-      put = m.put;
-      files = files_of (targets_of line) m.modules;
-      split = m.split;
-      reads = m.reads;
-      job = translated_by (ReadsWhole (inputs_of line) m.given) line m.modules m.made;
-      wrote = m.files;
-    }
-
 -- ---- the status, and what passes
 
 module _ (words : List Name) (status : ℕ) (says : List ℕ → Type 0) (events : List Event) where
@@ -98,20 +73,32 @@ module _ (words : List Name) (status : ℕ) (says : List ℕ → Type 0) (events
   -- ---- work that was finished
 
   pub finish_passes : PassesWork words events → (status ≡ 0) ⊎ (status ≡ 5) → PassesFor words status says events
-  finish_passes (line, is, has, whole) ends =
-      let w : Written line events = is_written line events whole in
-      for_line line is (record {
-        given = w.given;
-        put = w.put;
-        split = w.split;
-        reads = w.reads;
-        follows = inl (Write w.files, w.job, follows ends w.files w.put w.wrote);
-      })
+  finish_passes (line, is, has, whole) ends = for_line line is (by line whole)
     where
-      follows : (status ≡ 0) ⊎ (status ≡ 5) → (files : List (Name × List ℕ)) (put : List Event) → WritesFiles files put
-          → Follows (Write files) status says put
-      follows (inl zero) files put wrote = inl (zero, wrote)
-      follows (inr five) files put wrote = inr (inr (five, all_some files put wrote))
+      follows : (files : List (Name × List ℕ)) (put : List Event) → WritesFiles files put → Follows (Write files) status says put
+      follows files put wrote = elim ends [ inl zero ↦ inl (zero, wrote) | inr five ↦ inr (inr (five, all_some files put wrote)) ]
+
+      by : (line : Line) → PassesWhole line events → PassesLine line status says events
+      by (runtime dir) whole = record {
+        given = [];
+        put = events;
+        split = refl;
+        reads = tt;
+        follows = inl (Write (runtime_files dir), refl, follows (runtime_files dir) events whole);
+      }
+      by line whole =
+          let m : Puts line events = is_made line events (λ dir e. cc) whole in
+          record {
+            given = m.given;
+            put = m.put;
+            split = m.split;
+            reads = m.reads;
+            follows = inl (
+              Write (files_of (targets_of line) m.modules),
+              translated_by (ReadsWhole (inputs_of line) m.given) line m.modules m.made,
+              follows (files_of (targets_of line) m.modules) m.put m.files,
+            );
+          }
 
   -- ---- work that stopped
 
@@ -159,10 +146,7 @@ module _ (words : List Name) (status : ℕ) (says : List ℕ → Type 0) (events
     where
       ends : (status ≡ status_of stop) ⊎ (status ≡ 5) → Ends stop
       ends (inr five) = inr five
-      ends (inl is) = elim (said is) [
-        | inl told ↦ inl (is, told)
-        | inr five ↦ inr five
-      ]
+      ends (inl is) = elim (said is) [ inl told ↦ inl (is, told) | inr five ↦ inr five ]
 
       by : TriesWork words stop events → Ends stop → PassesFor words status says events
       by (inl (usage, none, nothing)) (inl (is, told)) =

@@ -1,16 +1,14 @@
 -- Bytes are refused for at most one reason, and those of a valid module for none; so the first file that is refused is one, and so
 -- is the one that passes a limit.
 use Rattle.wasm2c_cli.proofs.Common.{◌≡◌, ℕ, List, [], ◌∷◌, Some, None, Option, sym, refl, ap, ◌∙◌, subst, inl, inr, same_Some, Name, Past}
-use Rattle.wasm2c_cli.proofs.Common.{TooLong, Unreadable, Module, one_tree, most_module_bytes, ModuleBytes, SetBytes, Accepted, AreAccepted}
+use Rattle.wasm2c_cli.proofs.Common.{TooLong, Unreadable, most_module_bytes, Module, Accepted, one_tree, ModuleBytes, SetBytes, AreAccepted}
 use Rattle.wasm2c_cli.proofs.Common.{IsAccepted, IsFirstRefused, IsRefused, PassesLimitBy, reason_for, Reason, Limit}
+use Rattle.std.proofs.lemmas.Option.{none-some}
 use Rattle.w2c_files.specs.Reading.{Missing}
 use Rattle.wasm_valid.specs.FileVerdict.{Read}
 use Rattle.wasm_valid.proofs.Files.{one_file_verdict}
 
 -- ---- bytes
-
-no_reason : (reason : Reason) → ◌≡◌ {A = Option Reason} None (Some reason) → ⊥
-no_reason reason e = cc
 
 pub one_reason : (bytes : List ℕ) (reason other : Reason) → IsRefused bytes reason → IsRefused bytes other → reason ≡ other
 one_reason bytes reason other (v, is, for) (w, is', for') =
@@ -18,7 +16,7 @@ one_reason bytes reason other (v, is, for) (w, is', for') =
 
 pub accepted_not_refused : (bytes : List ℕ) (reason : Reason) → IsAccepted bytes → IsRefused bytes reason → ⊥
 accepted_not_refused bytes reason (tree, is) (w, is', for) =
-    no_reason reason (ap reason_for (one_file_verdict bytes (Read tree Accepted) w is is') ∙ for)
+    none-some reason (ap reason_for (one_file_verdict bytes (Read tree Accepted) w is is') ∙ for)
 
 -- ---- the bytes of all files
 
@@ -60,16 +58,16 @@ one_modules sources more modules others same a b =
 
 -- ---- limits of bytes
 
-abbrev limit_of : Unreadable → Option Reason
+abbrev pub limit_of : Unreadable → Option Reason
 limit_of Missing = None
 limit_of TooLong = Some (Limit most_module_bytes ModuleBytes)
 limit_of (Past place) = Some (Limit place SetBytes)
 
 -- reading stops at a file for a limit
-abbrev StopsOver : (Unreadable → Type 0) → Reason → Type 0
+abbrev pub StopsOver : (Unreadable → Type 0) → Reason → Type 0
 StopsOver Stops reason = (why : Unreadable) × Stops why × (limit_of why ≡ Some reason)
 
-over : (Stops : Unreadable → Type 0) (reason : Reason) → PassesLimitBy Stops reason → StopsOver Stops reason
+pub over : (Stops : Unreadable → Type 0) (reason : Reason) → PassesLimitBy Stops reason → StopsOver Stops reason
 over Stops reason (inl (s, is)) = (TooLong, s, ap Some (sym is))
 over Stops reason (inr (place, s, is)) = (Past place, s, ap Some (sym is))
 
@@ -86,4 +84,4 @@ module _ (Stops : Name → Unreadable → Type 0)
   pub limit_not_missing : (file other : Name) (reason : Reason) → PassesLimitBy (Stops file) reason → Stops other Missing → ⊥
   limit_not_missing file other reason limit s' =
       let (why, s, for) = over (Stops file) reason limit in
-      no_reason reason (ap limit_of (sym (one file other why Missing s s').1) ∙ for)
+      none-some reason (ap limit_of (sym (one file other why Missing s s').1) ∙ for)

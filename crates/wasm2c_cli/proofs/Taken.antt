@@ -1,8 +1,8 @@
 -- Bytes that are accepted in order, and the first that are refused.
-use Rattle.wasm2c_cli.proofs.Common.{◌≡◌, ℕ, zero, suc, ◌+◌, ◌<◌, List, [], ◌∷◌, ◌++◌, length, take, slice_get, slice_index_or, Some, None}
-use Rattle.wasm2c_cli.proofs.Common.{string_bytes, Option, MatchOption, sym, refl, ap, subst, inl, inr, arith, AllByRecursion, take_next}
-use Rattle.wasm2c_cli.proofs.Common.{Name, IsOneOf, Module, AreBytes, Accepted, is_invalid, IsRefusal, AreAccepted, AreTaken}
-use Rattle.wasm2c_cli.proofs.Common.{StopsAccepting, StopsAtRefused, IsFirstRefused, IsRefused, reason_of, Reason, Stop}
+use Rattle.wasm2c_cli.proofs.Common.{◌≡◌, ℕ, zero, suc, ◌+◌, List, [], ◌∷◌, ◌++◌, length, take, slice_get, Some, None, string_bytes, Option}
+use Rattle.wasm2c_cli.proofs.Common.{MatchOption, sym, refl, ap, subst, inl, inr, arith, take_next, Name, IsOneOf, AreBytes, Module}
+use Rattle.wasm2c_cli.proofs.Common.{Accepted, is_invalid, IsRefusal, AreAccepted, AreTaken, StopsAccepting, StopsAtRefused, IsFirstRefused}
+use Rattle.wasm2c_cli.proofs.Common.{IsRefused, reason_of, Reason, Stop}
 use Rattle.wasm_spelling.specs.declared.fault.ReadFault.TheVariants as fault
 use Rattle.wasm_valid.specs.FileVerdict.{Unread, Read, IsVerdictOn}
 use Rattle.w2c_sim.specs.declared.refusal.Refusal.{Refusal}
@@ -34,18 +34,6 @@ pub one_more_taken : (sources : List (List ℕ)) (k : ℕ) (bytes : List ℕ) (m
     → more ≡ modules ++ m ∷ [] → AreTaken (take (k + 1) sources) more
 one_more_taken sources k bytes modules more m at taken are is same =
     rw same (rw (take_next sources k bytes at) (taken_joined (take k sources) modules bytes m taken are is))
-
-pub source_at : (sources : List (List ℕ)) (k : ℕ) (bytes : List ℕ) → k < length sources → bytes ≡ slice_index_or sources k bytes
-    → slice_get sources k ≡ Some bytes
-source_at [] k bytes within is = absurd (omega arith)
-source_at (b ∷ sources) zero bytes within is = λ i. Some (sym is i)
-source_at (b ∷ sources) (suc k) bytes within is = source_at sources k bytes (omega arith) is
-
-pub all_at : (P : List ℕ → Type 0) (sources : List (List ℕ)) (k : ℕ) (bytes : List ℕ) → slice_get sources k ≡ Some bytes
-    → AllByRecursion P sources → P bytes
-all_at P [] k bytes at all = cc
-all_at P (b ∷ sources) zero bytes at all = let same : b ≡ bytes = cc in subst P same all.0
-all_at P (b ∷ sources) (suc k) bytes at all = all_at P sources k bytes at all.1
 
 pub all_taken : (sources : List (List ℕ)) (k : ℕ) (modules : List Module) → k ≡ length sources → AreTaken (take k sources) modules
     → AreTaken sources modules

@@ -1,18 +1,16 @@
 -- What the end of the work says of the status, and of what stands.
-use Rattle.wasm2c_cli.proofs.Common.{◌≡◌, ℕ, ◌≤◌, ◌⊎◌, List, [], ◌∷◌, ◌++◌, length, Some, None, string_bytes, Option, MatchOption, sym}
-use Rattle.wasm2c_cli.proofs.Common.{refl, ap, ◌∙◌, subst, inl, inr, arith, length-map, AllByRecursion, Faulted, Rose, Contents, HasFile}
+use Rattle.wasm2c_cli.proofs.Common.{◌≡◌, ℕ, ◌⊎◌, List, [], ◌∷◌, ◌++◌, length, Some, None, string_bytes, Option, MatchOption, sym, refl, ap}
+use Rattle.wasm2c_cli.proofs.Common.{◌∙◌, subst, inl, inr, arith, length-map, same_Some, AllByRecursion, Faulted, Rose, Contents, HasFile}
 use Rattle.wasm2c_cli.proofs.Common.{Name, Told, Says, SaysPart, Tells, all_stand, stand_whole, AreDistinct, HasText, StandsAt, file_names}
-use Rattle.wasm2c_cli.proofs.Common.{written, Module, File, IsTranslatedFile, TranslationTheorem, IsModuleOf, header_text_of, text_of}
-use Rattle.wasm2c_cli.proofs.Common.{AreBytes, Generation, Line, generate, line_of, runtime, set, translate, AreReadOf, AreSourcesBy, IsJob}
-use Rattle.wasm2c_cli.proofs.Common.{IsJobOf, Job, Missing, TranslatesBy, IsTakenFile, Refused, Usage, Write, files_of, IsLine, line_for}
-use Rattle.wasm2c_cli.proofs.Common.{memory_line, read_line, refused_line, status_of, summary_line, write_line, AreTaken, FinishesLine}
-use Rattle.wasm2c_cli.proofs.Common.{FinishesWork, HasName, HasPassed, IsNamed, IsTranslated, SumsUp, SumsUpPart, Target, inputs_of}
+use Rattle.wasm2c_cli.proofs.Common.{written, AreBytes, Module, File, IsTranslatedFile, TranslationTheorem, IsModuleOf, header_text_of}
+use Rattle.wasm2c_cli.proofs.Common.{text_of, Generation, Line, generate, line_of, runtime, set, translate, AreReadOf, AreSourcesBy, IsJob}
+use Rattle.wasm2c_cli.proofs.Common.{IsJobOf, Job, Missing, Refused, TranslatesBy, Usage, Write, files_of, IsLine, line_for, memory_line}
+use Rattle.wasm2c_cli.proofs.Common.{read_line, refused_line, status_of, summary_line, write_line, AreTaken, FinishesLine, FinishesWork}
+use Rattle.wasm2c_cli.proofs.Common.{HasName, HasPassed, IsNamed, IsTakenFile, IsTranslated, SumsUp, SumsUpPart, Target, inputs_of}
 use Rattle.wasm2c_cli.proofs.Common.{names_of_targets, outputs_of, target_in, targets_of, runtime_files, Done, Generates, IsInput, IsOutput}
 use Rattle.wasm2c_cli.proofs.Common.{KeepsCurrent, StandsOfJob, StandsOfLine, StopsLine, StopsWork, Answers, NamesModules}
 use Rattle.wasm2c_cli.proofs.Common.{DoTheSameWithOthers, HoldAll, HoldsText, HoldsUnit, Stand, StandAll, WritesLinkedUnits, WritesUnits}
-use Rattle.wasm2c_cli.proofs.Common.{texts_made, Reason, Stop, Finished, same_Some}
-use Rattle.w2c_io.specs.declared.files.Files.{Ghosts as Files}
-use Rattle.w2c_io.specs.declared.sink.Sink.{Ghosts as Sink}
+use Rattle.wasm2c_cli.proofs.Common.{texts_made, Reason, Stop, Finished}
 use Rattle.w2c_files.proofs.Honest.{as_many}
 use Rattle.w2c_gen.specs.GeneratedFile.{IsGeneratedFile}
 use Rattle.w2c_sim.proofs.Accepting.{module_of}
@@ -110,56 +108,52 @@ job_of_line line contents old new f fin told =
     let (modules, made, stand) = is_made line contents old new f (λ dir e. cc) fin told in
     (files_of (targets_of line) modules, translated_by (AreReadOf line contents) line modules made, stand)
 
-module _ {F E : Type 0} (words : List Name) (files : Files F) (err : Sink E) (x y : F) (u v : E) where
-  abbrev pub Finishes : Finished → Type 0
-  Finishes f = FinishesWork words (files.told x) (files.told y) f
-
-  pub finish_done : (f : Finished) → Finishes f → Done words (files.told x) (files.told y)
-  finish_done f (line, is, passed, fin) = λ contents told.
-      let (made, of_line, whole) = job_of_line line contents (files.told x) (files.told y) f fin told in
+module _ (words : List Name) (old new : Told) (f : Finished) (fin : FinishesWork words old new f) where
+  pub finish_done : Done words old new
+  finish_done = λ contents told.
+      let (line, is, passed, ends) = fin in
+      let (made, of_line, whole) = job_of_line line contents old new f ends told in
       (made, is_job words line contents (Write made) is of_line, whole)
 
-  pub finish_complete : (f : Finished) (status : ℕ) → Finishes f → (status ≡ 0) ⊎ (status ≡ 5) → (contents : Contents)
-      → files.told x ≡ Some contents → (Rose (files.read_faults x) (files.read_faults y) → ⊥)
-      → (Rose (files.write_faults x) (files.write_faults y) → ⊥)
+  pub finish_complete : {P Q : Type 0} (status : ℕ) → (status ≡ 0) ⊎ (status ≡ 5) → (contents : Contents) → old ≡ Some contents → P → Q
       → (status ≡ 5) ⊎ ((job : Job) × IsJob words contents job × Answers job status)
-  finish_complete f status fin (inr five) contents told no_reads no_writes = inl five
-  finish_complete f status fin (inl ok) contents told no_reads no_writes =
-      let (made, job, whole) = finish_done f fin contents told in inr (Write made, job, ok)
+  finish_complete status (inr five) contents told no_reads no_writes = inl five
+  finish_complete status (inl ok) contents told no_reads no_writes =
+      let (made, job, whole) = finish_done contents told in inr (Write made, job, ok)
 
-  pub finish_stands : (f : Finished) → Finishes f → (contents : Contents) → files.told x ≡ Some contents
-      → StandsOfJob words contents (files.told x) (files.told y)
-  finish_stands f fin contents told =
-      let (made, job, whole) = finish_done f fin contents told in inr (made, job, all_stand (files.told x) (files.told y) made whole)
+  pub finish_stands : (contents : Contents) → old ≡ Some contents → StandsOfJob words contents old new
+  finish_stands contents told =
+      let (made, job, whole) = finish_done contents told in inr (made, job, all_stand old new made whole)
 
   -- ---- the summary
 
-  -- what was generated is summed up
-  pub finish_summary : (f : Finished) → Finishes f → SumsUp (err.told u) (err.told v) (err.faults u) (err.faults v) f
-      → (g : Generation) → Generates words g → (bytes : List ℕ) × IsGeneratedFile g.count bytes
-      × Says (err.told u) (err.told v) (err.faults u) (err.faults v) (summary_line g.count (length bytes))
-  finish_summary f (line, is, passed, fin) sums g asked = summed
-      (subst (λ (l : Line). FinishesLine l (files.told x) (files.told y) f) (same_line line (generate g) (sym is ∙ asked)) fin)
-    where
-      summed : FinishesLine (generate g) (files.told x) (files.told y) f → (bytes : List ℕ) × IsGeneratedFile g.count bytes
-          × Says (err.told u) (err.told v) (err.faults u) (err.faults v) (summary_line g.count (length bytes))
-      summed (count, written_so, m) = (
-        m.bytes,
-        m.taken.file,
-        subst (λ (n : ℕ). Says (err.told u) (err.told v) (err.faults u) (err.faults v) (summary_line g.count n)) m.many
-            (rw written_so at sums),
-      )
+  module _ (said said' : Option (List ℕ)) (faults faults' : ℕ) (sums : SumsUp said said' faults faults' f) where
+    -- what was generated is summed up
+    pub finish_summary : (g : Generation) → Generates words g → (bytes : List ℕ) × IsGeneratedFile g.count bytes
+        × Says said said' faults faults' (summary_line g.count (length bytes))
+    finish_summary g asked = let (line, is, passed, ends) = fin in
+        summed (subst (λ (l : Line). FinishesLine l old new f) (same_line line (generate g) (sym is ∙ asked)) ends)
+      where
+        summed : FinishesLine (generate g) old new f → (bytes : List ℕ) × IsGeneratedFile g.count bytes
+            × Says said said' faults faults' (summary_line g.count (length bytes))
+        summed (count, written_so, m) = (
+          m.bytes,
+          m.taken.file,
+          subst (λ (n : ℕ). Says said said' faults faults' (summary_line g.count n)) m.many (rw written_so at sums),
+        )
 
-  -- where nothing was generated, nothing is said
-  pub finish_silent : (f : Finished) → Finishes f → SumsUp (err.told u) (err.told v) (err.faults u) (err.faults v) f
-      → ((g : Generation) → Generates words g → ⊥) → err.told v ≡ err.told u
-  finish_silent finished.Written fin same none = same
-  finish_silent (finished.Generated count bytes) (line, is, passed, fin) sums none = absurd (generates line is fin)
-    where
-      generates : (line : Line) → line_of words ≡ Some line
-          → FinishesLine line (files.told x) (files.told y) (finished.Generated count bytes) → ⊥
-      generates (generate g) is fin = none g is
-      generates _ is fin = let other = fin.0 in cc
+    -- where nothing was generated, nothing is said
+    pub finish_silent : ((g : Generation) → Generates words g → ⊥) → said' ≡ said
+    finish_silent none = by f fin sums
+      where
+        generates : (count length : ℕ) (line : Line) → line_of words ≡ Some line
+            → FinishesLine line old new (finished.Generated count length) → ⊥
+        generates count length (generate g) is ends = none g is
+        generates count length _ is ends = let other = ends.0 in cc
+
+        by : (f : Finished) → FinishesWork words old new f → SumsUp said said' faults faults' f → said' ≡ said
+        by finished.Written fin same = same
+        by (finished.Generated count length) (line, is, passed, ends) sums = absurd (generates count length line is ends)
 
 -- where memory was wanting for the summary
 pub finish_part : (f : Finished) (said said' : Option (List ℕ)) → SumsUpPart said said' f
@@ -270,69 +264,61 @@ module _ (new : Told) (others : List File) (translated : AllByRecursion IsTransl
       ((m, here.is_module, refl), all_translated targets sources modules held)
   all_translated _ _ _ held = absurd held
 
+-- the texts of units that stand
+abbrev pub texts_stand : (new : Told) (line : Line) (contents : Contents) → StandAll (HoldsUnit new) line contents
+    → StandAll (HoldsText new) line contents
+texts_stand new line contents stand = record {
+  sources = stand.sources;
+  modules = stand.modules;
+  read = stand.read;
+  all = hold_weaker (HoldsUnit new) (HoldsText new) (λ t bytes m held. held.text) (targets_of line) stand.sources stand.modules
+      stand.all;
+}
+
 pub are_linked : TranslationTheorem → (words : List Name) (old new : Told) → WritesUnits words old new → WritesLinkedUnits words old new
 are_linked theorem words old new writes = λ contents told. linked contents (writes contents told)
   where
-    texts : (line : Line) (contents : Contents) → StandAll (HoldsUnit new) line contents → StandAll (HoldsText new) line contents
-    texts line contents stand = record {
-      sources = stand.sources;
-      modules = stand.modules;
-      read = stand.read;
-      all = hold_weaker (HoldsUnit new) (HoldsText new) (λ t bytes m held. held.text) (targets_of line)
-          stand.sources stand.modules stand.all;
-    }
-
     linked : (contents : Contents) → (line : Line) × (line_of words ≡ Some line) × StandAll (HoldsUnit new) line contents
         → (line : Line) × (line_of words ≡ Some line) × (stand : StandAll (HoldsText new) line contents)
         × DoTheSameWithOthers (texts_made (targets_of line) stand.sources stand.modules)
     linked contents (line, is, stand) = (
       line,
       is,
-      texts line contents stand,
+      texts_stand new line contents stand,
       λ others translated.
           theorem (texts_made (targets_of line) stand.sources stand.modules ++ others)
-          (all_translated new others translated (targets_of line) stand.sources stand.modules (texts line contents stand).all),
+          (all_translated new others translated (targets_of line) stand.sources stand.modules
+          (texts_stand new line contents stand).all),
     )
 
 -- ---- work that stopped
 
 -- no stop has status 0
 pub stop_not : {C : Type 0} (status : ℕ) (stop : Stop) → (status ≡ status_of stop) ⊎ (status ≡ 5) → status ≡ 0 → C
-stop_not status stop (inr five) zero = absurd (omega (arith, five, zero))
-stop_not status stops.Usage (inl is) zero = absurd (omega (arith, is, zero))
-stop_not status _ (inl is) zero = absurd (omega (arith, is, zero))
+stop_not status stops.Usage ends zero = absurd (omega (arith, ends, zero))
+stop_not status _ ends zero = absurd (omega (arith, ends, zero))
 
 -- statuses 1 to 3: nothing was written
-not_four : {C : Type 0} (status : ℕ) → status ≡ 4 ⊎ status ≡ 5 → (status ≡ 1) ⊎ (status ≡ 2) ⊎ (status ≡ 3) → C
-not_four status ends is = absurd (omega (arith, ends, is))
-
 pub stop_current : (current current' : Option Name) (status : ℕ) (stop : Stop) → KeepsCurrent current current' stop
     → (status ≡ status_of stop) ⊎ (status ≡ 5) → (status ≡ 1) ⊎ (status ≡ 2) ⊎ (status ≡ 3) → current' ≡ current
-stop_current current current' status stop keeps (inr five) is = not_four status (inr five) is
-stop_current current current' status (stops.Unwritten file) keeps (inl of_stop) is = not_four status (inl of_stop) is
-stop_current current current' status stops.Memory keeps (inl of_stop) is = not_four status (inr of_stop) is
-stop_current current current' status _ keeps (inl of_stop) is = keeps
+stop_current current current' status (stops.Unwritten file) keeps ends is = absurd (omega (arith, ends, is))
+stop_current current current' status stops.Memory keeps ends is = absurd (omega (arith, ends, is))
+stop_current current current' status _ keeps ends is = keeps
 
-module _ {F E : Type 0} (words : List Name) (files : Files F) (err : Sink E) (x y : F) (u v : E) (status : ℕ) where
+module _ (words : List Name) (old new : Told) (r r' w w' : ℕ) (named : Option Name) (status : ℕ) where
   abbrev OnLine : Line → Stop → Type 0
-  OnLine line stop = StopsLine line (files.told x) (files.told y) (files.read_faults x) (files.read_faults y) (files.write_faults x)
-      (files.write_faults y) (files.fault_name y) stop
+  OnLine line stop = StopsLine line old new r r' w w' named stop
 
   abbrev pub Stopped : Stop → Type 0
-  Stopped stop = StopsWork words (files.told x) (files.told y) (files.read_faults x) (files.read_faults y) (files.write_faults x)
-      (files.write_faults y) (files.fault_name y) stop
+  Stopped stop = StopsWork words old new r r' w w' named stop
 
   -- the status that is reported: that of the stop, or want of memory
   abbrev pub Ends : Stop → Type 0
   Ends stop = (status ≡ status_of stop) ⊎ (status ≡ 5)
 
-  abbrev pub SaysLine : List ℕ → Type 0
-  SaysLine line = Says (err.told u) (err.told v) (err.faults u) (err.faults v) line
-
   -- where no count rose, the stop's status is the job's answer, or want of memory
   line_answers : (line : Line) (stop : Stop) → line_of words ≡ Some line → OnLine line stop → status ≡ status_of stop
-      → (contents : Contents) → files.told x ≡ Some contents → (Rose (files.read_faults x) (files.read_faults y) → ⊥)
-      → (Rose (files.write_faults x) (files.write_faults y) → ⊥)
+      → (contents : Contents) → old ≡ Some contents → (Rose r r' → ⊥) → (Rose w w' → ⊥)
       → (status ≡ 5) ⊎ ((job : Job) × IsJob words contents job × Answers job status)
   line_answers line stops.Usage found why is contents told no_reads no_writes = absurd why
   line_answers line (stops.Refused file reason) found (one, job, same) is contents told no_reads no_writes = inr (
@@ -352,8 +338,8 @@ module _ {F E : Type 0} (words : List Name) (files : Files F) (err : Sink E) (x 
       absurd (no_writes faulted.rose)
   line_answers line stops.Memory found why is contents told no_reads no_writes = inl is
 
-  pub stop_complete : (stop : Stop) → Stopped stop → Ends stop → (contents : Contents) → files.told x ≡ Some contents
-      → (Rose (files.read_faults x) (files.read_faults y) → ⊥) → (Rose (files.write_faults x) (files.write_faults y) → ⊥)
+  pub stop_complete : (stop : Stop) → Stopped stop → Ends stop → (contents : Contents) → old ≡ Some contents
+      → (Rose r r' → ⊥) → (Rose w w' → ⊥)
       → (status ≡ 5) ⊎ ((job : Job) × IsJob words contents job × Answers job status)
   stop_complete stop why (inr five) contents told no_reads no_writes = inl five
   stop_complete stop (inl (usage, none, same)) (inl is) contents told no_reads no_writes =
@@ -364,127 +350,110 @@ module _ {F E : Type 0} (words : List Name) (files : Files F) (err : Sink E) (x 
 
   -- nothing has changed, or some of the job's files stand
   line_stands : (line : Line) (stop : Stop) → line_of words ≡ Some line → OnLine line stop → (contents : Contents)
-      → files.told x ≡ Some contents → StandsOfJob words contents (files.told x) (files.told y)
+      → old ≡ Some contents → StandsOfJob words contents old new
   line_stands line stops.Usage found why contents told = absurd why
   line_stands line (stops.Unwritten file) found (one, faulted, stands) contents told =
       let (made, job, at) = stands contents told in
       inr (made, is_job words line contents (Write made) found job, inr (string_bytes file, at))
   line_stands line stops.Memory found why contents told = some (why contents told)
     where
-      some : StandsOfLine line contents (files.told x) (files.told y) → StandsOfJob words contents (files.told x) (files.told y)
+      some : StandsOfLine line contents old new → StandsOfJob words contents old new
       some (inl same) = inl same
       some (inr (made, job, stands)) = inr (made, is_job words line contents (Write made) found job, stands)
   line_stands line _ found why contents told = inl why.2
 
-  pub stop_stands : (stop : Stop) → Stopped stop → (contents : Contents) → files.told x ≡ Some contents
-      → StandsOfJob words contents (files.told x) (files.told y)
+  pub stop_stands : (stop : Stop) → Stopped stop → (contents : Contents) → old ≡ Some contents → StandsOfJob words contents old new
   stop_stands stop (inl (usage, none, same)) contents told = inl same
   stop_stands stop (inr (inl (memory, same))) contents told = inl same
   stop_stands stop (inr (inr (line, found, why))) contents told = line_stands line stop found why contents told
 
-  pub stop_untouched : (stop : Stop) → Stopped stop → Ends stop → (status ≡ 1) ⊎ (status ≡ 2) ⊎ (status ≡ 3)
-      → files.told y ≡ files.told x
-  stop_untouched stop why (inr five) is = not_four status (inr five) is
+  pub stop_untouched : (stop : Stop) → Stopped stop → Ends stop → (status ≡ 1) ⊎ (status ≡ 2) ⊎ (status ≡ 3) → new ≡ old
+  stop_untouched stop why (inr five) is = absurd (omega (arith, five, is))
   stop_untouched stop (inl (usage, none, same)) (inl of_stop) is = same
   stop_untouched stop (inr (inl (memory, same))) (inl of_stop) is = same
   stop_untouched stop (inr (inr (line, found, why))) (inl of_stop) is = by_stop stop why of_stop
     where
-      by_stop : (stop : Stop) → OnLine line stop → status ≡ status_of stop → files.told y ≡ files.told x
+      by_stop : (stop : Stop) → OnLine line stop → status ≡ status_of stop → new ≡ old
       by_stop stops.Usage why of_stop = absurd why
-      by_stop (stops.Unwritten file) why of_stop = not_four status (inl of_stop) is
-      by_stop stops.Memory why of_stop = not_four status (inr of_stop) is
+      by_stop (stops.Unwritten file) why of_stop = absurd (omega (arith, of_stop, is))
+      by_stop stops.Memory why of_stop = absurd (omega (arith, of_stop, is))
       by_stop _ why of_stop = why.2
 
-  -- the stop's line was said, unless memory was wanting
-  abbrev pub SaysStop : Stop → Type 0
-  SaysStop stop = status ≡ status_of stop → SaysLine (line_for stop) ⊎ (status ≡ 5)
+  module _ (says : List ℕ → Type 0) (stop : Stop) (why : Stopped stop) (ends : Ends stop)
+      (said : status ≡ status_of stop → says (line_for stop) ⊎ (status ≡ 5)) where
+    -- the work on the words' line stopped, and the stop's line was said
+    abbrev StopsHere : Stop → Type 0
+    StopsHere stop = (line : Line) × (line_of words ≡ Some line) × OnLine line stop × (status ≡ status_of stop) × says (line_for stop)
 
-  -- the work on the words' line stopped, and the stop's line was said
-  abbrev StopsHere : Stop → Type 0
-  StopsHere stop = (line : Line) × (line_of words ≡ Some line) × OnLine line stop × (status ≡ status_of stop) × SaysLine (line_for stop)
+    -- neither usage nor want of memory
+    on_line : (status ≡ 2 → ⊥) → (status ≡ 5 → ⊥) → StopsHere stop
+    on_line no_usage no_memory = by why ends
+      where
+        by : Stopped stop → Ends stop → StopsHere stop
+        by why (inr five) = absurd (no_memory five)
+        by (inl (usage, none, same)) (inl is) = absurd (no_usage (is ∙ ap status_of usage))
+        by (inr (inl (memory, same))) (inl is) = absurd (no_memory (is ∙ ap status_of memory))
+        by (inr (inr (line, found, why))) (inl is) =
+            elim (said is) [ inl told ↦ (line, found, why, is, told) | inr five ↦ absurd (no_memory five) ]
 
-  -- neither usage nor want of memory
-  on_line : (stop : Stop) → Stopped stop → Ends stop → SaysStop stop → (status ≡ 2 → ⊥) → (status ≡ 5 → ⊥) → StopsHere stop
-  on_line stop why (inr five) says no_usage no_memory = absurd (no_memory five)
-  on_line stop (inl (usage, none, same)) (inl is) says no_usage no_memory = absurd (no_usage (is ∙ ap status_of usage))
-  on_line stop (inr (inl (memory, same))) (inl is) says no_usage no_memory = absurd (no_memory (is ∙ ap status_of memory))
-  on_line stop (inr (inr (line, found, why))) (inl is) says no_usage no_memory = (
-    line,
-    found,
-    why,
-    is,
-    elim (says is) [
-      | inl told ↦ told
-      | inr five ↦ absurd (no_memory five)
-    ],
-  )
+    -- status 1: the job is a refusal
+    pub stop_refused : status ≡ 1 → (file : Name) × (reason : Reason) × IsInput file (line_of words)
+        × Tells old (λ contents. IsJob words contents (Refused file reason)) × says (refused_line file reason)
+    stop_refused one = by stop (on_line (λ two. omega (arith, one, two)) (λ five. omega (arith, one, five)))
+      where
+        by : (stop : Stop) → StopsHere stop → (file : Name) × (reason : Reason) × IsInput file (line_of words)
+            × Tells old (λ contents. IsJob words contents (Refused file reason)) × says (refused_line file reason)
+        by (stops.Refused file reason) (line, found, (input, job, same), is, said) = (
+          string_bytes file,
+          reason,
+          subst (IsInput (string_bytes file)) (sym found) input,
+          λ contents told. is_job words line contents (Refused (string_bytes file) reason) found (job contents told),
+          said,
+        )
+        by stops.Usage (line, found, why, is, said) = absurd why
+        by _ (line, found, why, is, said) = absurd (omega (arith, is, one))
 
-  -- status 1: the job is a refusal
-  abbrev pub IsRefusedHere : Type 0
-  IsRefusedHere = (file : Name) × (reason : Reason) × IsInput file (line_of words)
-      × Tells (files.told x) (λ contents. IsJob words contents (Refused file reason)) × SaysLine (refused_line file reason)
+    -- status 3: the file was asked for and a read of it failed, or it is told not to be there
+    abbrev IsUnreadHere : Type 0
+    IsUnreadHere = (file : Name) × IsInput file (line_of words) × (Faulted file r r' named
+        ⊎ ((contents : Contents) × (old ≡ Some contents) × IsJob words contents (Missing file))) × says (read_line file)
 
-  pub stop_refused : (stop : Stop) → Stopped stop → Ends stop → SaysStop stop → status ≡ 1 → IsRefusedHere
-  stop_refused stop why ends says one =
-      refused stop (on_line stop why ends says (λ two. omega (arith, one, two)) (λ five. omega (arith, one, five)))
-    where
-      refused : (stop : Stop) → StopsHere stop → IsRefusedHere
-      refused (stops.Refused file reason) (line, found, (input, job, same), is, says) = (
-        string_bytes file,
-        reason,
-        subst (IsInput (string_bytes file)) (sym found) input,
-        λ contents told. is_job words line contents (Refused (string_bytes file) reason) found (job contents told),
-        says,
-      )
-      refused stops.Usage (line, found, why, is, says) = absurd why
-      refused _ (line, found, why, is, says) = absurd (omega (arith, is, one))
+    pub stop_unread : status ≡ 3 → IsUnreadHere
+    stop_unread three = by stop (on_line (λ two. omega (arith, three, two)) (λ five. omega (arith, three, five)))
+      where
+        by : (stop : Stop) → StopsHere stop → IsUnreadHere
+        by (stops.Unread file) (line, found, (input, why, same), is, said) = (
+          string_bytes file,
+          subst (IsInput (string_bytes file)) (sym found) input,
+          elim why [
+            | inl faulted ↦ inl faulted
+            | inr (contents, told, job) ↦ inr (contents, told, is_job words line contents (Missing (string_bytes file)) found job)
+          ],
+          said,
+        )
+        by stops.Usage (line, found, why, is, said) = absurd why
+        by _ (line, found, why, is, said) = absurd (omega (arith, is, three))
 
-  -- status 3: the file was asked for and a read of it failed, or it is told not to be there
-  abbrev pub IsUnreadHere : Type 0
-  IsUnreadHere = (file : Name) × IsInput file (line_of words)
-      × (Faulted file (files.read_faults x) (files.read_faults y) (files.fault_name y)
-      ⊎ ((contents : Contents) × (files.told x ≡ Some contents) × IsJob words contents (Missing file)))
-      × SaysLine (read_line file)
+    -- status 4: a write of the file failed, and the files in front of it stand
+    abbrev IsUnwrittenHere : Type 0
+    IsUnwrittenHere = (file : Name) × IsOutput file (line_of words) × Faulted file w w' named
+        × Tells old (λ contents. (made : List (Name × List ℕ)) × IsJob words contents (Write made) × StandsAt old new made file)
+        × says (write_line file)
 
-  pub stop_unread : (stop : Stop) → Stopped stop → Ends stop → SaysStop stop → status ≡ 3 → IsUnreadHere
-  stop_unread stop why ends says three =
-      unread stop (on_line stop why ends says (λ two. omega (arith, three, two)) (λ five. omega (arith, three, five)))
-    where
-      unread : (stop : Stop) → StopsHere stop → IsUnreadHere
-      unread (stops.Unread file) (line, found, (input, why, same), is, says) = (
-        string_bytes file,
-        subst (IsInput (string_bytes file)) (sym found) input,
-        elim why [
-          | inl faulted ↦ inl faulted
-          | inr (contents, told, job) ↦ inr (contents, told, is_job words line contents (Missing (string_bytes file)) found job)
-        ],
-        says,
-      )
-      unread stops.Usage (line, found, why, is, says) = absurd why
-      unread _ (line, found, why, is, says) = absurd (omega (arith, is, three))
-
-  -- status 4: a write of the file failed, and the files in front of it stand
-  abbrev pub IsUnwrittenHere : Type 0
-  IsUnwrittenHere = (file : Name) × IsOutput file (line_of words)
-      × Faulted file (files.write_faults x) (files.write_faults y) (files.fault_name y)
-      × Tells (files.told x) (λ contents. (made : List (Name × List ℕ)) × IsJob words contents (Write made)
-      × StandsAt (files.told x) (files.told y) made file)
-      × SaysLine (write_line file)
-
-  pub stop_unwritten : (stop : Stop) → Stopped stop → Ends stop → SaysStop stop → status ≡ 4 → IsUnwrittenHere
-  stop_unwritten stop why ends says four =
-      unwritten stop (on_line stop why ends says (λ two. omega (arith, four, two)) (λ five. omega (arith, four, five)))
-    where
-      unwritten : (stop : Stop) → StopsHere stop → IsUnwrittenHere
-      unwritten (stops.Unwritten file) (line, found, (output, faulted, stands), is, says) = (
-        string_bytes file,
-        subst (IsOutput (string_bytes file)) (sym found) output,
-        faulted,
-        λ contents told. let (made, job, at) = stands contents told in (made, is_job words line contents (Write made) found job, at),
-        says,
-      )
-      unwritten stops.Usage (line, found, why, is, says) = absurd why
-      unwritten _ (line, found, why, is, says) = absurd (omega (arith, is, four))
+    pub stop_unwritten : status ≡ 4 → IsUnwrittenHere
+    stop_unwritten four = by stop (on_line (λ two. omega (arith, four, two)) (λ five. omega (arith, four, five)))
+      where
+        by : (stop : Stop) → StopsHere stop → IsUnwrittenHere
+        by (stops.Unwritten file) (line, found, (output, faulted, stands), is, said) = (
+          string_bytes file,
+          subst (IsOutput (string_bytes file)) (sym found) output,
+          faulted,
+          λ contents told.
+              let (made, job, at) = stands contents told in (made, is_job words line contents (Write made) found job, at),
+          said,
+        )
+        by stops.Usage (line, found, why, is, said) = absurd why
+        by _ (line, found, why, is, said) = absurd (omega (arith, is, four))
 
 -- status 5: a part of the stop's line was said
 pub stop_part : (stop : Stop) (said said' : Option (List ℕ)) → SaysPart said said' (line_for stop)

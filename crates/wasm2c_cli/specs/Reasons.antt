@@ -1,6 +1,6 @@
 -- Why a file is refused: it passes a limit of bytes, or the verdict on its bytes refuses it (WebAssembly Core 1.0, chapter 5
 -- and 3.4.10).
-use Rattle.std.specs.Prelude.{◌≡◌, ◌⊎◌, ℕ, List, [], ◌∷◌, Option, Some, None}
+use Rattle.std.specs.Prelude.{◌≡◌, ◌⊎◌, ℕ, List, ◌∷◌, Option, Some, None}
 use Rattle.w2c_io.specs.Contents.{Name, Contents}
 use Rattle.wasm_tree.specs.declared.tree.Module.{Module}
 use Rattle.wasm_spelling.specs.declared.fault.ReadFault.TheVariants as fault

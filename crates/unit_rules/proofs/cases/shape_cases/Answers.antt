@@ -5,7 +5,7 @@ use Rattle.std.specs.Fmt.{digits}
 use Rattle.c_tree.specs.declared.tree.CType.TheVariants as c_type
 use Rattle.c_tree.specs.Tree as tree
 use Rattle.unit_rules.specs.Misshapen as misshapen
-use Rattle.unit_rules.proofs.InitPasses.{self_among}
+use Rattle.unit_rules.proofs.KnownFuncs.{self_among}
 use Rattle.unit_rules.proofs.cases.shape_cases.Goals as goal
 
 -- ---- what a list has not

@@ -1,20 +1,12 @@
-use Rattle.w2c_files.specs.Words.{names_of}
 use Rattle.wasm2c_cli.proofs.FileStops.{at_file, reading_stops}
 use Rattle.wasm2c_cli.proofs.Passing.{reading_tried}
 use Rattle.wasm2c_cli.proofs.reading.read_modules.Goals as goal
 
 pub stop_for-requires : goal.stop_for-requires
-stop_for-requires g c =
-    at_file (g.F.Files.told c.args.files.now) (names_of c.args.inputs.now) (g.F.Files.read_faults c.args.files.now)
-    (g.F.Files.read_faults c.read_files.new.files) (g.F.Files.fault_name c.read_files.new.files) c.in-Err.why c.in-Err.ensures.stop
+stop_for-requires g c = at_file _ _ _ _ _ c.in-Err.why c.in-Err.ensures.stop
 
 pub returns-in-Err-clause-stop : goal.returns-in-Err-clause-stop
-returns-in-Err-clause-stop g c =
-    reading_stops (g.F.Files.told c.args.files.now) (names_of c.args.inputs.now) (g.F.Files.read_faults c.args.files.now)
-    (g.F.Files.read_faults c.read_files.new.files) (g.F.Files.fault_name c.read_files.new.files) c.in-Err.why c.stop_for.result
-    c.in-Err.ensures.stop c.stop_for.ensures
+returns-in-Err-clause-stop g c = reading_stops _ _ _ _ _ c.in-Err.why c.stop_for.result c.in-Err.ensures.stop c.stop_for.ensures
 
 pub returns-in-Err-clause-tried : goal.returns-in-Err-clause-tried
-returns-in-Err-clause-tried g c =
-    reading_tried (g.F.Files.trace c.args.files.now) (g.F.Files.trace c.read_files.new.files) (names_of c.args.inputs.now) c.in-Err.why
-    c.stop_for.result c.in-Err.ensures.tried c.stop_for.ensures
+returns-in-Err-clause-tried g c = reading_tried _ _ _ c.in-Err.why c.stop_for.result c.in-Err.ensures.tried c.stop_for.ensures

@@ -1,4 +1,4 @@
-use Rattle.wasm2c_cli.proofs.Common.{◌≡◌, length, ap, subst, arith, rules, names_of, files_of, AreTaken, StopsAccepting, seen_targets}
+use Rattle.wasm2c_cli.proofs.Common.{◌≡◌, length, ap, subst, arith, rules, names_of, StopsAccepting}
 use Rattle.wasm2c_cli.proofs.LineStops.{all_kept}
 use Rattle.wasm2c_cli.proofs.Taken.{length-taken}
 use Rattle.wasm2c_cli.proofs.Translated.{accepting_stops, reading_stopped, translation_finished, writing_stopped}
@@ -6,22 +6,13 @@ use Rattle.wasm2c_cli.proofs.PassingLines.{accepting_passed, all_passed, reading
 use Rattle.wasm2c_cli.proofs.translating.translate.Goals as goal
 
 pub returns-in-Err-clause-stop : goal.returns-in-Err-clause-stop
-returns-in-Err-clause-stop g c =
-    let files = g.F.Files in
-    reading_stopped (names_of c.args.inputs.now) (seen_targets c.args.targets.now) (files.told c.args.files.now)
-    (files.told c.read_modules.new.files) (files.read_faults c.args.files.now) (files.read_faults c.read_modules.new.files)
-    (files.write_faults c.args.files.now) (files.write_faults c.read_modules.new.files) (files.fault_name c.read_modules.new.files)
-    c.in-Err.stop c.in-Err.ensures.stop c.in-Err.ensures.told
+returns-in-Err-clause-stop g c = reading_stopped _ _ _ _ _ _ _ _ _ c.in-Err.stop c.in-Err.ensures.stop c.in-Err.ensures.told
 
 pub returns-in-Err-accept_modules-clause-stop : goal.returns-in-Err-accept_modules-clause-stop
 returns-in-Err-accept_modules-clause-stop g c =
-    let files = g.F.Files in
-    let names = names_of c.args.inputs.now in
     let seen : c.as_slice.result.now ≡ c.in-Ok.sources.items = search rules in
-    accepting_stops names (seen_targets c.args.targets.now) (files.told c.args.files.now) (files.told c.read_modules.new.files)
-    c.in-Ok.sources.items c.in-Ok.ensures.told c.in-Ok.ensures.read (files.read_faults c.args.files.now)
-    (files.read_faults c.read_modules.new.files) (files.write_faults c.args.files.now) (files.write_faults c.read_modules.new.files)
-    (files.fault_name c.read_modules.new.files) c.in-Err-accept_modules.stop (rw seen at c.in-Err-accept_modules.ensures.stop)
+    accepting_stops _ _ _ _ c.in-Ok.sources.items c.in-Ok.ensures.told c.in-Ok.ensures.read _ _ _ _ _ c.in-Err-accept_modules.stop
+    (rw seen at c.in-Err-accept_modules.ensures.stop)
 
 pub write_modules-requires-clause-many : goal.write_modules-requires-clause-many
 write_modules-requires-clause-many g c =
@@ -34,76 +25,41 @@ write_modules-requires-clause-many g c =
 
 pub returns-clause-done : goal.returns-clause-done
 returns-clause-done g c =
-    let files = g.F.Files in
-    let names = names_of c.args.inputs.now in
-    let targets = seen_targets c.args.targets.now in
-    let modules = c.in-Ok-accept_modules.modules.items in
     let seen : c.as_slice.result.now ≡ c.in-Ok.sources.items = search rules in
-    let seen-2 : c.as_slice-2.result.now ≡ modules = search rules in
-    let taken : AreTaken c.in-Ok.sources.items modules = subst (λ l. AreTaken l modules) seen c.in-Ok-accept_modules.ensures.taken in
-    translation_finished names targets (files.told c.args.files.now) (files.told c.read_modules.new.files)
-    c.in-Ok.sources.items c.in-Ok.ensures.told c.in-Ok.ensures.read modules taken (files.told c.write_modules.new.files)
+    let seen-2 : c.as_slice-2.result.now ≡ c.in-Ok-accept_modules.modules.items = search rules in
+    translation_finished _ _ _ _ _ c.in-Ok.ensures.told c.in-Ok.ensures.read _ (rw seen at c.in-Ok-accept_modules.ensures.taken) _
     c.write_modules.result c.write_modules.ensures.done c.write_modules.ensures.names (rw seen-2 at c.write_modules.ensures.whole)
 
 pub returns-clause-current : goal.returns-clause-current
-returns-clause-current g c =
-    let files = g.F.Files in
-    all_kept (files.current c.args.files.now) (files.current c.write_modules.new.files) (files.told c.read_modules.new.files)
-    (files.told c.write_modules.new.files) (files_of (seen_targets c.args.targets.now) c.as_slice-2.result.now)
-    (files.write_faults c.read_modules.new.files) (files.write_faults c.write_modules.new.files)
-    (files.fault_name c.write_modules.new.files) c.write_modules.result c.write_modules.ensures.stop
+returns-clause-current g c = all_kept _ _ _ _ _ _ _ _ c.write_modules.result c.write_modules.ensures.stop
 
 pub returns-clause-stop : goal.returns-clause-stop
 returns-clause-stop g c =
-    let files = g.F.Files in
-    let names = names_of c.args.inputs.now in
-    let targets = seen_targets c.args.targets.now in
-    let modules = c.in-Ok-accept_modules.modules.items in
     let seen : c.as_slice.result.now ≡ c.in-Ok.sources.items = search rules in
-    let seen-2 : c.as_slice-2.result.now ≡ modules = search rules in
-    let taken : AreTaken c.in-Ok.sources.items modules = subst (λ l. AreTaken l modules) seen c.in-Ok-accept_modules.ensures.taken in
-    writing_stopped names targets (files.told c.args.files.now) (files.told c.read_modules.new.files)
-    c.in-Ok.sources.items c.in-Ok.ensures.told c.in-Ok.ensures.read modules taken (files.told c.write_modules.new.files)
-    (files.read_faults c.args.files.now) (files.read_faults c.write_modules.new.files) (files.write_faults c.args.files.now)
-    (files.write_faults c.read_modules.new.files) (files.write_faults c.write_modules.new.files)
-    (files.fault_name c.write_modules.new.files) c.write_modules.result c.in-Ok.ensures.writes (rw seen-2 at c.write_modules.ensures.stop)
+    let seen-2 : c.as_slice-2.result.now ≡ c.in-Ok-accept_modules.modules.items = search rules in
+    writing_stopped _ _ _ _ _ c.in-Ok.ensures.told c.in-Ok.ensures.read _ (rw seen at c.in-Ok-accept_modules.ensures.taken) _ _ _ _ _ _ _
+    c.write_modules.result c.in-Ok.ensures.writes (rw seen-2 at c.write_modules.ensures.stop)
 
 pub returns-in-Err-clause-tried : goal.returns-in-Err-clause-tried
-returns-in-Err-clause-tried g c =
-    reading_passed (names_of c.args.inputs.now) (seen_targets c.args.targets.now) (g.F.Files.trace c.args.files.now)
-    (g.F.Files.trace c.read_modules.new.files) c.in-Err.stop c.in-Err.ensures.tried
+returns-in-Err-clause-tried g c = reading_passed _ _ _ _ c.in-Err.stop c.in-Err.ensures.tried
 
 pub returns-in-Err-accept_modules-clause-tried : goal.returns-in-Err-accept_modules-clause-tried
 returns-in-Err-accept_modules-clause-tried g c =
-    let files = g.F.Files in
-    let names = names_of c.args.inputs.now in
     let seen : c.as_slice.result.now ≡ c.in-Ok.sources.items = search rules in
-    accepting_passed names (seen_targets c.args.targets.now) (files.trace c.args.files.now) (files.trace c.read_modules.new.files)
-    c.in-Ok.sources.items c.in-Ok.ensures.fit c.in-Ok.ensures.together c.in-Err-accept_modules.stop
-    (subst (λ l. StopsAccepting names l c.in-Err-accept_modules.stop) seen c.in-Err-accept_modules.ensures.stop) c.in-Ok.ensures.passed
+    accepting_passed _ _ _ _ c.in-Ok.sources.items c.in-Ok.ensures.fit c.in-Ok.ensures.together c.in-Err-accept_modules.stop
+    (subst (λ l. StopsAccepting (names_of c.args.inputs.now) l c.in-Err-accept_modules.stop) seen c.in-Err-accept_modules.ensures.stop)
+    c.in-Ok.ensures.passed
 
 pub returns-clause-passed : goal.returns-clause-passed
 returns-clause-passed g c =
-    let files = g.F.Files in
-    let names = names_of c.args.inputs.now in
-    let targets = seen_targets c.args.targets.now in
-    let modules = c.in-Ok-accept_modules.modules.items in
     let seen : c.as_slice.result.now ≡ c.in-Ok.sources.items = search rules in
-    let seen-2 : c.as_slice-2.result.now ≡ modules = search rules in
-    let taken : AreTaken c.in-Ok.sources.items modules = subst (λ l. AreTaken l modules) seen c.in-Ok-accept_modules.ensures.taken in
-    all_passed names targets (files.trace c.args.files.now) (files.trace c.write_modules.new.files) c.in-Ok.sources.items
-    c.in-Ok.ensures.fit c.in-Ok.ensures.together modules taken (files.trace c.read_modules.new.files)
+    let seen-2 : c.as_slice-2.result.now ≡ c.in-Ok-accept_modules.modules.items = search rules in
+    all_passed _ _ _ _ _ c.in-Ok.ensures.fit c.in-Ok.ensures.together _ (rw seen at c.in-Ok-accept_modules.ensures.taken) _
     c.in-Ok.ensures.passed c.write_modules.result c.write_modules.ensures.names (rw seen-2 at c.write_modules.ensures.passed)
 
 pub returns-clause-tried : goal.returns-clause-tried
 returns-clause-tried g c =
-    let files = g.F.Files in
-    let names = names_of c.args.inputs.now in
-    let targets = seen_targets c.args.targets.now in
-    let modules = c.in-Ok-accept_modules.modules.items in
     let seen : c.as_slice.result.now ≡ c.in-Ok.sources.items = search rules in
-    let seen-2 : c.as_slice-2.result.now ≡ modules = search rules in
-    let taken : AreTaken c.in-Ok.sources.items modules = subst (λ l. AreTaken l modules) seen c.in-Ok-accept_modules.ensures.taken in
-    writing_passed names targets (files.trace c.args.files.now) (files.trace c.write_modules.new.files) c.in-Ok.sources.items
-    c.in-Ok.ensures.fit c.in-Ok.ensures.together modules taken (files.trace c.read_modules.new.files) c.in-Ok.ensures.passed
-    c.write_modules.result (rw seen-2 at c.write_modules.ensures.tried)
+    let seen-2 : c.as_slice-2.result.now ≡ c.in-Ok-accept_modules.modules.items = search rules in
+    writing_passed _ _ _ _ _ c.in-Ok.ensures.fit c.in-Ok.ensures.together _ (rw seen at c.in-Ok-accept_modules.ensures.taken) _
+    c.in-Ok.ensures.passed c.write_modules.result (rw seen-2 at c.write_modules.ensures.tried)

@@ -1,49 +1,30 @@
-use Rattle.wasm2c_cli.proofs.Common.{◌∙◌, part_written, put_part, put_whole, whole_begun, header_text_of}
+use Rattle.wasm2c_cli.proofs.Common.{◌∙◌, part_written, put_part, put_whole, whole_begun}
 use Rattle.wasm2c_cli.proofs.ModuleFiles.{in_err, in_ok}
 use Rattle.wasm2c_cli.proofs.Passing.{finished, not_finished}
 use Rattle.wasm2c_cli.proofs.writing.header_to_file.Goals as goal
 
 pub returns-in-Err-clause-begun : goal.returns-in-Err-clause-begun
 returns-in-Err-clause-begun g c =
-    let files = g.F.Files in
-    put_part (files.told c.args.files.now) (files.told c.begin.new.self) (files.told c.write_header.new.files)
-    (files.told c.give_up.new.files) (files.current c.begin.new.self) c.args.file.now
-    (header_text_of c.args.module.now c.args.module_name.now) c.in_ok-begin.ensures.begun c.in_ok-begin.ensures.current
-    c.in-Err.ensures.part c.give_up.ensures.told
+    put_part _ _ _ _ _ _ _ c.in_ok-begin.ensures.begun c.in_ok-begin.ensures.current c.in-Err.ensures.part c.give_up.ensures.told
 
 pub returns-clause-begun : goal.returns-clause-begun
 returns-clause-begun g c =
-    let files = g.F.Files in
-    in_err c.finish.result (whole_begun (files.told c.args.files.now) (files.told c.finish.new.self) c.args.file.now
-    (header_text_of c.args.module.now c.args.module_name.now) (c.finish.ensures.told
-    ∙ put_whole (files.told c.args.files.now) (files.told c.begin.new.self) (files.told c.write_header.new.files)
-    (files.current c.begin.new.self) c.args.file.now (header_text_of c.args.module.now c.args.module_name.now) c.in_ok-begin.ensures.begun
-    c.in_ok-begin.ensures.current c.in_default.ensures.written))
+    in_err c.finish.result (whole_begun _ _ _ _ (c.finish.ensures.told
+    ∙ put_whole _ _ _ _ _ _ c.in_ok-begin.ensures.begun c.in_ok-begin.ensures.current c.in_default.ensures.written))
 
 pub returns-clause-whole : goal.returns-clause-whole
 returns-clause-whole g c =
-    let files = g.F.Files in
     in_ok c.finish.result (c.finish.ensures.told
-    ∙ put_whole (files.told c.args.files.now) (files.told c.begin.new.self) (files.told c.write_header.new.files)
-    (files.current c.begin.new.self) c.args.file.now (header_text_of c.args.module.now c.args.module_name.now) c.in_ok-begin.ensures.begun
-    c.in_ok-begin.ensures.current c.in_default.ensures.written)
+    ∙ put_whole _ _ _ _ _ _ c.in_ok-begin.ensures.begun c.in_ok-begin.ensures.current c.in_default.ensures.written)
 
 pub returns-in-Err-clause-tried : goal.returns-in-Err-clause-tried
 returns-in-Err-clause-tried g c =
-    part_written (g.F.Files.trace c.args.files.now) (g.F.Files.trace c.begin.new.self) (g.F.Files.trace c.write_header.new.files)
-    (g.F.Files.trace c.give_up.new.files) c.args.file.now (header_text_of c.args.module.now c.args.module_name.now) c.in-Err.answer
-    c.in_ok-begin.ensures.traced c.in-Err.ensures.tried c.give_up.ensures.passed
+    part_written _ _ _ _ _ _ c.in-Err.answer c.in_ok-begin.ensures.traced c.in-Err.ensures.tried c.give_up.ensures.passed
 
 pub returns-clause-passed : goal.returns-clause-passed
 returns-clause-passed g c =
-    finished (g.F.Files.trace c.args.files.now) (g.F.Files.trace c.begin.new.self) (g.F.Files.trace c.write_header.new.files)
-    (g.F.Files.trace c.finish.new.self) c.args.file.now (header_text_of c.args.module.now c.args.module_name.now) c.finish.result
-    c.in_ok-begin.ensures.traced
-    c.in_default.ensures.passed c.finish.ensures.traced
+    finished _ _ _ _ _ _ c.finish.result c.in_ok-begin.ensures.traced c.in_default.ensures.passed c.finish.ensures.traced
 
 pub returns-clause-tried : goal.returns-clause-tried
 returns-clause-tried g c =
-    not_finished (g.F.Files.trace c.args.files.now) (g.F.Files.trace c.begin.new.self) (g.F.Files.trace c.write_header.new.files)
-    (g.F.Files.trace c.finish.new.self) c.args.file.now (header_text_of c.args.module.now c.args.module_name.now) c.finish.result
-    c.in_ok-begin.ensures.traced
-    c.in_default.ensures.passed c.finish.ensures.traced
+    not_finished _ _ _ _ _ _ c.finish.result c.in_ok-begin.ensures.traced c.in_default.ensures.passed c.finish.ensures.traced
