@@ -10,7 +10,7 @@ use std::alloc::Global;
 use w2c_base::Memory;
 use wasm_tree::{Import, ImportKind};
 
-/// The symbols of a module's imported functions in order, whether they may be used or not.
+/// The symbols of a module's imported functions in order, whether they may be used or not. Its one error is want of memory.
 pub(crate) fn func_symbols(alloc: Global, symbols: &Symbols) -> Result<Vec<Name>, Memory>
     ensures { IfOk result (λ names. names.items ≡ map import_symbol (func_imports symbols.now.indexes.tree.now)) }
 {

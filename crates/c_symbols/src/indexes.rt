@@ -33,7 +33,7 @@ pub struct Symbol<'a> {
 impl<'a> Symbol<'a> {
     ghost use Rattle.c_symbols.specs.Named.{pair_of};
 
-    /// The same symbol again.
+    /// The same symbol again. Its one error is want of memory.
     pub fn copy(&self, alloc: Global) -> Result<Symbol<'a>, Memory>
         ensures { IfOk result (λ s. pair_of s ≡ pair_of self.now) }
     {
