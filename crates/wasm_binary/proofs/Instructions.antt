@@ -64,7 +64,7 @@ op_has (op.Access (access.Store o)) = (refl, refl)
 op_has (op.Numeric (numeric.Eqz ty)) = (refl, refl)
 op_has _ = (refl, refl)
 
-op_row : (o : Op) → form_in (row_of (op_opcode o)) ≡ Some (op_form o)
+pub op_row : (o : Op) → form_in (row_of (op_opcode o)) ≡ Some (op_form o)
 op_row o =
     let has = op_has o in
     subst (λ n. form_in (row_of n) ≡ Some (op_form o)) has.0 (has_row (op_tree o) (op_form o) has.1)

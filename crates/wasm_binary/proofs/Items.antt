@@ -1,14 +1,14 @@
 -- The loop over instructions, and one turn of it.
 use Rattle.wasm_binary.proofs.Common.{◌≡◌, ℕ, zero, suc, ◌-◌, ◌<◌, Bool, true, false, cond, ◌&&◌, eqb, length, Some, None, Ok, Err, Option}
 use Rattle.wasm_binary.proofs.Common.{Result, sym, refl, ap, ◌∙◌, subst, arith, eqb-true, form_in, Form, row_of, Code, Kind, end_code}
-use Rattle.wasm_binary.proofs.Common.{then_code, block_takes, item_takes, At, Ender, block_of, by_else, by_end, code_at, Reader, a_block}
-use Rattle.wasm_binary.proofs.Common.{a_loop, an_if, ◌>>=◌, ReadFault, Float, Limit, Malformed, Memory, opener_head, Fails}
+use Rattle.wasm_binary.proofs.Common.{nothing, then_code, block_takes, item_takes, At, Ender, block_of, by_else, by_end, code_at, Reader}
+use Rattle.wasm_binary.proofs.Common.{a_block, a_loop, an_if, ◌>>=◌, ReadFault, Float, Limit, Malformed, Memory, opener_head, Fails}
 use Rattle.std.proofs.lemmas.Bool.{and_parts}
 use Rattle.wasm_tree.specs.Appended.{InstrTree, ◌+>◌}
 use Rattle.wasm_spelling.specs.declared.fault.Cause.TheVariants as cause
 use Rattle.wasm_spelling.specs.declared.fault.Which.TheVariants as which
 use Rattle.wasm_spelling.specs.Steps.{reads, checked, byte_at, Head, opened, formed, is_float, head_of}
-use Rattle.wasm_spelling.specs.Reading.{Item, closed, one, as_one, item_of, item_at, put_before, after_item, items_at, block_at}
+use Rattle.wasm_spelling.specs.Reading.{Item, closed, one, as_one, form_at, item_of, item_at, put_before, after_item, items_at, block_at}
 use Rattle.wasm_binary.specs.Opcodes.{plain_at, by_form}
 
 -- ---- the loop
@@ -221,3 +221,23 @@ plain_item room may_else a op b e n11 n5 n =
     ∙ ap (λ (r : Result Head ReadFault). (r >>= λ h. Ok (h, b)) >>= by_head room a.place)
     (rw (unequal op 0x0B (eqb op 0x0B) refl n11, n5, n.no_block, n.no_loop, n.no_if) refl)
     ∙ form_item room a.place op b (form_in (row_of op))
+
+-- an opcode that nothing stands behind closes nothing and opens nothing
+no_row : (A : Type 0) (op n : ℕ) (f : Form) → form_in (row_of op) ≡ Some f → form_in (row_of n) ≡ None → op ≡ n → A
+no_row A op n f is none same = absurd cc
+
+apart : (op n : ℕ) (f : Form) → form_in (row_of op) ≡ Some f → form_in (row_of n) ≡ None → eqb op n ≡ false
+apart op n f is none = unequal op n (eqb op n) refl (no_row _ op n f is none)
+
+pub alone_item : (room : ℕ) (may_else : Bool) (a : At) (op : ℕ) (kind : Kind) (b : At) → byte_at a ≡ Ok (op, b)
+    → form_in (row_of op) ≡ Some (nothing kind)
+    → item_at room may_else (block_at room) a ≡ Ok (one a.place kind, b)
+unfolding plain_at form_at
+alone_item room may_else a op kind b e is =
+    let no_else : eqb op 0x05 && may_else ≡ false = ap (λ (t : Bool). t && may_else) (apart op 0x05 (nothing kind) is refl) in
+    plain_item room may_else a op b e (no_row _ op 0x0B (nothing kind) is refl) no_else (record {
+      no_block = apart op 2 (nothing kind) is refl;
+      no_loop = apart op 3 (nothing kind) is refl;
+      no_if = apart op 4 (nothing kind) is refl;
+    })
+    ∙ ap (λ (o : Option Form). by_form a.place op o b >>= λ x. Ok (one a.place x.0, x.1)) is

@@ -13,6 +13,8 @@ use Rattle.wasm_spelling.specs.declared.fault.ReadFault.TheVariants.{Float, Malf
 use Rattle.wasm_spelling.specs.declared.fault.Cause.TheVariants as cause
 use Rattle.wasm_spelling.specs.Steps.{Reader, is_float}
 use Rattle.wasm_spelling.specs.Reading.{form_at}
+use Rattle.wasm_binary.specs.declared.code.Alone.{Alone}
+use Rattle.wasm_binary.specs.declared.code.Alone.TheVariants as alone
 use Rattle.wasm_binary.specs.declared.code.Prefixed.{Prefixed}
 
 -- what stands behind the opcode of an operator, and the instruction that this makes
@@ -37,3 +39,8 @@ by_form place b None a = Err (fault_of place b)
 
 unfoldable pub plain_at : ℕ → ℕ → Reader Kind
 plain_at place b a = by_form place b (form_in (row_of b)) a
+
+-- the instruction of an operator that its opcode alone spells
+abbrev pub alone_tree : Alone → Kind
+alone_tree (alone.Simple o) = simple_tree o
+alone_tree (alone.Numeric o) = numeric_tree o

@@ -1,14 +1,15 @@
 // Instructions and expressions (WebAssembly Core 1.0, 5.4; Core 2.0, 5.4.6, for the byte FC).
-ghost use Rattle.std.specs.Prelude.{◌≡◌, ◌==◌, ◌&&◌, Result, false, true, option_map};
+ghost use Rattle.std.specs.Prelude.{◌≡◌, ◌==◌, ◌&&◌, Result, Some, false, true, option_map, IfSome};
 ghost use Rattle.wasm_tree.specs.Instructions.{Kind as Tree, BrTable, CallIndirect};
 ghost use Rattle.wasm_tree.specs.Views.{kind_tree};
-ghost use Rattle.wasm_tree.specs.InstructionTable.{labels, a_type, a_sub_opcode, prefixed_of};
+ghost use Rattle.wasm_tree.specs.InstructionTable.{labels, nothing, a_type, a_sub_opcode, prefixed_of, row_of};
+ghost use Rattle.wasm_tree.specs.Forms.{form_in};
 ghost use Rattle.wasm_spelling.specs.declared.fault.ReadFault.{ReadFault as Fault};
 ghost use Rattle.wasm_spelling.specs.At.{At};
 ghost use Rattle.wasm_spelling.specs.Steps.{is_float as is_float_of};
 ghost use Rattle.wasm_spelling.specs.Reading.{form_at, ender_place, item_at, block_at, code_at, expression_at};
 ghost use Rattle.wasm_binary.specs.View.{Gives, at, seen, kept};
-ghost use Rattle.wasm_binary.specs.Opcodes.{op_form, plain_at, fault_of, prefixed_row};
+ghost use Rattle.wasm_binary.specs.Opcodes.{op_form, plain_at, fault_of, prefixed_row, alone_tree};
 ghost use Rattle.wasm_binary.specs.Enders.{as_kind, as_item, as_one, as_code, ender_of, head_of_opener, opener_head, takes_else, ended_block, opened_at};
 
 use crate::fields::{byte, exactly, number, signed32, signed64};
@@ -20,7 +21,7 @@ use w2c_base::{BLOCK_DEPTH, ValType};
 use wasm_spelling::{Cause, ReadFault, Which};
 use wasm_tree::{
     BLOCK, BR_TABLE, CALL_INDIRECT, Code, ElsePart, I32_CONST, I64_CONST, IF, Instr, Kind, LOOP,
-    MEMORY_COPY, MEMORY_FILL, MEMORY_GROW, MEMORY_SIZE, MemArg, Op, PREFIX,
+    MEMORY_COPY, MEMORY_FILL, MEMORY_GROW, MEMORY_SIZE, MemArg, Numeric, Op, PREFIX, Simple,
 };
 
 /// What closes instructions, with its place.
@@ -341,6 +342,35 @@ fn next_item(
     }
 }
 
+/// An operator whose opcode alone spells its instruction.
+#[derive(Clone, Copy)]
+enum Alone {
+    Simple(Simple),
+    Numeric(Numeric),
+}
+
+impl Alone {
+    fn kind(self) -> Kind
+        ensures { kind_tree result ≡ alone_tree self }
+    {
+        match self {
+            Alone::Simple(op) => op.kind(),
+            Alone::Numeric(op) => op.kind(),
+        }
+    }
+}
+
+/// The operator of an opcode that nothing stands behind.
+fn alone_of(opcode: u8) -> Option<Alone>
+    ensures { IfSome result (λ op. form_in (row_of opcode) ≡ Some (nothing (alone_tree op))) }
+{
+    match Op::of_opcode(opcode) {
+        Some(Op::Simple(op)) => Some(Alone::Simple(op)),
+        Some(Op::Numeric(op)) => Some(Alone::Numeric(op)),
+        Some(Op::Index(_)) | Some(Op::Access(_)) | None => None,
+    }
+}
+
 /// The instructions up to what closes them, where so many blocks may be opened.
 #[cycle(instructions)]
 pub fn instructions(
@@ -354,15 +384,26 @@ pub fn instructions(
     let mut code = Code::new(alloc);
     let mut ahead = rest;
     loop {
-        let (item, after) = next_item(alloc, room, may_else, ahead)?;
-        match item {
-            Item::Closed(ender) => {
-                code.fit();
-                return Ok(((code, ender), after));
+        // Instructions of a byte are not handed through the wide results of others.
+        let (opcode, after) = byte(ahead)?;
+        if let Some(op) = alone_of(opcode) {
+            let kind = op.kind();
+            code.push(Instr {
+                place: ahead.place,
+                kind,
+            })?;
+            ahead = after;
+        } else {
+            let (item, after) = next_item(alloc, room, may_else, ahead)?;
+            match item {
+                Item::Closed(ender) => {
+                    code.fit();
+                    return Ok(((code, ender), after));
+                }
+                Item::One(instr) => code.push(instr)?,
             }
-            Item::One(instr) => code.push(instr)?,
+            ahead = after;
         }
-        ahead = after;
     }
 }
 

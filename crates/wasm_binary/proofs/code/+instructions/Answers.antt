@@ -2,7 +2,9 @@ use Rattle.wasm_binary.proofs.Common.{◌-◌, Ok, sym, ap, ◌∙◌, subst, ar
 use Rattle.wasm_binary.proofs.Common.{ender_of, head_of_opener, item_of, Gives, at}
 use Rattle.wasm_binary.specs.declared.code.Item.{Item}
 use Rattle.wasm_binary.proofs.Items.{Ahead, at_start, goes_on, stops, is_done, shorter, byte_fails, end_item, else_item, no_room}
-use Rattle.wasm_binary.proofs.Items.{block_item, plain_item, opens_as, opens_none}
+use Rattle.wasm_binary.proofs.Items.{block_item, plain_item, alone_item, opens_as, opens_none}
+use Rattle.wasm_tree.specs.Appended.{InstrTree, ◌+>◌}
+use Rattle.wasm_binary.specs.Opcodes.{alone_tree}
 use Rattle.wasm_binary.proofs.Blocks.{opened_is}
 use Rattle.wasm_binary.proofs.code.+instructions.Goals as goal
 
@@ -14,7 +16,7 @@ instructions-loop-code-init t c =
 pub instructions-returns-in_err-item : goal.instructions-returns-in_err-item
 instructions-returns-in_err-item t c =
     let l = c.loop-code in
-    let p = err_from_is_err_and c.from_residual.result c.from_residual.ensures.1 in
+    let p = err_from_is_err_and c.from_residual-in_err-item.result c.from_residual-in_err-item.ensures.1 in
     rw (p.1, p.2) (stops c.args.room c.args.may_else l.code (at l.ahead) c.in_err-item.field-0.0
     (code_at c.args.room c.args.may_else (at c.args.rest)) c.in_err-item.ensures l.invariant)
 
@@ -25,6 +27,33 @@ instructions-returns-in-Closed t c =
     (code_at c.args.room c.args.may_else (at c.args.rest))
     (c.in_ok-item.ensures ∙ ap (λ (i : Item). Ok (item_of i, at c.in_ok-item.after)) c.in-Closed.is) l.invariant
     ∙ ap (λ (code : Code). Ok ((code, ender_of c.in-Closed.ender), at c.in_ok-item.after)) (sym c.fit.ensures)
+
+pub instructions-loop-code-smaller-in-Some : goal.instructions-loop-code-smaller-in-Some
+instructions-loop-code-smaller-in-Some t c =
+    let l = c.loop-code in
+    let instr : InstrTree = record { place = l.ahead.place; kind = alone_tree c.in-Some.op } in
+    shorter c.args.room c.args.may_else (at l.ahead) instr (at c.in_ok-opcode.after)
+    (alone_item c.args.room c.args.may_else (at l.ahead) c.in_ok-opcode.opcode instr.kind (at c.in_ok-opcode.after) c.in_ok-opcode.ensures
+    c.in-Some.ensures)
+
+pub instructions-loop-code-preserved-in-Some : goal.instructions-loop-code-preserved-in-Some
+instructions-loop-code-preserved-in-Some t c =
+    let l = c.loop-code in
+    let total = code_at c.args.room c.args.may_else (at c.args.rest) in
+    let instr : InstrTree = record { place = l.ahead.place; kind = alone_tree c.in-Some.op } in
+    subst (λ (code : Code). Ahead c.args.room c.args.may_else code (at c.in_ok-opcode.after) total)
+    (sym (c.in_ok-push.ensures.ok ∙ ap (λ k. l.code +> record { place = l.ahead.place; kind = k }) c.kind-kind.ensures))
+    (goes_on c.args.room c.args.may_else l.code (at l.ahead) instr (at c.in_ok-opcode.after) total
+    (alone_item c.args.room c.args.may_else (at l.ahead) c.in_ok-opcode.opcode instr.kind (at c.in_ok-opcode.after) c.in_ok-opcode.ensures
+    c.in-Some.ensures) l.invariant)
+
+pub instructions-returns-in_err-opcode : goal.instructions-returns-in_err-opcode
+instructions-returns-in_err-opcode t c =
+    let l = c.loop-code in
+    let p = err_from_is_err_and c.from_residual.result c.from_residual.ensures.1 in
+    rw (p.1, p.2) (stops c.args.room c.args.may_else l.code (at l.ahead) c.in_err-opcode.field-0.0
+    (code_at c.args.room c.args.may_else (at c.args.rest))
+    (byte_fails c.args.room c.args.may_else (at l.ahead) c.in_err-opcode.field-0.0 c.in_err-opcode.ensures) l.invariant)
 
 pub instructions-loop-code-smaller : goal.instructions-loop-code-smaller
 instructions-loop-code-smaller t c =
