@@ -1,6 +1,6 @@
 -- What proofs of this crate cite of std, of the crates below and of specs/, passed on from one place. Declares nothing.
 pub use Rattle.std.proofs.Common.{◌≡◌, ℕ, zero, suc, ◌+◌, ◌-◌, ◌<◌, ◌≤◌, Bool, true, false, cond, not, ◌&&◌, ◌||◌, List, [], ◌∷◌, map}
-pub use Rattle.std.proofs.Common.{length, get_or, take, drop, is_some, IfOk, if◌then◌else◌, ◌==◌, slice_get, Some, None, Option, option_map}
+pub use Rattle.std.proofs.Common.{length, get_or, take, drop, is_some, IfOk, ◌==◌, slice_get, Some, None, Option, option_map}
 pub use Rattle.std.proofs.Common.{filter_map, bytes_eq, nat_cmp, is_eq, BTreeSet, sym, refl, ap, ◌∙◌, subst, arith, Bor}
 pub use Rattle.std.proofs.lemmas.List.{drop_all, length-map}
 pub use Rattle.std.specs.BTreeMap.{is_at}

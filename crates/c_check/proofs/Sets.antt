@@ -1,7 +1,7 @@
 -- Sets of names, and tests of all items of a list.
 use Rattle.c_check.proofs.Common.{◌≡◌, ℕ, zero, suc, ◌+◌, ◌<◌, ◌≤◌, Bool, true, false, not, ◌&&◌, ◌||◌, List, [], ◌∷◌, map, length, get_or}
 use Rattle.c_check.proofs.Common.{take}
-use Rattle.c_check.proofs.Common.{is_some, if◌then◌else◌, Option, filter_map, bytes_eq, sym, refl, ap, ◌∙◌, arith, length-map, list_all}
+use Rattle.c_check.proofs.Common.{is_some, Option, filter_map, bytes_eq, sym, refl, ap, ◌∙◌, arith, length-map, list_all}
 use Rattle.c_check.proofs.Common.{list_any, named, hides_none, name_of, CType, names_of, knows_next, variable_pair, Variable}
 use Rattle.c_tree.specs.Tree as tree
 use Rattle.c_tree.proofs.Tested.{list_all_map}

@@ -76,14 +76,6 @@ pub fn cases_are_distinct(alloc: Global, s: &Scope, stmt: &Stmt) -> Result<bool,
             let distinct = are_distinct_numbers(alloc, cases.as_slice())?;
             Ok(cases_suit(type_of(s, e), cases.as_slice()) && distinct)
         }
-        Stmt::Label(_)
-        | Stmt::Null
-        | Stmt::Set(_, _)
-        | Stmt::SetStar(_, _)
-        | Stmt::Call(_, _, _)
-        | Stmt::Goto(_)
-        | Stmt::If(_, _, _, _)
-        | Stmt::ReturnNone
-        | Stmt::Return(_) => Ok(true),
+        _ => Ok(true),
     }
 }

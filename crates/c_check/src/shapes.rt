@@ -89,15 +89,7 @@ pub fn written_type_is_proper(stmt: &Stmt) -> bool
 {
     match stmt {
         Stmt::Call(_, callee, _) => callee_is_proper(callee),
-        Stmt::Label(_)
-        | Stmt::Null
-        | Stmt::Set(_, _)
-        | Stmt::SetStar(_, _)
-        | Stmt::Goto(_)
-        | Stmt::If(_, _, _, _)
-        | Stmt::Switch(_, _, _)
-        | Stmt::ReturnNone
-        | Stmt::Return(_) => true,
+        _ => true,
     }
 }
 
@@ -196,11 +188,7 @@ pub fn ends_body(stmt: &Stmt) -> bool
     match stmt {
         Stmt::Goto(_) | Stmt::Switch(_, _, _) | Stmt::ReturnNone | Stmt::Return(_) => true,
         Stmt::Call(_, callee, _) => is_trap(callee),
-        Stmt::Label(_)
-        | Stmt::Null
-        | Stmt::Set(_, _)
-        | Stmt::SetStar(_, _)
-        | Stmt::If(_, _, _, _) => false,
+        _ => false,
     }
 }
 

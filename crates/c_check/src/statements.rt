@@ -47,13 +47,7 @@ fn named_labels_are_there(labels: &NameTable<()>, stmt: &Stmt) -> bool
         Stmt::Switch(_, cases, name) => {
             have_case_labels(labels, cases.as_slice()) && has_label(labels, name)
         }
-        Stmt::Label(_)
-        | Stmt::Null
-        | Stmt::Set(_, _)
-        | Stmt::SetStar(_, _)
-        | Stmt::Call(_, _, _)
-        | Stmt::ReturnNone
-        | Stmt::Return(_) => true,
+        _ => true,
     }
 }
 

@@ -2,19 +2,19 @@
 // 6.8.6.4).
 ghost use Rattle.std.specs.Prelude.{◌≡◌, ◌&&◌, map, Some, None, option_map, false};
 ghost use Rattle.w2c_base.specs.Lookup.{if_found};
-ghost use Rattle.c_tree.specs.View.{expr_of, arg_of, callee_of, stmt_of};
+ghost use Rattle.c_tree.specs.View.{expr_of, arg_of, callee_of};
 ghost use Rattle.c_tree.specs.Scope.{pointer_to, type_of};
-ghost use Rattle.c_tree.specs.Rules.{if_any, has_same_type, arg_suits, args_suit, callee_type, target_suits, call_suits, stmt_suits, proper_types};
+ghost use Rattle.c_tree.specs.Rules.{if_any, has_same_type, arg_suits, args_suit, callee_type, target_suits, call_suits, proper_types};
 ghost use Rattle.c_tree.specs.Runtime.{same_type};
 ghost use Rattle.c_tree.specs.declared.tree.CType.{CType};
 ghost use Rattle.c_scope.specs.ScopeOf.{scope_of};
 ghost use Rattle.c_scope.specs.Signatures.{signature_type};
 
 use crate::ctype::{Typed, is_void, pointer_to, proper_types};
-use crate::typing::{pointed, type_of};
+use crate::typing::type_of;
 use c_rules::same_type;
 use c_scope::{Scope, Signature};
-use c_tree::{Arg, CType, Callee, Expr, Name, Stmt};
+use c_tree::{Arg, CType, Callee, Expr, Name};
 
 /// Whether a type is the one that is found. Nothing is asked where none is found.
 fn has_same_type(found: Option<CType>, t: CType) -> bool
@@ -110,7 +110,7 @@ fn target_suits(s: &Scope, given: CType, target: &Option<Name>) -> bool
     }
 }
 
-fn call_suits(s: &Scope, target: &Option<Name>, callee: &Callee, args: &[Arg]) -> bool
+pub fn call_suits(s: &Scope, target: &Option<Name>, callee: &Callee, args: &[Arg]) -> bool
     ensures { result ≡ if_any (callee_type (scope_of s.now) (callee_of callee.now)) (call_suits (scope_of s.now) target.now (map arg_of args.now)) }
 {
     match callee_type(s, callee) {
@@ -121,7 +121,7 @@ fn call_suits(s: &Scope, target: &Option<Name>, callee: &Callee, args: &[Arg]) -
     }
 }
 
-fn assignment_suits(s: &Scope, found: Option<CType>, arg: &Arg) -> bool
+pub fn assignment_suits(s: &Scope, found: Option<CType>, arg: &Arg) -> bool
     ensures { result ≡ if_any found (λ t. arg_suits (scope_of s.now) t (arg_of arg.now)) }
 {
     match found {
@@ -130,29 +130,11 @@ fn assignment_suits(s: &Scope, found: Option<CType>, arg: &Arg) -> bool
     }
 }
 
-fn pointed_suits(s: &Scope, found: Option<CType>, e: &Expr) -> bool
+pub fn pointed_suits(s: &Scope, found: Option<CType>, e: &Expr) -> bool
     ensures { result ≡ if_any found (has_same_type (type_of (scope_of s.now) (expr_of e.now))) }
 {
     match found {
         Some(t) => has_same_type(type_of(s, e), t),
         None => true,
-    }
-}
-
-/// Whether a statement's assignment, call or result has the declared type.
-pub fn types_agree(s: &Scope, stmt: &Stmt) -> bool
-    ensures { result ≡ stmt_suits (scope_of s.now) (stmt_of stmt.now) }
-{
-    match stmt {
-        Stmt::Set(name, arg) => assignment_suits(s, s.variable(name.as_slice()), arg),
-        Stmt::SetStar(name, e) => pointed_suits(s, pointed(s.variable(name.as_slice())), e),
-        Stmt::Call(target, callee, args) => call_suits(s, target, callee, args.as_slice()),
-        Stmt::ReturnNone => is_void(s.func.result),
-        Stmt::Return(arg) => !is_void(s.func.result) && arg_suits(s, s.func.result, arg),
-        Stmt::If(_, _, _, _)
-        | Stmt::Switch(_, _, _)
-        | Stmt::Label(_)
-        | Stmt::Null
-        | Stmt::Goto(_) => true,
     }
 }

@@ -3,15 +3,15 @@
 ghost use Rattle.std.specs.Prelude.{◌≡◌, map, is_some, flat_map};
 ghost use Rattle.std.specs.List.{list_all};
 ghost use Rattle.w2c_base.specs.Lookup.{named};
-ghost use Rattle.c_tree.specs.View.{expr_of, arg_of, callee_of, stmt_of};
+ghost use Rattle.c_tree.specs.View.{expr_of, arg_of, callee_of};
 ghost use Rattle.c_tree.specs.Scope.{variables, functions};
-ghost use Rattle.c_tree.specs.Rules.{is_known, expr_uses, arg_uses, callee_uses, target_uses, stmt_uses};
+ghost use Rattle.c_tree.specs.Rules.{is_known, expr_uses, arg_uses, callee_uses, target_uses};
 ghost use Rattle.c_scope.specs.ScopeOf.{scope_of};
 
 use c_scope::Scope;
-use c_tree::{Arg, Callee, Expr, Name, Stmt};
+use c_tree::{Arg, Callee, Expr, Name};
 
-fn is_variable(s: &Scope, name: &Name) -> bool
+pub fn is_variable(s: &Scope, name: &Name) -> bool
     ensures { result ≡ is_some (named name.now (variables (scope_of s.now))) }
 {
     s.variable(name.as_slice()).is_some()
@@ -24,7 +24,7 @@ fn is_function(s: &Scope, name: &Name) -> bool
 }
 
 #[tactic(auto, using(crate::proofs::Tested::all_append, crate::proofs::Tested::all_one, crate::proofs::Tested::all_first))]
-fn is_expr_known(s: &Scope, e: &Expr) -> bool
+pub fn is_expr_known(s: &Scope, e: &Expr) -> bool
     ensures { result ≡ list_all (is_known (scope_of s.now)) (expr_uses (expr_of e.now)) }
 {
     match e {
@@ -37,7 +37,7 @@ fn is_expr_known(s: &Scope, e: &Expr) -> bool
 }
 
 #[tactic(auto, using(crate::proofs::Tested::all_one))]
-fn is_arg_known(s: &Scope, arg: &Arg) -> bool
+pub fn is_arg_known(s: &Scope, arg: &Arg) -> bool
     ensures { result ≡ list_all (is_known (scope_of s.now)) (arg_uses (arg_of arg.now)) }
 {
     match arg {
@@ -48,7 +48,7 @@ fn is_arg_known(s: &Scope, arg: &Arg) -> bool
 }
 
 #[tactic(auto, using(crate::proofs::Tested::all_of_each))]
-fn are_args_known(s: &Scope, args: &[Arg]) -> bool
+pub fn are_args_known(s: &Scope, args: &[Arg]) -> bool
     ensures { result ≡ list_all (is_known (scope_of s.now)) (flat_map arg_uses (map arg_of args.now)) }
 {
     is_each_arg_known(s, args)
@@ -66,7 +66,7 @@ fn is_each_arg_known(s: &Scope, args: &[Arg]) -> bool
 }
 
 #[tactic(auto, using(crate::proofs::Tested::all_one))]
-fn is_callee_known(s: &Scope, callee: &Callee) -> bool
+pub fn is_callee_known(s: &Scope, callee: &Callee) -> bool
     ensures { result ≡ list_all (is_known (scope_of s.now)) (callee_uses (callee_of callee.now)) }
 {
     match callee {
@@ -76,32 +76,11 @@ fn is_callee_known(s: &Scope, callee: &Callee) -> bool
 }
 
 #[tactic(auto, using(crate::proofs::Tested::all_one))]
-fn is_target_known(s: &Scope, target: &Option<Name>) -> bool
+pub fn is_target_known(s: &Scope, target: &Option<Name>) -> bool
     ensures { result ≡ list_all (is_known (scope_of s.now)) (target_uses target.now) }
 {
     match target {
         Some(name) => is_variable(s, name),
         None => true,
-    }
-}
-
-/// Whether each name that a statement uses is declared earlier, and of the kind that its place
-/// needs. Labels are apart.
-#[tactic(auto, using(crate::proofs::Tested::all_append, crate::proofs::Tested::all_first))]
-pub fn names_are_known(s: &Scope, stmt: &Stmt) -> bool
-    ensures { result ≡ list_all (is_known (scope_of s.now)) (stmt_uses (stmt_of stmt.now)) }
-{
-    match stmt {
-        Stmt::Set(name, arg) => is_variable(s, name) && is_arg_known(s, arg),
-        Stmt::SetStar(name, e) => is_variable(s, name) && is_expr_known(s, e),
-        Stmt::Call(target, callee, args) => {
-            is_target_known(s, target)
-                && is_callee_known(s, callee)
-                && are_args_known(s, args.as_slice())
-        }
-        Stmt::If(_, left, right, _) => is_expr_known(s, left) && is_expr_known(s, right),
-        Stmt::Switch(e, _, _) => is_expr_known(s, e),
-        Stmt::Return(arg) => is_arg_known(s, arg),
-        Stmt::Label(_) | Stmt::Null | Stmt::Goto(_) | Stmt::ReturnNone => true,
     }
 }

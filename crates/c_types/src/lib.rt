@@ -5,11 +5,10 @@
 mod agreement;
 mod ctype;
 mod known;
+mod statements;
 mod typed;
 mod typing;
 
-pub use agreement::types_agree;
 pub use ctype::{Typed, is_number_type, is_result_type, is_value_type, is_void, proper_types};
-pub use known::names_are_known;
-pub use typed::stmt_is_typed;
+pub use statements::{names_are_known, stmt_is_typed, types_agree};
 pub use typing::type_of;
