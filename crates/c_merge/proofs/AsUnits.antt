@@ -1,7 +1,6 @@
 -- The one unit that linked units become runs as they do.
-use Rattle.c_merge.proofs.Common.{◌≡◌, ℕ, List, [], ◌∷◌, slice_get, Some, None, sym, ap, ◌∙◌, subst, KeepsRules, Program, first_refusal}
-use Rattle.c_merge.proofs.Common.{runs_same, calls_fit, c_symbols, AllChecked, IsProgramOf, HostSymbol, AreLinked, RunsAsUnits, as_one}
-use Rattle.c_merge.proofs.Common.{merge_names, merged}
+use Rattle.c_merge.proofs.Common.{◌≡◌, List, [], ◌∷◌, None, sym, ap, ◌∙◌, subst, Program, first_refusal, runs_same, calls_fit, c_symbols}
+use Rattle.c_merge.proofs.Common.{AllChecked, IsProgramOf, HostSymbol, AreLinked, RunsAsUnits, as_one, merge_names, merged, arith}
 use Rattle.c_tree.specs.Tree as tree
 use Rattle.c_link.proofs.Linking.{link_of}
 use Rattle.c_merge.proofs.OneLinks.{found_same, one_links, one_renames, type_same}
@@ -18,10 +17,7 @@ runs_as p are = record {
 module _ (units : List (List tree.Item)) (checked : AllChecked units) (hosts : List HostSymbol)
     (none : first_refusal units (c_symbols hosts) ≡ None) where
   are_linked : (p : Program) → IsProgramOf p units hosts → AreLinked p
-  are_linked p is = record { kept = kept; linked = link_of units hosts none p is }
-    where
-      kept : (u : ℕ) (items : List tree.Item) → slice_get p.units u ≡ Some items → KeepsRules items
-      kept u items at = (checked u items (ap (λ us. slice_get us u) (sym is.units_are) ∙ at)).1
+  are_linked p is = grind (arith, link_of units hosts none p is)
 
   -- in the place of the units
   pub runs_as_units : (one : List tree.Item) → one ≡ merged units → (p : Program) → IsProgramOf p units hosts

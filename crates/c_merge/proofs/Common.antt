@@ -15,14 +15,13 @@ pub use Rattle.w2c_base.proofs.Options.{is_some_map, or_assoc}
 pub use Rattle.w2c_base.proofs.Tests.{all_join, all_parts, by_test}
 pub use Rattle.w2c_base.specs.Lookup.{if_found, named, numbered}
 pub use Rattle.c_tree.specs.FirstBroken.{BrokenAt, KeepsRules, broken_in_body, broken_in_item, broken_in_stmt, broken_of, broken_rules}
-pub use Rattle.c_tree.specs.Rules.{AsArray, AsFunction, AsVariable, Use, are_alike, are_distinct, are_distinct_numbers, arg_has_type}
-pub use Rattle.c_tree.specs.Rules.{arg_suits, arg_uses, args_suit, body_is_not_empty, body_variables, call_suits, callee_type, callee_uses}
-pub use Rattle.c_tree.specs.Rules.{case_value, cases_are_distinct, cases_suit, defines, ends_body, expr_uses, file_name_is_free}
-pub use Rattle.c_tree.specs.Rules.{first_values_suit, has_body, has_same_type, hides_none, if_any, is_defined_if_static, is_known}
-pub use Rattle.c_tree.specs.Rules.{is_own_name, is_result_type, is_runtime_name, is_symbol, is_value_type, is_void, item_rules}
-pub use Rattle.c_tree.specs.Rules.{label_is_free, label_of, labels_are_there, labels_named, labels_of, last_ends_body, local_names}
-pub use Rattle.c_tree.specs.Rules.{locals_have_values, locals_suit, may_be_assigned, may_be_called, may_both_stand, number_suits}
-pub use Rattle.c_tree.specs.Rules.{own_names_are_distinct, params_are_named, proper_params, proper_types, stmt_is_typed, stmt_rules}
+pub use Rattle.c_tree.specs.Rules.{AsArray, AsFunction, AsVariable, Use, are_alike, are_distinct, arg_has_type, arg_suits, arg_uses, if_any}
+pub use Rattle.c_tree.specs.Rules.{args_suit, body_is_not_empty, call_suits, callee_type, callee_uses, case_value, cases_are_distinct}
+pub use Rattle.c_tree.specs.Rules.{cases_suit, defines, ends_body, expr_uses, file_name_is_free, first_values_suit, has_body, has_same_type}
+pub use Rattle.c_tree.specs.Rules.{hides_none, is_defined_if_static, is_known, is_own_name, is_result_type, is_symbol, is_value_type}
+pub use Rattle.c_tree.specs.Rules.{is_void, item_rules, label_is_free, label_of, labels_are_there, labels_named, labels_of, last_ends_body}
+pub use Rattle.c_tree.specs.Rules.{local_names, locals_have_values, locals_suit, may_be_assigned, may_be_called, may_both_stand, stmt_rules}
+pub use Rattle.c_tree.specs.Rules.{number_suits, own_names_are_distinct, params_are_named, proper_params, proper_types, stmt_is_typed}
 pub use Rattle.c_tree.specs.Rules.{stmt_suits, stmt_uses, target_suits, target_uses, types_are_proper, written_type_is_proper}
 pub use Rattle.c_tree.specs.Runtime.{depth_name, primitives, same_func_type, same_type}
 pub use Rattle.c_tree.specs.Scope.{HasType, IsElement, Scope, array_of, arrays, common_type, file_functions, file_variables, func_type_of}
@@ -48,7 +47,7 @@ pub use Rattle.c_renaming.proofs.Merged.{merged_made, split}
 pub use Rattle.c_renaming.proofs.Merging.{merging_names}
 pub use Rattle.c_renaming.proofs.Runs.{runs_same}
 pub use Rattle.c_renaming.proofs.Types.{calls_fit, type_found as kept_type_found}
-pub use Rattle.c_renaming.specs.Kept.{Each, KeptArg, KeptCallee, KeptStmt}
+pub use Rattle.c_renaming.specs.Kept.{Each, KeptStmt}
 pub use Rattle.c_renaming.specs.Merging.{Foreign, IsDefinedOnce, KeepsSeen, MayMerge, MayUse, Own, joined}
 pub use Rattle.c_renaming.specs.NewNames.{decimal_text, is_outside, name_in}
 pub use Rattle.c_renaming.specs.Renaming.{Renaming, address}

@@ -1,10 +1,9 @@
 -- Some text spells the one unit.
-use Rattle.c_merge.proofs.Common.{◌≡◌, ℕ, zero, suc, ◌+◌, ◌-◌, ◌<◌, Bool, true, false, not, ◌&&◌, ◌||◌, List, [], ◌∷◌, ◌++◌, map}
-use Rattle.c_merge.proofs.Common.{if◌then◌else◌, ◌==◌, slice_get, Some, None, Option, option_map, bytes_eq, sym, refl, ap, ◌∙◌, subst}
-use Rattle.c_merge.proofs.Common.{arith, and_parts, both_ways, false≢true, length-map, bytes_eq-Decides, AllByRecursion, list_all, list_any}
-use Rattle.c_merge.proofs.Common.{all_join, by_test, FitsArg, FitsBody, FitsCallee, FitsExpr, FitsItem, FitsNum, FitsStmt, Formed}
-use Rattle.c_merge.proofs.Common.{depth_limit, Program, Name, depth_name, decimal_text, is_outside, name_in, Renaming, merge_names, merged}
-use Rattle.c_merge.proofs.Common.{or_right}
+use Rattle.c_merge.proofs.Common.{◌≡◌, ℕ, zero, suc, ◌+◌, ◌-◌, ◌<◌, Bool, true, false, not, ◌&&◌, ◌||◌, List, [], ◌∷◌, ◌++◌, map, ◌==◌, sym}
+use Rattle.c_merge.proofs.Common.{if◌then◌else◌, slice_get, Some, None, Option, option_map, bytes_eq, refl, ap, ◌∙◌, subst, arith, list_all}
+use Rattle.c_merge.proofs.Common.{and_parts, both_ways, false≢true, length-map, bytes_eq-Decides, AllByRecursion, list_any, all_join, Name}
+use Rattle.c_merge.proofs.Common.{by_test, FitsArg, FitsBody, FitsCallee, FitsExpr, FitsItem, FitsNum, FitsStmt, Formed, depth_limit}
+use Rattle.c_merge.proofs.Common.{Program, decimal_text, is_outside, name_in, Renaming, merge_names, merged, or_right}
 use Rattle.std.specs.Int.Digits.{digits_of, AllBelowBase}
 use Rattle.std.proofs.lemmas.Bool.Decides.{nat_tests}
 use Rattle.std.proofs.lemmas.Int.Digits.{all_below_base_digits_of}
@@ -75,11 +74,7 @@ new_named u x is =
     λ i. rest i && not (none_equal (name_in u x) near (map fixed_text key_words ++ other_words) words_apart i)
 
 var_named : (u : ℕ) (x : Name) → IsName x → IsName (new_var u x)
-var_named u x is = go (bytes_eq x depth_name)
-  where
-    go : (b : Bool) → IsName (if b then x else name_in u x)
-    go true = is
-    go false = new_named u x is
+var_named u x is = grind (arith, new_named u x is)
 
 func_named : (u : ℕ) (x : Name) → IsName x → IsName (new u x)
 func_named u x is = go (is_outside x)

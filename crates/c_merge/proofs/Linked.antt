@@ -1,10 +1,10 @@
 -- Units that link fit together, whatever symbols the hosts have.
 use Rattle.c_merge.proofs.Common.{◌≡◌, ℕ, zero, suc, ◌<◌, Bool, true, false, not, ◌&&◌, List, [], ◌∷◌, take, is_some, if◌then◌else◌}
-use Rattle.c_merge.proofs.Common.{slice_get, Some, None, Option, option_map, flat_map, filter_map, sym, refl, ap, ◌∙◌, false≢true}
+use Rattle.c_merge.proofs.Common.{slice_get, Some, None, Option, option_map, flat_map, sym, refl, ap, ◌∙◌, false≢true}
 use Rattle.c_merge.proofs.Common.{same_Some, cons_option, option_or, numbered_at, by_test, named, numbered, KeepsRules, same_func_type}
 use Rattle.c_merge.proofs.Common.{func_type_of, Definition, LinkRefusal, NotDefined, Program, Twice, TypeDiffers, defined_for_all}
 use Rattle.c_merge.proofs.Common.{external_functions, first, first_refusal, symbols_of, twice, type_found, unresolved, Name, by_option}
-use Rattle.c_merge.proofs.Common.{cons_not_none, flat_none, kept_at, none_first, take_has, signature_of, AreLinked}
+use Rattle.c_merge.proofs.Common.{cons_not_none, flat_none, kept_at, none_first, take_has, signature_of, AreLinked, arith}
 use Rattle.c_tree.specs.Tree as tree
 use Rattle.c_tree.proofs.SameTypes.{func_types_same}
 use Rattle.c_link.specs.Refusals.{first_twice, first_unresolved}
@@ -34,19 +34,8 @@ first_type o others = option_map (λ (d : Definition). func_type_of d.func) (fir
 signature_there : (name : Name) (units : List (List tree.Item)) (u : ℕ) (items : List tree.Item) → slice_get units u ≡ Some items
     → is_some (defined_for_all items name) ≡ true → is_some (signature_of units name) ≡ true
 signature_there name [] u items at there = absurd cc
-signature_there name (x ∷ units) zero items at there =
-    let same : x ≡ items = cc in go (defined_for_all x name) (ap (λ xs. is_some (defined_for_all xs name)) same ∙ there)
-  where
-    go : (d : Option Definition) → is_some d ≡ true
-        → is_some (first_type d (filter_map (λ items. defined_for_all items name) units)) ≡ true
-    go None e = absurd (false≢true e)
-    go (Some d) e = refl
-signature_there name (x ∷ units) (suc u) items at there = go (defined_for_all x name) (signature_there name units u items at there)
-  where
-    go : (d : Option Definition) → is_some (signature_of units name) ≡ true
-        → is_some (first_type d (filter_map (λ items. defined_for_all items name) units)) ≡ true
-    go None e = e
-    go (Some d) e = refl
+signature_there name (x ∷ units) zero items at there = grind arith
+signature_there name (x ∷ units) (suc u) items at there = grind (arith, signature_there name units u items at there)
 
 module _ (units : List (List tree.Item)) (symbols : List (Name × tree.FuncType))
     (kept : (u : ℕ) (items : List tree.Item) → slice_get units u ≡ Some items → KeepsRules items)
@@ -118,8 +107,7 @@ module _ (units : List (List tree.Item)) (symbols : List (Name × tree.FuncType)
   linked_type u f a = type_is u f (not_unresolved u a.items a.item f a.there a.at a.shown)
 
   one_type : (u v : ℕ) (f g : tree.Func) → Shows units u f → Shows units v g → f.name ≡ g.name → func_type_of f ≡ func_type_of g
-  one_type u v f g a b same =
-      same_Some (func_type_of f) (func_type_of g) (sym (linked_type u f a) ∙ ap found same ∙ linked_type v g b)
+  one_type u v f g a b same = same_Some (func_type_of f) (func_type_of g) (sym (linked_type u f a) ∙ ap found same ∙ linked_type v g b)
 
   pub units_fit : FitTogether units
   units_fit = record { kept = kept; once = not_two; typed = one_type }

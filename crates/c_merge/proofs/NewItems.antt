@@ -1,11 +1,10 @@
 -- An item of the one unit keeps the rules that it kept in its own unit.
 use Rattle.c_merge.proofs.Common.{◌≡◌, ℕ, suc, ◌<◌, Bool, true, false, not, ◌&&◌, ◌||◌, ◌≢◌, List, [], ◌∷◌, ◌++◌, map, take, is_some}
-use Rattle.c_merge.proofs.Common.{if◌then◌else◌, slice_get, Some, None, Option, option_map, filter_map, bytes_eq, sym, refl, ap, ◌∙◌, arith}
-use Rattle.c_merge.proofs.Common.{and_parts, both_ways, false≢true, not-true, map-append, bytes_eq-Decides, list_all, list_any, is_some_map}
-use Rattle.c_merge.proofs.Common.{all_join, by_test, KeepsRules, are_alike, body_variables, file_name_is_free, has_body, is_own_name}
-use Rattle.c_merge.proofs.Common.{is_symbol, local_names, may_both_stand, same_func_type, func_type_of, local_variables, name_of}
-use Rattle.c_merge.proofs.Common.{param_variables, CType, Program, Name, by_option, passes_at, free_names, take_keeps, func_type_of-func}
-use Rattle.c_merge.proofs.Common.{each_at, Each, is_outside, Renaming, merge_names}
+use Rattle.c_merge.proofs.Common.{slice_get, Some, None, option_map, filter_map, bytes_eq, sym, refl, ap, ◌∙◌, arith}
+use Rattle.c_merge.proofs.Common.{both_ways, false≢true, not-true, map-append, bytes_eq-Decides, list_all, list_any, is_some_map, all_join}
+use Rattle.c_merge.proofs.Common.{by_test, KeepsRules, are_alike, file_name_is_free, has_body, is_own_name, local_names, may_both_stand}
+use Rattle.c_merge.proofs.Common.{same_func_type, func_type_of, name_of, CType, Program, Name, by_option, passes_at, free_names, take_keeps}
+use Rattle.c_merge.proofs.Common.{func_type_of-func, each_at, Each, is_outside, Renaming, merge_names}
 use Rattle.std.proofs.Math.Bool.{or-true, and-false}
 use Rattle.c_tree.specs.Tree as tree
 use Rattle.c_tree.proofs.SameTypes.{same_as_itself, same_as_themselves}
@@ -35,12 +34,7 @@ any_behind test (x ∷ xs) ys is = ap (λ b. test x || b) (any_behind test xs ys
 
 pub any_front : {A : Type 0} (test : A → Bool) (xs ys : List A) → list_any test xs ≡ true → list_any test (xs ++ ys) ≡ true
 any_front test [] ys is = absurd (false≢true is)
-any_front test (x ∷ xs) ys is = go (test x) is (any_front test xs ys)
-  where
-    go : (b : Bool) → (b || list_any test xs) ≡ true → (list_any test xs ≡ true → list_any test (xs ++ ys) ≡ true)
-        → (b || list_any test (xs ++ ys)) ≡ true
-    go true is behind = refl
-    go false is behind = behind is
+any_front test (x ∷ xs) ys is = grind (arith, test x, any_front test xs ys)
 
 -- ---- types are equal to themselves
 
@@ -61,16 +55,7 @@ module _ (p : Program) (are : FitTogether p.units) (u : ℕ) (items : List tree.
   body_same _ = refl
 
   alike_same : (a c : tree.Item) → are_alike (renamed.item ρ u a) (renamed.item ρ u c) ≡ are_alike a c
-  alike_same (tree.Function f) (tree.Function g) = go f.is_static g.is_static
-    where
-      with_static : Bool → tree.Func → tree.Func
-      with_static b f = record { is_static = b; result = f.result; name = f.name; params = f.params; body = f.body }
-
-      go : (b c : Bool) → are_alike (tree.Function (with_static b (renamed.func ρ u f)))
-          (tree.Function (with_static c (renamed.func ρ u g)))
-          ≡ are_alike (tree.Function (with_static b f)) (tree.Function (with_static c g))
-      go true c = λ i. c && same_func_type (func_type_of-func ρ u f i) (func_type_of-func ρ u g i)
-      go false c = λ i. not c && same_func_type (func_type_of-func ρ u f i) (func_type_of-func ρ u g i)
+  alike_same (tree.Function f) (tree.Function g) = grind (arith, func_type_of-func)
   alike_same (tree.Function f) (tree.Array n count bytes) = refl
   alike_same (tree.Function f) (tree.Var t n number) = refl
   alike_same (tree.Array n count bytes) c = refl
@@ -192,21 +177,7 @@ module _ (p : Program) (are : FitTogether p.units) (u : ℕ) (items : List tree.
   pub name_free : (item : tree.Item) → file_name_is_free item ≡ true → file_name_is_free (renamed.item ρ u item) ≡ true
   name_free (tree.Array n count bytes) own = ap is_own_name (own_var u n own)
   name_free (tree.Var t n number) own = ap is_own_name (own_var u n own)
-  name_free (tree.Function f) is = go f.is_static is
-    where
-      symbol_outside : is_symbol f.name ≡ true → is_outside f.name ≡ true
-      symbol_outside symbol = by_test (is_outside f.name) (λ out. out) (λ inn. absurd (clash (is_own f.name inn)))
-        where
-          is_own : (n : Name) → is_outside n ≡ false → is_own_name n ≡ true
-          is_own n inn = not-false (is_own_name n) inn
-
-          clash : is_own_name f.name ≡ true → ⊥
-          clash own = false≢true (sym (ap not symbol) ∙ (and_parts _ (not (is_symbol f.name)) own).1)
-
-      go : (b : Bool) → (if b then is_own_name f.name else is_symbol f.name) ≡ true
-          → (if b then is_own_name (new u f.name) else is_symbol (new u f.name)) ≡ true
-      go true own = ap is_own_name (own_new u f.name own)
-      go false symbol = ap is_symbol (outside_stays u f.name (symbol_outside symbol)) ∙ symbol
+  name_free (tree.Function f) is = grind (arith, by_test, not-false, own_new, outside_stays)
 
   params_names : (params : List tree.Param)
       → map (λ (v : Name × CType). v.0)
@@ -223,27 +194,7 @@ module _ (p : Program) (are : FitTogether p.units) (u : ℕ) (items : List tree.
   locals_names (l ∷ locals) = ap (λ rest. new_var u l.1 ∷ rest) (locals_names locals)
 
   pub own_names : (item : tree.Item) → local_names (renamed.item ρ u item) ≡ map (new_var u) (local_names item)
-  own_names (tree.Function f) = go f.body
-    where
-      here : Option tree.Body → tree.Func
-      here o = record { is_static = f.is_static; result = f.result; name = f.name; params = f.params; body = o }
-
-      first_name : Name × CType → Name
-      first_name v = v.0
-
-      go : (o : Option tree.Body)
-          → map (λ (v : Name × CType). v.0) (body_variables (renamed.func ρ u (here o)))
-          ≡ map (new_var u) (map (λ (v : Name × CType). v.0) (body_variables (here o)))
-      go None =
-          map-append first_name (param_variables (renamed.func ρ u f)) []
-          ∙ ap (λ l. l ++ []) (params_names f.params)
-          ∙ sym (map-append (new_var u) (map first_name (param_variables f)) [])
-          ∙ ap (map (new_var u)) (sym (map-append first_name (param_variables f) []))
-      go (Some b) =
-          map-append first_name (param_variables (renamed.func ρ u f)) (local_variables (renamed.body ρ u b))
-          ∙ (λ i. params_names f.params i ++ locals_names b.locals i)
-          ∙ sym (map-append (new_var u) (map first_name (param_variables f)) (map first_name (local_variables b)))
-          ∙ ap (map (new_var u)) (sym (map-append first_name (param_variables f) (local_variables b)))
+  own_names (tree.Function f) = grind (arith, params_names f.params, map-append, locals_names)
   own_names _ = refl
 
   pub locals_free : (names : List Name) → list_all is_own_name names ≡ true → list_all is_own_name (map (new_var u) names) ≡ true

@@ -1,5 +1,5 @@
 -- What names stand for in the scope of a function of the one unit, and the types of expressions there.
-use Rattle.c_merge.proofs.Common.{if◌then◌else◌, ◌≡◌, ℕ, ◌<◌, Bool, true, false, ◌||◌, ◌≢◌, List, [], ◌∷◌, ◌++◌, map, take, is_some}
+use Rattle.c_merge.proofs.Common.{if◌then◌else◌, ◌≡◌, ℕ, ◌<◌, true, false, ◌||◌, ◌≢◌, List, [], ◌∷◌, ◌++◌, map, take, is_some}
 use Rattle.c_merge.proofs.Common.{slice_get, Some, None, Option, option_map, filter_map, bytes_eq, sym, refl, ap, ◌∙◌, subst, arith}
 use Rattle.c_merge.proofs.Common.{both_ways, same_Some, bytes_eq-Decides, cons_option, option_or, or_assoc, by_test, if_found, named}
 use Rattle.c_merge.proofs.Common.{primitives, HasType, IsElement, Scope, array_of, arrays, common_type, file_functions, file_variables}
@@ -210,11 +210,7 @@ module _ (p : Program) (are : FitTogether p.units) (u : ℕ) (items : List tree.
 
     among_append : (n : Name) (xs ys : List Name) → is_among n (xs ++ ys) ≡ (is_among n xs || is_among n ys)
     among_append n [] ys = refl
-    among_append n (x ∷ xs) ys = ap (λ b. bytes_eq n x || b) (among_append n xs ys) ∙ go (bytes_eq n x)
-      where
-        go : (b : Bool) → (b || (is_among n xs || is_among n ys)) ≡ ((b || is_among n xs) || is_among n ys)
-        go true = refl
-        go false = refl
+    among_append n (x ∷ xs) ys = grind (arith, among_append n xs ys)
 
     array_item : (item : tree.Item) → array_of (renamed.item ρ u item) ≡ option_map (new_var u) (array_of item)
     array_item (tree.Array n count bytes) = refl

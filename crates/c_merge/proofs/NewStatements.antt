@@ -1,15 +1,14 @@
 -- A statement of the one unit keeps the rules that it kept in its own unit.
 use Rattle.c_merge.proofs.Common.{◌≡◌, ℕ, ◌-◌, Bool, true, false, not, ◌&&◌, ◌||◌, List, [], ◌∷◌, ◌++◌, map, length, take, is_some, ◌==◌}
-use Rattle.c_merge.proofs.Common.{slice_get, Some, None, codes, Option, option_map, flat_map, bytes_eq, sym, refl, ap, ◌∙◌, and_parts}
-use Rattle.c_merge.proofs.Common.{false≢true, length-map, map-append, bytes_eq-Decides, list_all, all_parts, if_found, named, AsArray}
-use Rattle.c_merge.proofs.Common.{AsFunction, AsVariable, Use, are_distinct_numbers, arg_has_type, arg_suits, arg_uses, args_suit}
-use Rattle.c_merge.proofs.Common.{call_suits, callee_type, callee_uses, case_value, cases_are_distinct, cases_suit, ends_body, expr_uses}
-use Rattle.c_merge.proofs.Common.{has_same_type, if_any, is_known, is_void, label_is_free, label_of, labels_are_there, labels_named}
-use Rattle.c_merge.proofs.Common.{labels_of, last_ends_body, may_be_assigned, may_be_called, number_suits, proper_types, stmt_is_typed}
-use Rattle.c_merge.proofs.Common.{stmt_rules, stmt_suits, stmt_uses, target_suits, target_uses, written_type_is_proper, same_type, Scope}
-use Rattle.c_merge.proofs.Common.{common_type, file_functions, functions, is_among, is_comparison, is_number_type, is_object_type}
-use Rattle.c_merge.proofs.Common.{pointed_by, type_of, typing_of, value_type, variables, CType, Program, Name, by_option, merging_names}
-use Rattle.c_merge.proofs.Common.{Each, is_outside, name_in, Renaming, may_name, merge_names}
+use Rattle.c_merge.proofs.Common.{slice_get, Some, None, codes, Option, option_map, flat_map, bytes_eq, sym, refl, ap, ◌∙◌, and_parts, Use}
+use Rattle.c_merge.proofs.Common.{false≢true, length-map, map-append, bytes_eq-Decides, list_all, all_parts, if_found, named, AsArray, Name}
+use Rattle.c_merge.proofs.Common.{AsFunction, AsVariable, arg_has_type, arg_suits, arg_uses, args_suit, call_suits, callee_type, case_value}
+use Rattle.c_merge.proofs.Common.{callee_uses, cases_are_distinct, cases_suit, ends_body, expr_uses, has_same_type, if_any, is_known, Scope}
+use Rattle.c_merge.proofs.Common.{is_void, label_is_free, label_of, labels_are_there, labels_named, labels_of, last_ends_body, number_suits}
+use Rattle.c_merge.proofs.Common.{may_be_assigned, may_be_called, proper_types, stmt_is_typed, stmt_rules, stmt_suits, stmt_uses, same_type}
+use Rattle.c_merge.proofs.Common.{target_suits, target_uses, written_type_is_proper, common_type, file_functions, functions, is_among, Each}
+use Rattle.c_merge.proofs.Common.{is_comparison, is_number_type, is_object_type, pointed_by, type_of, typing_of, value_type, variables}
+use Rattle.c_merge.proofs.Common.{CType, Program, by_option, merging_names, is_outside, name_in, Renaming, may_name, merge_names, arith}
 use Rattle.c_tree.specs.declared.tree.CType.TheVariants as type
 use Rattle.c_tree.specs.Tree as tree
 use Rattle.c_renaming.specs.Renamed as renamed
@@ -264,12 +263,7 @@ module _ (p : Program) (are : FitTogether p.units) (u : ℕ) (items : List tree.
 
   suits : (stmt : tree.Stmt) → list_all (is_known s) (stmt_uses stmt) ≡ true → stmt_suits s stmt ≡ true
       → stmt_suits s' (renamed.stmt ρ u stmt) ≡ true
-  suits (tree.Set n a) known is =
-      ap (λ o. if_any o (λ t. arg_suits s' t (renamed.arg ρ u a))) (vars_same n) ∙ go (named n (variables s)) is
-    where
-      go : (o : Option CType) → if_any o (λ t. arg_suits s t a) ≡ true → if_any o (λ t. arg_suits s' t (renamed.arg ρ u a)) ≡ true
-      go None is = refl
-      go (Some t) is = arg_fits t a is
+  suits (tree.Set n a) known is = grind (arith, vars_same n, arg_fits)
   suits (tree.SetStar n e) known is = (λ i. if_any (if_found (vars_same n i) pointed_by) (has_same_type (type_same e i))) ∙ is
   suits (tree.Call target c args) known is =
       let behind = all_parts (is_known s) (target_uses target) (callee_uses c ++ flat_map arg_uses args) known in
@@ -293,13 +287,7 @@ module _ (p : Program) (are : FitTogether p.units) (u : ℕ) (items : List tree.
   cases_same : (number : ℕ) (stmt : tree.Stmt)
       → cases_are_distinct (record { scope = s'; number = number; stmt = renamed.stmt ρ u stmt })
       ≡ cases_are_distinct (record { scope = s; number = number; stmt = stmt })
-  cases_same number (tree.Switch e cases n) =
-      λ i. (ap (λ o. if_any o (cases_suit (map (renamed.case ρ u) cases))) (type_same e) ∙ go (type_of s e)) i
-      && are_distinct_numbers (values_same cases i)
-    where
-      go : (o : Option CType) → if_any o (cases_suit (map (renamed.case ρ u) cases)) ≡ if_any o (cases_suit cases)
-      go None = refl
-      go (Some t) = cases_fit cases t
+  cases_same number (tree.Switch e cases n) = grind (arith, type_same e, values_same, cases_fit)
   cases_same number _ = refl
 
   -- ---- all of them
@@ -316,8 +304,7 @@ module _ (p : Program) (are : FitTogether p.units) (u : ℕ) (items : List tree.
       let last' = last_ends number stmt h.1.1.1.1.1.1.1.0 in (
         label_free number stmt,
         (
-          written_same number stmt
-              ∙ h.1.0,
+          written_same number stmt ∙ h.1.0,
           (labels_same number stmt ∙ h.1.1.0, (known', (typed', (fits', (cases_same number stmt ∙ h.1.1.1.1.1.1.0, (last', tt)))))),
         ),
       )

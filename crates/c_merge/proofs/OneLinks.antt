@@ -1,10 +1,10 @@
 -- The one unit that linked units become links with the same hosts, and defines the same functions for others.
-use Rattle.c_merge.proofs.Common.{◌≡◌, ℕ, Bool, true, false, not, ◌&&◌, List, [], ◌∷◌, ◌++◌, take, is_some, if◌then◌else◌, slice_get, Some}
-use Rattle.c_merge.proofs.Common.{None, Option, option_map, flat_map, sym, refl, ap, ◌∙◌, option_or, flat_empty, is_some_map, if_found}
+use Rattle.c_merge.proofs.Common.{◌≡◌, ℕ, Bool, true, false, not, ◌&&◌, List, [], ◌∷◌, take, is_some, if◌then◌else◌, slice_get, Some}
+use Rattle.c_merge.proofs.Common.{None, Option, option_map, sym, refl, ap, ◌∙◌, option_or, flat_empty, is_some_map, if_found}
 use Rattle.c_merge.proofs.Common.{named, same_func_type, func_type_of, LinkRefusal, NotDefined, Program, Twice, TypeDiffers, external_func}
-use Rattle.c_merge.proofs.Common.{external_functions, func_type, link_refusal, symbols_of, twice, type_found, unresolved, Name}
-use Rattle.c_merge.proofs.Common.{cons_not_none, kept_from, func_type_of-func, merged_made, merging_names, kept_type_found, MayMerge}
-use Rattle.c_merge.proofs.Common.{is_outside, name_in, Renaming, address, signature_of, AreLinked, as_one, may_name, merge_names, merged}
+use Rattle.c_merge.proofs.Common.{external_functions, func_type, link_refusal, symbols_of, twice, type_found, unresolved, Name, kept_from}
+use Rattle.c_merge.proofs.Common.{cons_not_none, func_type_of-func, merged_made, merging_names, kept_type_found, MayMerge, is_outside}
+use Rattle.c_merge.proofs.Common.{name_in, Renaming, address, signature_of, AreLinked, as_one, may_name, merge_names, merged, arith}
 use Rattle.c_tree.specs.Tree as tree
 use Rattle.c_meaning.proofs.Links.{type_stands}
 use Rattle.c_renaming.specs.Renamed as renamed
@@ -34,21 +34,11 @@ refusals u x ty o = elim o [
 
 still_found : (u v : ℕ) (x : Name) (ty : tree.FuncType) (o : Option tree.FuncType) → refusals u x ty o ≡ [] → refusals v x ty o ≡ []
 still_found u v x ty None e = absurd (cons_not_none (NotDefined u x) [] e)
-still_found u v x ty (Some found) e = go (same_func_type found ty) e
-  where
-    go : (b : Bool) → (if b then [] else TypeDiffers u x ∷ []) ≡ [] → (if b then [] else TypeDiffers v x ∷ []) ≡ []
-    go true e = refl
-    go false e = absurd (cons_not_none (TypeDiffers u x) [] e)
+still_found u v x ty (Some found) e = search (arith, cons_not_none)
 
 -- an item that shows a function to others
 shown_item : (item : tree.Item) (g : tree.Func) → external_of item ≡ Some g → (item ≡ tree.Function g) × (g.is_static ≡ false)
-shown_item (tree.Function f) g e = go f.is_static refl e
-  where
-    go : (b : Bool) → f.is_static ≡ b → (if b then None else Some f) ≡ Some g → (tree.Function f ≡ tree.Function g) × (g.is_static ≡ false)
-    go true static e = absurd cc
-    go false shown e =
-        let same : f ≡ g = cc in
-        (ap (λ (h : tree.Func). tree.Function h) same, sym (ap (λ (h : tree.Func). h.is_static) same) ∙ shown)
+shown_item (tree.Function f) g e = grind arith
 shown_item _ g e = absurd cc
 
 module _ (p : Program) (are : AreLinked p) where
@@ -150,12 +140,4 @@ module _ (p : Program) (are : AreLinked p) where
       (not_unresolved p.units symbols are.kept are.linked s.unit s.items s.number s.func s.there s.at s.shown)
 
   pub one_links : link_refusal q ≡ None
-  one_links = λ i. option_or (slice_get (twice_none i ++ []) 0) (slice_get (unresolved_none i ++ []) 0)
-    where
-      twice_none : flat_map (twice (type_found [] symbols) 0) (external_functions one) ≡ []
-      twice_none = flat_empty (twice (type_found [] symbols) 0) (external_functions one) (λ i g at. none_twice g (shown_from i g at))
-
-      unresolved_none : flat_map (unresolved (type_found (one ∷ []) symbols) 0) (external_functions one) ≡ []
-      unresolved_none =
-          flat_empty (unresolved (type_found (one ∷ []) symbols) 0) (external_functions one)
-          (λ i g at. none_unresolved g (shown_from i g at))
+  one_links = search (arith, flat_empty, none_twice, shown_from, none_unresolved)

@@ -1,6 +1,6 @@
 -- The one unit that linked units become keeps the rules.
-use Rattle.c_merge.proofs.Common.{◌≡◌, ℕ, ◌+◌, List, map, take, slice_get, Some, option_map, sym, refl, ap, ◌∙◌, subst, KeepsRules}
-use Rattle.c_merge.proofs.Common.{item_rules, stmt_rules, Program, by_option, Renaming, merge_names, merged}
+use Rattle.c_merge.proofs.Common.{◌≡◌, ℕ, ◌+◌, List, map, take, slice_get, Some, sym, ap, ◌∙◌, subst, KeepsRules}
+use Rattle.c_merge.proofs.Common.{item_rules, stmt_rules, Program, by_option, Renaming, merge_names, merged, arith}
 use Rattle.std.proofs.lemmas.Option.{none-some}
 use Rattle.c_tree.specs.Tree as tree
 use Rattle.c_renaming.specs.Renamed as renamed
@@ -40,24 +40,7 @@ module _ (p : Program) (are : FitTogether p.units) where
 
   is_body : (u : ℕ) (x : tree.Item) (g : tree.Func) (c : tree.Body) → tree.Function g ≡ renamed.item ρ u x → g.body ≡ Some c
       → IsBody u x g c
-  is_body u (tree.Function f) g c is body =
-      let same : g ≡ renamed.func ρ u f = same_func g (renamed.func ρ u f) is in
-      let there : option_map (renamed.body ρ u) f.body ≡ Some c = sym (ap (λ (h : tree.Func). h.body) same) ∙ body in
-      by_option f.body
-      (λ none. absurd (none-some c (sym (ap (option_map (renamed.body ρ u)) none) ∙ there)))
-      (λ b is'.
-      record {
-        func = f;
-        body = b;
-        item_is = refl;
-        body_is = is';
-        func_new = same;
-        body_new = same_body b
-            (sym (ap (option_map (renamed.body ρ u)) is') ∙ there);
-      })
-    where
-      same_body : (b : tree.Body) → Some (renamed.body ρ u b) ≡ Some c → c ≡ renamed.body ρ u b
-      same_body b e = cc
+  is_body u (tree.Function f) g c is body = grind (arith, same_func g (renamed.func ρ u f) is, by_option, none-some)
   is_body u _ g c is body = absurd cc
 
   abbrev StmtKeeps : ℕ → List tree.Item → tree.Func → tree.Body → tree.Stmt → Type 0

@@ -69,8 +69,7 @@ module _ (p : Program) where
       record {
         unit = v;
         less = omega arith;
-        from = record
-            { items = items; there = there; number = i; item = from.0; at = from.1; is = from.2 };
+        from = record { items = items; there = there; number = i; item = from.0; at = from.1; is = from.2 };
       })
 
   find : (v : ℕ) (units : List (List tree.Item)) (done : List tree.Item)

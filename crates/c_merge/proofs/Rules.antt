@@ -1,9 +1,8 @@
 -- A unit keeps the rules exactly where each item and each statement keeps them.
-use Rattle.c_merge.proofs.Common.{◌≡◌, ℕ, ◌+◌, Bool, true, not, List, [], ◌∷◌, ◌++◌, map, take, if◌then◌else◌, slice_get, Some, None}
-use Rattle.c_merge.proofs.Common.{filter, Option, flat_map, sym, refl, ap, ◌∙◌, AllByRecursion, append_none, flat_empty, map_none}
-use Rattle.c_merge.proofs.Common.{numbered_at, by_test, numbered, BrokenAt, KeepsRules, broken_in_body, broken_in_item, broken_in_stmt}
-use Rattle.c_merge.proofs.Common.{broken_of, broken_rules, item_rules, stmt_rules, Scope, by_option, at_numbered, cons_not_none, flat_none}
-use Rattle.c_merge.proofs.Common.{none_first}
+use Rattle.c_merge.proofs.Common.{◌≡◌, ℕ, ◌+◌, Bool, true, not, List, [], ◌∷◌, ◌++◌, map, take, if◌then◌else◌, slice_get, Some, None, sym}
+use Rattle.c_merge.proofs.Common.{filter, Option, flat_map, refl, ap, ◌∙◌, AllByRecursion, append_none, flat_empty, map_none, numbered_at}
+use Rattle.c_merge.proofs.Common.{by_test, numbered, BrokenAt, KeepsRules, broken_in_body, broken_in_item, broken_in_stmt, broken_of, Scope}
+use Rattle.c_merge.proofs.Common.{broken_rules, item_rules, stmt_rules, by_option, at_numbered, cons_not_none, flat_none, none_first}
 use Rattle.c_tree.specs.Tree as tree
 
 abbrev pub Keeps : {P : Type 0} → List (ℕ × (P → Bool)) → P → Type 0

@@ -26,8 +26,7 @@ module _ (p : Program) where
   stmt_same : (u : ℕ) (s : tree.Stmt) → renamed.stmt new_names u s ≡ renamed.stmt ρ u s
   stmt_same u (tree.Set name a) = ap (tree.Set (ρ.var u name)) (arg_same u a)
   stmt_same u (tree.SetStar name e) = ap (tree.SetStar (ρ.var u name)) (expr_same u e)
-  stmt_same u (tree.Call target f args) =
-      λ i. tree.Call (option_map (ρ.var u) target) (callee_same u f i) (map (λ a. arg_same u a i) args)
+  stmt_same u (tree.Call target f args) = λ i. tree.Call (option_map (ρ.var u) target) (callee_same u f i) (map (λ a. arg_same u a i) args)
   stmt_same u (tree.If op left right name) = λ i. tree.If op (expr_same u left i) (expr_same u right i) (ρ.label u name)
   stmt_same u (tree.Switch e cases default) = ap (λ f. tree.Switch f (map (renamed.case ρ u) cases) (ρ.label u default)) (expr_same u e)
   stmt_same u (tree.Return a) = ap tree.Return (arg_same u a)

@@ -1,18 +1,18 @@
 -- Linked units that keep the rules may become one.
 use Rattle.c_merge.proofs.Common.{◌≡◌, ℕ, zero, suc, ◌+◌, ◌<◌, Bool, true, false, not, ◌&&◌, ◌||◌, ◌≢◌, List, [], ◌∷◌, ◌++◌, take, is_some}
-use Rattle.c_merge.proofs.Common.{if◌then◌else◌, slice_get, Some, None, Option, flat_map, filter_map, bytes_eq, sym, refl, ap, ◌∙◌, subst}
-use Rattle.c_merge.proofs.Common.{inl, inr, and_parts, both_ways, cases_order, false≢true, not-true, or_cases, bytes_eq-Decides, list_all}
-use Rattle.c_merge.proofs.Common.{list_any, all_parts, by_test, if_found, named, KeepsRules, arg_suits, arg_uses, args_suit, call_suits}
-use Rattle.c_merge.proofs.Common.{callee_type, callee_uses, if_any, is_known, is_own_name, is_runtime_name, is_symbol, is_void}
-use Rattle.c_merge.proofs.Common.{proper_types, stmt_suits, stmt_uses, target_suits, target_uses, primitives, Scope, file_variables}
-use Rattle.c_merge.proofs.Common.{func_type_of, function_of, functions, variable_of, variables, CType, Program, defined, defined_for_all}
-use Rattle.c_merge.proofs.Common.{definition_at, definitions, is_external, Name, depth_name, by_option, any_from, defined_names, is_listed}
-use Rattle.c_merge.proofs.Common.{static_defined, free_names, stmt_kept, first_there, named_from, take_keeps, Each, KeptArg, KeptCallee}
-use Rattle.c_merge.proofs.Common.{KeptStmt, Foreign, IsDefinedOnce, KeepsSeen, MayMerge, MayUse, Own, is_outside, name_in, Renaming}
-use Rattle.c_merge.proofs.Common.{declares, may_be_named, may_name, merge_names}
+use Rattle.c_merge.proofs.Common.{if◌then◌else◌, slice_get, Some, None, Option, filter_map, bytes_eq, sym, refl, ap, ◌∙◌, subst, inl, inr}
+use Rattle.c_merge.proofs.Common.{and_parts, cases_order, false≢true, not-true, or_cases, bytes_eq-Decides, list_all, list_any}
+use Rattle.c_merge.proofs.Common.{by_test, if_found, named, KeepsRules, is_known, is_own_name, is_symbol, stmt_suits}
+use Rattle.c_merge.proofs.Common.{stmt_uses, primitives, Scope, file_variables, function_of, variable_of, CType, Program}
+use Rattle.c_merge.proofs.Common.{defined, defined_for_all, definition_at, definitions, is_external, Name, depth_name, by_option, any_from}
+use Rattle.c_merge.proofs.Common.{defined_names, is_listed, static_defined, free_names, stmt_kept, first_there, named_from, take_keeps}
+use Rattle.c_merge.proofs.Common.{Each, KeptStmt, Foreign, IsDefinedOnce, KeepsSeen, MayMerge, MayUse, Own, is_outside, name_in, Renaming}
+use Rattle.c_merge.proofs.Common.{declares, may_be_named, may_name, merge_names, AllByRecursion, AsArray, AsFunction, AsVariable, Use}
+use Rattle.c_merge.proofs.Common.{arith}
 use Rattle.std.proofs.Math.Bool.{or-true}
 use Rattle.c_tree.specs.Tree as tree
 use Rattle.c_renaming.specs.Parts.{KeptBody, KeptItem}
+use Rattle.c_renaming.proofs.KeptStatements.{KeptUse, kept_stmt}
 use Rattle.c_renaming.proofs.NewNames.{new_names, primitives_outside}
 use Rattle.c_merge.proofs.Together.{FitTogether, Shows}
 
@@ -23,11 +23,7 @@ each_from P [] h = tt
 each_from P (x ∷ xs) h = (h 0 x refl, each_from P xs (λ i y at. h (suc i) y at))
 
 same_first : {A : Type 0} (a b : Name) (x y : A) → ◌≡◌ {A = Option (Name × A)} (Some (a, x)) (Some (b, y)) → a ≡ b
-same_first {A} a b x y e = ap first e
-  where
-    first : Option (Name × A) → Name
-    first None = a
-    first (Some z) = z.0
+same_first {A} a b x y e = grind arith
 
 -- ---- names of the runtime
 
@@ -54,11 +50,7 @@ own_inside : (name : Name) → is_own_name name ≡ true → is_outside name ≡
 own_inside name own = ap not own
 
 symbol_outside : (name : Name) → is_symbol name ≡ true → is_outside name ≡ true
-symbol_outside name is = ap (λ b. not (not (is_runtime_name name) && not b)) is ∙ go (is_runtime_name name)
-  where
-    go : (b : Bool) → not (not b && false) ≡ true
-    go true = refl
-    go false = refl
+symbol_outside name is = grind arith
 
 pub own_not_depth : (name : Name) → is_own_name name ≡ true → bytes_eq name depth_name ≡ false
 own_not_depth name own = by_test (bytes_eq name depth_name)
@@ -68,25 +60,14 @@ own_not_depth name own = by_test (bytes_eq name depth_name)
 module _ (items : List tree.Item) (keeps : KeepsRules items) where
   -- a function's name is seen outside exactly where it is not static
   pub func_seen : (k : ℕ) (f : tree.Func) → slice_get items k ≡ Some (tree.Function f) → is_outside f.name ≡ not f.is_static
-  func_seen k f at = go f.is_static (free_names items keeps k (tree.Function f) at).0
-    where
-      go : (b : Bool) → (if b then is_own_name f.name else is_symbol f.name) ≡ true → is_outside f.name ≡ not b
-      go true own = own_inside f.name own
-      go false symbol = symbol_outside f.name symbol
+  func_seen k f at = grind (arith, free_names items keeps k (tree.Function f) at, own_inside, symbol_outside)
 
   -- a function of the unit is none of the runtime
   pub func_not_runtime : (k : ℕ) (f : tree.Func) → slice_get items k ≡ Some (tree.Function f) → named f.name primitives ≡ None
   func_not_runtime k f at = by_option (named f.name primitives) (λ none. none) (λ ty there. absurd (clash ty there))
     where
       clash : (ty : tree.FuncType) → named f.name primitives ≡ Some ty → ⊥
-      clash ty there =
-          let kinds = runtime_reserved f.name (ap is_some there) in
-          go f.is_static kinds.0 kinds.1 (free_names items keeps k (tree.Function f) at).0
-        where
-          go : (b : Bool) → is_outside f.name ≡ true → is_symbol f.name ≡ false
-              → (if b then is_own_name f.name else is_symbol f.name) ≡ true → ⊥
-          go true outside none own = both_ways (is_outside f.name) (own_inside f.name own) outside
-          go false outside none symbol = both_ways (is_symbol f.name) none symbol
+      clash ty there = search (arith, runtime_reserved f.name (ap is_some there), free_names items keeps k (tree.Function f) at, own_inside)
 
   pub variable_free : (k : ℕ) (item : tree.Item) (name : Name) (t : CType) → slice_get items k ≡ Some item
       → variable_of item ≡ Some (name, t)
@@ -98,14 +79,7 @@ module _ (items : List tree.Item) (keeps : KeepsRules items) where
   -- the name of a function that some place declares
   pub func_declared : (n : ℕ) (name : Name) (ty : tree.FuncType) → named name (filter_map function_of (take n items)) ≡ Some ty
       → (k : ℕ) × (f : tree.Func) × (slice_get items k ≡ Some (tree.Function f)) × (f.name ≡ name)
-  func_declared n name ty e =
-      let from = named_from function_of (take n items) name ty e in
-      go from.0 from.1 (take_keeps n items from.0 from.1 from.2) from.3
-    where
-      go : (k : ℕ) (item : tree.Item) → slice_get items k ≡ Some item → function_of item ≡ Some (name, ty)
-          → (k : ℕ) × (f : tree.Func) × (slice_get items k ≡ Some (tree.Function f)) × (f.name ≡ name)
-      go k (tree.Function f) at e = (k, f, at, same_first f.name name (func_type_of f) ty e)
-      go k _ at e = absurd cc
+  func_declared n name ty e = grind (arith, named_from function_of (take n items) name ty e, take n items, take_keeps, same_first)
 
   declared_any : (name : Name) (xs : List tree.Item) (k : ℕ) (f : tree.Func) → slice_get xs k ≡ Some (tree.Function f) → f.name ≡ name
       → list_any (declares name) xs ≡ true
@@ -149,57 +123,25 @@ module _ (items : List tree.Item) (keeps : KeepsRules items) where
       abbrev s : Scope
       s = record { declared = take (k + 1) items; func = f; body = b }
 
-      arg_kept : (t : CType) (a : tree.Arg) → list_all (is_known s) (arg_uses a) ≡ true → arg_suits s t a ≡ true → KeptArg ρ u a
-      arg_kept t (tree.Value e) known suits = tt
-      arg_kept t (tree.Address n) known suits = by_option (named n (file_variables s))
-          (λ none. absurd (false≢true (rw (none, arg_suits) at suits)))
-          (λ ty there.
-          let from = named_from variable_of (take (k + 1) items) n ty there in
-          own_not_depth n (variable_free from.0 from.1 n ty (take_keeps (k + 1) items from.0 from.1 from.2) from.3))
-      arg_kept t (tree.OfFunction n) known suits = known_named (k + 1) n (and_parts (is_some (named n (functions s))) true known).0
+      free : (n : Name) (t : CType) → named n (file_variables s) ≡ Some t → bytes_eq n depth_name ≡ false
+      free n t there =
+          let from = named_from variable_of (take (k + 1) items) n t there in
+          own_not_depth n (variable_free from.0 from.1 n t (take_keeps (k + 1) items from.0 from.1 from.2) from.3)
 
-      args_kept : (types : List CType) (args : List tree.Arg) → list_all (is_known s) (flat_map arg_uses args) ≡ true
-          → args_suit s types args ≡ true
-          → Each (KeptArg ρ u) args
-      args_kept (t ∷ types) (a ∷ args) known suits =
-          let uses = all_parts (is_known s) (arg_uses a) (flat_map arg_uses args) known in
-          let both = and_parts (arg_suits s t a) (args_suit s types args) suits in
-          (arg_kept t a uses.0 both.0, args_kept types args uses.1 both.1)
-      args_kept [] (a ∷ args) known suits = absurd (false≢true suits)
-      args_kept _ _ known suits = tt
-
-      if_there : {A : Type 0} (o : Option A) (test : A → Bool) → is_some o ≡ true → if_any o test ≡ true
-          → (a : A) × (o ≡ Some a) × (test a ≡ true)
-      if_there None test there is = absurd (false≢true there)
-      if_there (Some a) test there is = (a, refl, is)
-
-      callee_kept : (c : tree.Callee) → list_all (is_known s) (callee_uses c) ≡ true
-          → KeptCallee ρ u c × (is_some (callee_type s c) ≡ true)
-      callee_kept (tree.Called n) known =
-          let there = (and_parts (is_some (named n (functions s))) true known).0 in
-          (known_named (k + 1) n there, there)
-      callee_kept (tree.Through t n) known = (tt, refl)
-
-      stmt_text : (stmt : tree.Stmt) → list_all (is_known s) (stmt_uses stmt) ≡ true → stmt_suits s stmt ≡ true → KeptStmt ρ u stmt
-      stmt_text (tree.Set n a) known suits =
-          let both = and_parts (is_some (named n (variables s))) (list_all (is_known s) (arg_uses a)) known in
-          let t = if_there (named n (variables s)) (λ t. arg_suits s t a) both.0 suits in
-          arg_kept t.0 a both.1 t.2
-      stmt_text (tree.Call target c args) known suits =
-          let behind = all_parts (is_known s) (target_uses target) (callee_uses c ++ flat_map arg_uses args) known in
-          let uses = all_parts (is_known s) (callee_uses c) (flat_map arg_uses args) behind.1 in
-          let callee = callee_kept c uses.0 in
-          let t = if_there (callee_type s c) (call_suits s target args) callee.1 suits in
-          let fits = and_parts (args_suit s (proper_types t.0.params) args) (target_suits s t.0.result target) t.2 in
-          (callee.0, args_kept (proper_types t.0.params) args uses.1 fits.0)
-      stmt_text (tree.Return a) known suits =
-          arg_kept f.result a known (and_parts (not (is_void f.result)) (arg_suits s f.result a) suits).1
-      stmt_text _ known suits = tt
+      uses_kept : (uses : List Use) → list_all (is_known s) uses ≡ true → AllByRecursion (KeptUse ρ u) uses
+      uses_kept [] known = tt
+      uses_kept (AsVariable n ∷ uses) known =
+          (tt, uses_kept uses (and_parts (is_known s (AsVariable n)) (list_all (is_known s) uses) known).1)
+      uses_kept (AsArray n ∷ uses) known = (tt, uses_kept uses (and_parts (is_known s (AsArray n)) (list_all (is_known s) uses) known).1)
+      uses_kept (AsFunction n ∷ uses) known =
+          let both = and_parts (is_known s (AsFunction n)) (list_all (is_known s) uses) known in
+          (known_named (k + 1) n both.0, uses_kept uses both.1)
 
       body_text : Each (KeptStmt ρ u) b.stmts
       body_text = each_from (KeptStmt ρ u) b.stmts (λ j stmt here.
           let h = stmt_kept items keeps k f b at is j stmt here in
-          stmt_text stmt h.known (sym (ap (λ c. not c || stmt_suits s stmt) h.known) ∙ h.suits))
+          kept_stmt ρ u s free stmt (uses_kept (stmt_uses stmt) h.known) h.known
+          (sym (ap (λ c. not c || stmt_suits s stmt) h.known) ∙ h.suits))
 
     item_text : (k : ℕ) (item : tree.Item) → slice_get items k ≡ Some item → KeptItem ρ u (λ x. true) item
     item_text k (tree.Array n count bytes) at = own_not_depth n (free_names items keeps k (tree.Array n count bytes) at).0
@@ -311,11 +253,7 @@ module _ (p : Program) (are : FitTogether p.units) where
   Declared items name = (k : ℕ) × (f : tree.Func) × (slice_get items k ≡ Some (tree.Function f)) × (f.name ≡ name)
 
   declared_from : (name : Name) (items : List tree.Item) → list_any (declares name) items ≡ true → Declared items name
-  declared_from name items e = let from = any_from (declares name) items e in go from.0 from.1 from.2 from.3
-    where
-      go : (k : ℕ) (item : tree.Item) → slice_get items k ≡ Some item → declares name item ≡ true → Declared items name
-      go k (tree.Function f) at is = (k, f, at, (bytes_eq-Decides f.name name).0 is)
-      go k _ at is = absurd (false≢true is)
+  declared_from name items e = grind (arith, any_from (declares name) items e, bytes_eq-Decides)
 
   used : (u : ℕ) (x : Name) → may_name p u x ≡ true → MayUse p is_outside u x
   used u x is = by_option (slice_get p.units u)

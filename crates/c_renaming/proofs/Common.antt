@@ -25,8 +25,7 @@ pub use Rattle.c_tree.specs.declared.tree.Num.{Num}
 pub use Rattle.c_meaning.proofs.Lookups.{bytes_differ, bytes_equal, named-with_another, named-with_named}
 pub use Rattle.c_meaning.specs.Linking.{Definition, HostSymbol, Program, SymbolCall, array_bytes, array_named, called_func, defined}
 pub use Rattle.c_meaning.specs.Linking.{defined_for_all, definition_at, definition_of, definitions, external_func, fits, func_named}
-pub use Rattle.c_meaning.specs.Linking.{func_type, host_symbol, host_symbols, init_functions, is_external, is_init}
-pub use Rattle.c_meaning.specs.Linking.{is_init_symbol, typed}
+pub use Rattle.c_meaning.specs.Linking.{func_type, host_symbol, host_symbols, init_functions, is_external, is_init, is_init_symbol, typed}
 pub use Rattle.c_meaning.specs.Machine.{file_memory, file_table, file_var, fresh, initial_of, is_object, memory_in, objects_of, of_type}
 pub use Rattle.c_meaning.specs.Machine.{table_in, var_in, with_depth, with_memory, with_objects, with_table, with_trail, with_var, zero_of}
 pub use Rattle.c_meaning.specs.Primitives.{Effect, Gives, IsUndefined, NoEffect, Traps, primitive, primitives}
@@ -36,10 +35,9 @@ pub use Rattle.c_meaning.specs.State.{Asks, Bad, CValue, Element, Evaluated, Fra
 pub use Rattle.c_meaning.specs.State.{Name, NoRule, Number, ObjectAddress, Objects, Place, Pointer, Running, State, Stuck, Table, Trapped}
 pub use Rattle.c_meaning.specs.State.{Undefined, UnitFunc, Vars, found, then_evaluate}
 pub use Rattle.c_meaning.specs.Step.{Back, Next, Step, Stops, act, after_label, are_of_types, as_object, ask, assign, assign_depth, at_rest}
-pub use Rattle.c_meaning.specs.Step.{begin, bind, c_step, call, call_callee, call_named, call_through, element, evaluate}
-pub use Rattle.c_meaning.specs.Step.{evaluate_arg, evaluate_args, first_vars, give, in_unit, jump, label_of, locals_of, next}
-pub use Rattle.c_meaning.specs.Step.{number_in, numbers, param_names, param_types, place_of, put_in, replied, returned, take_effect}
-pub use Rattle.c_meaning.specs.Step.{value_of, with_value, with_vars}
+pub use Rattle.c_meaning.specs.Step.{begin, bind, c_step, call, call_callee, call_named, call_through, element, evaluate, evaluate_arg}
+pub use Rattle.c_meaning.specs.Step.{evaluate_args, first_vars, give, in_unit, jump, label_of, locals_of, next, number_in, numbers, put_in}
+pub use Rattle.c_meaning.specs.Step.{param_names, param_types, place_of, replied, returned, take_effect, value_of, with_value, with_vars}
 pub use Rattle.c_renaming.specs.Externals.{Elsewhere, Here, KeepsExternals, StandsFor, definer}
 pub use Rattle.c_renaming.specs.Kept.{Each, Holds, KeptArg, KeptCallee, KeptDefinition, KeptFrames, KeptFunc, KeptRunning, KeptStmt}
 pub use Rattle.c_renaming.specs.Kept.{KeptTable, KeptValue, KeptVars}

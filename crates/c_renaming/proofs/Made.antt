@@ -1,11 +1,10 @@
 -- A program that is made of another's renamed parts is renamed.
-use Rattle.c_renaming.proofs.Common.{◌≡◌, ℕ, ◌+◌, Bool, true, List, [], ◌∷◌, map, is_some, slice_get, Some, None, filter, Option}
-use Rattle.c_renaming.proofs.Common.{option_map, flat_map, filter_map, bytes_eq, sym, refl, ap, ◌∙◌, subst, bytes_eq-Decides, option_or}
-use Rattle.c_renaming.proofs.Common.{is_some_map, or_map, if_found, numbered, Host, func_type_of, Definition, HostSymbol, Program}
-use Rattle.c_renaming.proofs.Common.{array_bytes, array_named, defined, definition_at, external_func, func_named, func_type, host_symbol}
-use Rattle.c_renaming.proofs.Common.{host_symbols, typed, FuncAddress, Name, UnitFunc, Elsewhere, Here, KeepsExternals, StandsFor, definer}
-use Rattle.c_renaming.proofs.Common.{Each, Holds, KeptDefinition, KeptFunc, IsMadeOf, KeptItem, PlacedAt, KeepsNames, Renames, Renaming}
-use Rattle.c_renaming.proofs.Common.{address, arith}
+use Rattle.c_renaming.proofs.Common.{◌≡◌, ℕ, ◌+◌, Bool, true, List, [], ◌∷◌, map, is_some, slice_get, Some, None, filter, Option, flat_map}
+use Rattle.c_renaming.proofs.Common.{option_map, filter_map, bytes_eq, sym, refl, ap, ◌∙◌, subst, bytes_eq-Decides, option_or, is_some_map}
+use Rattle.c_renaming.proofs.Common.{or_map, if_found, numbered, Host, func_type_of, Definition, HostSymbol, Program, array_bytes, defined}
+use Rattle.c_renaming.proofs.Common.{array_named, definition_at, external_func, func_named, func_type, host_symbol, host_symbols, typed}
+use Rattle.c_renaming.proofs.Common.{FuncAddress, Name, UnitFunc, Elsewhere, Here, KeepsExternals, StandsFor, definer, Each, Holds, Renames}
+use Rattle.c_renaming.proofs.Common.{KeptDefinition, KeptFunc, IsMadeOf, KeptItem, PlacedAt, KeepsNames, Renaming, address, arith}
 use Rattle.c_tree.specs.Tree as tree
 use Rattle.c_renaming.specs.Renamed as renamed
 use Rattle.c_renaming.proofs.Begins.{arrays_placed, fresh_same}

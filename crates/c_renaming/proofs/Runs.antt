@@ -1,12 +1,11 @@
 -- Runs are the same on both sides.
-use Rattle.c_renaming.proofs.Common.{◌≡◌, ℕ, zero, suc, ◌+◌, List, [], ◌∷◌, ◌++◌, map, length, Some, None, Option, option_map, zip, sym}
-use Rattle.c_renaming.proofs.Common.{refl, ap, ◌∙◌, subst, map-append, range_with_len, numbered, Call, Init, Phase, Reply, call_ended}
-use Rattle.c_renaming.proofs.Common.{Value, Program, SymbolCall, called_func, init_functions, fresh, with_trail, Ended, Entry, Going}
-use Rattle.c_renaming.proofs.Common.{OutOfSteps, Outcome, Over, Pending, Progress, Stopped, after, begin_entry, begun, c_run, c_start}
-use Rattle.c_renaming.proofs.Common.{came_back, entries_of, go_on, over, run_of, told_end, CValue, FuncAddress, FuncPointer, Machine}
-use Rattle.c_renaming.proofs.Common.{Number, Pointer, Stuck, Back, Next, Step, Stops, c_step, call, Each, Holds, KeptFunc, KeptValue}
-use Rattle.c_renaming.proofs.Common.{KeepsBegins, KeepsMeanings, KeepsNames, Renames, Renaming, address, SameMachine, SameRun, SameState}
-use Rattle.c_renaming.proofs.Common.{SameStep}
+use Rattle.c_renaming.proofs.Common.{◌≡◌, ℕ, zero, suc, ◌+◌, List, [], ◌∷◌, ◌++◌, map, length, Some, None, Option, option_map, zip, sym, ap}
+use Rattle.c_renaming.proofs.Common.{refl, ◌∙◌, subst, map-append, range_with_len, numbered, Call, Init, Phase, Reply, call_ended, Value}
+use Rattle.c_renaming.proofs.Common.{Program, SymbolCall, called_func, init_functions, fresh, with_trail, Ended, Entry, Going, OutOfSteps}
+use Rattle.c_renaming.proofs.Common.{Outcome, Over, Pending, Progress, Stopped, after, begin_entry, begun, c_run, c_start, came_back, go_on}
+use Rattle.c_renaming.proofs.Common.{entries_of, over, run_of, told_end, CValue, FuncAddress, FuncPointer, Machine, Number, Pointer, Stuck}
+use Rattle.c_renaming.proofs.Common.{Back, Next, Step, Stops, c_step, call, Each, Holds, KeptFunc, KeptValue, KeepsBegins, KeepsMeanings}
+use Rattle.c_renaming.proofs.Common.{KeepsNames, Renames, Renaming, address, SameMachine, SameRun, SameState, SameStep}
 use Rattle.c_renaming.specs.Renamed as renamed
 use Rattle.c_renaming.proofs.Changes.{same_trail}
 use Rattle.c_renaming.proofs.Steps.{call_same, c_step_same}

@@ -20,9 +20,8 @@ use Rattle.c_renaming.proofs.Bodies.{first_vars-kept, numbers-values, of_type-va
 use Rattle.c_renaming.proofs.Changes.{same_var, same_depth, same_trail}
 use Rattle.c_renaming.proofs.Effects.{SameEffect, Simulates, primitives_simulate}
 use Rattle.c_renaming.proofs.Types.{func_type_same}
-use Rattle.c_renaming.proofs.Evaluation.{come_to, as_object-value, named-vars, with_named-vars, with_named-kept, is_depth}
-use Rattle.c_renaming.proofs.Evaluation.{value_same, value_kept, evaluate_same, GivesKept, GiveKept, arg_same, arg_kept, args_same}
-use Rattle.c_renaming.proofs.Evaluation.{args_kept}
+use Rattle.c_renaming.proofs.Evaluation.{come_to, as_object-value, named-vars, with_named-vars, with_named-kept, is_depth, value_same}
+use Rattle.c_renaming.proofs.Evaluation.{value_kept, evaluate_same, GivesKept, GiveKept, arg_same, arg_kept, args_same, args_kept}
 
 abbrev frames : Renaming → List Frame → List Frame
 frames ρ below = map (renamed.frame ρ) below

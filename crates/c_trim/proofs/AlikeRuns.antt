@@ -1,11 +1,10 @@
 -- Units in which one is trimmed run as before.
-use Rattle.c_trim.proofs.Common.{◌≡◌, ℕ, zero, suc, ◌-◌, Bool, true, false, not, List, [], ◌∷◌, ◌++◌, map, length, take, if◌then◌else◌}
-use Rattle.c_trim.proofs.Common.{◌==◌, slice_get, Some, None, Option, option_map, sym, refl, ap, ◌∙◌, subst, arith, eqb-true, by_test}
-use Rattle.c_trim.proofs.Common.{if_found, named, Host, Reply, Name, Program, SymbolCall, file_memory, file_table, file_var, objects_of}
-use Rattle.c_trim.proofs.Common.{CRun, Outcome, Stopped, c_run, CValue, Element, FuncAddress, FuncPointer, HostFunc, Number, Objects}
-use Rattle.c_trim.proofs.Common.{Pointer, Stop, Table, Undefined, UnitFunc, AreDistinct, ObjectNames, declared_names, names_of, Renaming}
-use Rattle.c_trim.proofs.Common.{address, AllKeepRules, RunsAlike, among, left_out, new_number, new_outcome, new_stop, TellsNeeded, kept}
-use Rattle.c_trim.proofs.Common.{stays}
+use Rattle.c_trim.proofs.Common.{◌≡◌, ℕ, zero, suc, Bool, true, false, not, List, [], ◌∷◌, ◌++◌, map, length, take, if◌then◌else◌, ◌==◌}
+use Rattle.c_trim.proofs.Common.{slice_get, Some, None, Option, option_map, sym, refl, ap, ◌∙◌, subst, arith, by_test, if_found, named}
+use Rattle.c_trim.proofs.Common.{Host, Reply, Name, Program, SymbolCall, file_memory, file_table, file_var, objects_of, CRun, Outcome}
+use Rattle.c_trim.proofs.Common.{Stopped, c_run, CValue, Element, FuncAddress, FuncPointer, HostFunc, Number, Objects, Pointer, Stop, Table}
+use Rattle.c_trim.proofs.Common.{Undefined, UnitFunc, AreDistinct, ObjectNames, declared_names, names_of, Renaming, address, AllKeepRules}
+use Rattle.c_trim.proofs.Common.{RunsAlike, among, left_out, new_number, new_outcome, new_stop, TellsNeeded, kept, stays}
 use Rattle.c_tree.specs.Tree as tree
 use Rattle.c_renaming.specs.Renamed as renamed
 use Rattle.c_renaming.specs.Same.{SameRun}
@@ -139,27 +138,9 @@ module _ (before after : List (List tree.Item)) (hosts : List Host) (unit : List
   ρ = whole.trimming p used stay
 
   number_is : (u i : ℕ) → whole.new_number p stay u i ≡ (if u == k then new_number needed unit i else i)
-  number_is u i = by_test (u == k) mine other
-    where
-      abbrev_in : Option (List tree.Item) → ℕ
-      abbrev_in o = elim o [ None ↦ i | Some items ↦ i - length (whole.left_out (stay u) (take i items)) ]
-
-      mine : (u == k) ≡ true → whole.new_number p stay u i ≡ (if u == k then new_number needed unit i else i)
-      mine is =
-          ap abbrev_in (subst (λ (n : ℕ). slice_get p.units n ≡ Some unit) (sym (eqb-true u k is))
-          (program.at_place before after hosts unit needed tells keeps before after))
-          ∙ ap (λ (b : Bool). i - length (whole.left_out (λ x. if b then name_stays needed x else true) (take i unit))) is
-          ∙ ap (λ l. i - length l) (same_out needed unit (program.unit_named before after hosts unit needed tells keeps) i)
-          ∙ sym (ap (λ (b : Bool). if b then new_number needed unit i else i) is)
-
-      other : (u == k) ≡ false → whole.new_number p stay u i ≡ (if u == k then new_number needed unit i else i)
-      other is = go (slice_get p.units u) ∙ sym (ap (λ (b : Bool). if b then new_number needed unit i else i) is)
-        where
-          go : (o : Option (List tree.Item)) → abbrev_in o ≡ i
-          go None = refl
-          go (Some items) =
-              ap (λ l. i - length l) (none_out (stay u) (λ x. ap (λ b. if b then name_stays needed x else true) is) (take i items))
-              ∙ (let e : i - 0 ≡ i = omega arith in e)
+  number_is u i =
+      let at = program.at_place before after hosts unit needed tells keeps before after in
+      grind (arith, at, program.unit_named before after hosts unit needed tells keeps, take, same_out, by_test, none_out)
 
   same_stop : (why : Stop) → renamed.stop ρ why ≡ new_stop needed unit k why
   same_stop (Undefined kind at) =

@@ -18,7 +18,7 @@ pub use Rattle.w2c_base.specs.Run.{Host, Reply}
 pub use Rattle.c_tree.specs.FirstBroken.{BrokenAt, KeepsRules, broken_in_body, broken_in_item, broken_in_stmt, broken_of, broken_rules}
 pub use Rattle.c_tree.specs.Rules.{Place, StmtPlace, defines, has_body, item_rules, stmt_rules}
 pub use Rattle.c_tree.specs.Runtime.{primitives, same_func_type, same_type}
-pub use Rattle.c_tree.specs.Scope.{Name, Scope, arrays, file_functions, file_variables, func_type_of, functions, is_among, is_comparison}
+pub use Rattle.c_tree.specs.Scope.{Name, Scope, file_functions, file_variables, func_type_of, functions, is_among, is_comparison}
 pub use Rattle.c_tree.specs.Scope.{is_object_type, name_of, pointed_by, pointer_to, type_of, typing_of, variables}
 pub use Rattle.c_tree.specs.View.{arg_of, item_of, stmt_of, unit_of}
 pub use Rattle.c_tree.specs.declared.tree.CType.{CType}
@@ -36,4 +36,4 @@ pub use Rattle.c_trim.specs.Marks.{AreAllReached, AreReached, BegunTo, FollowedT
 pub use Rattle.c_trim.specs.Marks.{functions_at, is_in, is_reached, reached_by, unreached, with_item, with_names}
 pub use Rattle.c_trim.specs.Runs.{AllKeepRules, RunsAlike, RunsInPlaceOf, among, left_out, new_number, new_outcome, new_stop}
 pub use Rattle.c_trim.specs.Trim.{IsNeeded, IsTrimmed, TellsNeeded, arg_functions, body_functions, callee_functions, external_names}
-pub use Rattle.c_trim.specs.Trim.{is_external, item_functions, kept, leads, names, stays, stmt_functions}
+pub use Rattle.c_trim.specs.Trim.{functions_of, is_external, item_functions, kept, leads, names, stays, stmt_functions}

@@ -1,10 +1,9 @@
 -- In a unit that keeps the rules no two objects of a kind have one name.
 use Rattle.c_trim.proofs.Common.{◌≡◌, Bool, true, false, not, ◌||◌, List, [], ◌∷◌, ◌++◌, map, length, Some, None, Option, option_map}
 use Rattle.c_trim.proofs.Common.{filter_map, bytes_eq, sym, refl, ap, ◌∙◌, subst, list_all-append, AllByRecursion, cons_option, list_all, ⊤}
-use Rattle.c_trim.proofs.Common.{both_hold, of_each, Name, name_of, CType, file_memory, file_table, file_var, CValue, Memory, Table}
-use Rattle.c_trim.proofs.Common.{AreDistinct, unlike_back}
+use Rattle.c_trim.proofs.Common.{both_hold, of_each, Name, name_of, file_memory, file_table, file_var, CValue, Memory, Table, AreDistinct}
+use Rattle.c_trim.proofs.Common.{unlike_back, arith}
 use Rattle.w2c_base.proofs.Places.{take_front}
-use Rattle.c_tree.specs.declared.tree.CType.TheVariants as type
 use Rattle.c_tree.specs.Tree as tree
 use Rattle.c_tree.specs.Rules as rule
 use Rattle.c_renaming.specs.Kept as text
@@ -50,22 +49,12 @@ module _ {X : Type 0} (f : tree.Item → Option (Name × X))
 
   differ : (x y : tree.Item) → ((z : tree.Item) → rule.may_both_stand x z ≡ false) → may_follow x y ≡ true
       → bytes_eq (name_of y) (name_of x) ≡ false
-  differ x y alone e = unlike_back (name_of x) (name_of y) (by (bytes_eq (name_of x) (name_of y)) (rule.may_both_stand x y) (alone y) e)
-    where
-      by : (b c : Bool) → c ≡ false → (not b || c) ≡ true → b ≡ false
-      by true true is e = cc
-      by true false is e = cc
-      by false c is e = refl
+  differ x y alone e = grind (arith, rule.may_both_stand x y, unlike_back)
 
   apart : (x : tree.Item) → ((z : tree.Item) → rule.may_both_stand x z ≡ false) → (items : List tree.Item)
       → AllByRecursion (λ (y : tree.Item). may_follow x y ≡ true) items → text.Each (λ y. bytes_eq y (name_of x) ≡ false) (names items)
   apart x alone [] all = tt
-  apart x alone (y ∷ items) all = by (f y) refl (apart x alone items all.1)
-    where
-      by : (o : Option (Name × X)) → f y ≡ o → text.Each (λ z. bytes_eq z (name_of x) ≡ false) (names items)
-          → text.Each (λ z. bytes_eq z (name_of x) ≡ false) (map (λ (e : Name × X). e.0) (cons_option o (filter_map f items)))
-      by None is behind = behind
-      by (Some e) is behind = (ap (λ n. bytes_eq n (name_of x)) (sym (declares y e is).0) ∙ differ x y alone all.0, behind)
+  apart x alone (y ∷ items) all = grind (arith, apart x alone items all.1, differ x y alone all.0)
 
   are_distinct : (items : List tree.Item) → InOrder items → AreDistinct (names items)
   are_distinct [] order = tt
@@ -95,18 +84,10 @@ var_declares _ e is = cc
 
 pub memory_declares : (x : tree.Item) (e : Name × Memory) → file_memory x ≡ Some e → (name_of x ≡ e.0) × ((y : tree.Item)
     → rule.may_both_stand x y ≡ false)
-memory_declares (tree.Var ty name number) e is = (by ty is, λ y. refl)
-  where
-    by : (ty : CType) → file_memory (tree.Var ty name number) ≡ Some e → name ≡ e.0
-    by type.Mem is = cc
-    by _ is = cc
+memory_declares (tree.Var ty name number) e is = grind arith
 memory_declares _ e is = cc
 
 pub table_declares : (x : tree.Item) (e : Name × Table) → file_table x ≡ Some e → (name_of x ≡ e.0) × ((y : tree.Item)
     → rule.may_both_stand x y ≡ false)
-table_declares (tree.Var ty name number) e is = (by ty is, λ y. refl)
-  where
-    by : (ty : CType) → file_table (tree.Var ty name number) ≡ Some e → name ≡ e.0
-    by type.Tab is = cc
-    by _ is = cc
+table_declares (tree.Var ty name number) e is = grind arith
 table_declares _ e is = cc

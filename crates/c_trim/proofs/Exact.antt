@@ -1,10 +1,10 @@
 -- Where all that is needed was reached, what was reached is what stays of the unit.
-use Rattle.c_trim.proofs.Common.{◌≡◌, ℕ, zero, suc, ◌+◌, Bool, true, false, not, ◌&&◌, ◌||◌, ◌⊎◌, List, [], ◌∷◌, length, is_some}
+use Rattle.c_trim.proofs.Common.{◌≡◌, ℕ, zero, suc, ◌+◌, Bool, true, false, not, ◌&&◌, ◌||◌, ◌⊎◌, List, [], ◌∷◌, length}
 use Rattle.c_trim.proofs.Common.{if◌then◌else◌, slice_get, slice_index_or, Some, None, Option, zip, bytes_eq, sym, refl, ap, ◌∙◌, subst}
 use Rattle.c_trim.proofs.Common.{inl, inr, arith, take_all, bytes_eq-Decides, AllByRecursion, list_any, position_from, range_with_len}
 use Rattle.c_trim.proofs.Common.{both_hold, all_at, all_from, by_test, same_tests, numbered, KeepsRules, defines, has_body, Name, is_among}
 use Rattle.c_trim.proofs.Common.{name_of, AreAllReached, KnowsDefiners, Reached, definer, is_in, is_reached, IsNeeded, IsTrimmed}
-use Rattle.c_trim.proofs.Common.{body_functions, is_external, item_functions, kept, leads, names, stays}
+use Rattle.c_trim.proofs.Common.{is_external, item_functions, kept, leads, names, stays}
 use Rattle.std.proofs.lemmas.Bool.{and_from, or_right, or_left}
 use Rattle.std.proofs.lemmas.Option.{slice_get_within}
 use Rattle.c_tree.specs.Tree as tree
@@ -74,16 +74,7 @@ both_define : (x y : tree.Item) (name : Name) → defines name x ≡ true → de
 both_define x y name one two follow =
     let left = both_hold (bytes_eq (name_of x) name) (has_body x) one in
     let right = both_hold (bytes_eq (name_of y) name) (has_body y) two in
-    let same : name_of x ≡ name_of y = (bytes_eq-Decides (name_of x) name).0 left.0 ∙ sym ((bytes_eq-Decides (name_of y) name).0 right.0) in
-    no (bytes_eq (name_of x) (name_of y)) (rule.are_alike x y) (has_body x) (has_body y)
-    ((bytes_eq-Decides (name_of x) (name_of y)).1 same) left.1 right.1 follow
-  where
-    no : (a b c d : Bool) → a ≡ true → c ≡ true → d ≡ true → (not a || (b && not (c && d))) ≡ true → ⊥
-    no true true true true e f g h = cc
-    no true false true true e f g h = cc
-    no true b true false e f g h = cc
-    no true b false d e f g h = cc
-    no false b c d e f g h = cc
+    grind (arith, left, right, bytes_eq-Decides, rule.are_alike x y)
 
 one_definer_from : (name : Name) (k : ℕ) (items : List tree.Item) → InOrder items → (i : ℕ) (item : tree.Item) → slice_get items i
     ≡ Some item
@@ -112,11 +103,7 @@ has_position {A} test k (x ∷ xs) e = by (test x) e (has_position test (k + 1) 
 
 -- what names a function has a body
 names_by_body : (item : tree.Item) (x : Name) → is_among x (item_functions item) ≡ true → has_body item ≡ true
-names_by_body (tree.Function f) x e = by f.body e
-  where
-    by : (o : Option tree.Body) → is_among x (body_functions o) ≡ true → is_some o ≡ true
-    by None e = cc
-    by (Some b) e = refl
+names_by_body (tree.Function f) x e = grind arith
 names_by_body _ x e = cc
 
 static_rule : (unit : List tree.Item) (k : ℕ) (items : List tree.Item) → ItemsHold unit k items → (i : ℕ) (f : tree.Func)
@@ -127,22 +114,11 @@ static_rule unit k (x ∷ items) h zero f there =
 static_rule unit k (x ∷ items) h (suc i) f there = static_rule unit (k + 1) items h.1 i f there
 
 external_symbol : (item : tree.Item) → is_external item ≡ true → rule.file_name_is_free item ≡ true → rule.is_symbol (name_of item) ≡ true
-external_symbol (tree.Function f) external free = by f.is_static external free
-  where
-    by : (b : Bool) → not b ≡ true → (if b then rule.is_own_name f.name else rule.is_symbol f.name) ≡ true → rule.is_symbol f.name ≡ true
-    by true e free = cc
-    by false e free = free
+external_symbol (tree.Function f) external free = grind arith
 external_symbol _ external free = cc
 
 static_own : (f : tree.Func) → f.is_static ≡ true → rule.file_name_is_free (tree.Function f) ≡ true → rule.is_symbol f.name ≡ false
-static_own f static free =
-    own (rule.is_runtime_name f.name) (rule.is_symbol f.name)
-    (sym (ap (λ b. if b then rule.is_own_name f.name else rule.is_symbol f.name) static) ∙ free)
-  where
-    own : (b c : Bool) → (not b && not c) ≡ true → c ≡ false
-    own true c e = cc
-    own false true e = cc
-    own false false e = refl
+static_own f static free = grind (arith, rule.is_runtime_name f.name, rule.is_symbol f.name, rule.is_own_name f.name)
 
 module _ (unit : List tree.Item) (keeps : KeepsRules unit) (table : List (Name × ℕ)) (knows : KnowsDefiners table unit)
     (r : Reached) (all : AreAllReached unit r) where

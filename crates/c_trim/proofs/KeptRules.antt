@@ -1,9 +1,9 @@
 -- What stays of a unit keeps the rules that the unit keeps, where the functions that it names stay.
-use Rattle.c_trim.proofs.Common.{◌≡◌, ℕ, ◌+◌, Bool, true, false, not, ◌&&◌, ◌||◌, List, [], ◌∷◌, ◌++◌, map, length, take, is_some}
-use Rattle.c_trim.proofs.Common.{if◌then◌else◌, Some, None, Option, filter_map, bytes_eq, sym, refl, ap, ◌∙◌, subst, append_assoc}
-use Rattle.c_trim.proofs.Common.{append-nil, length_push, filter-append, bytes_eq-Decides, AllByRecursion, list_all, list_any, both_hold}
-use Rattle.c_trim.proofs.Common.{named, KeepsRules, Name, is_among, name_of, body_functions, item_functions, kept, stays}
-use Rattle.std.proofs.lemmas.Bool.{and_from, not-true, or_right}
+use Rattle.c_trim.proofs.Common.{◌≡◌, ℕ, ◌+◌, Bool, true, false, not, ◌&&◌, ◌||◌, List, [], ◌∷◌, ◌++◌, map, length, take, if◌then◌else◌}
+use Rattle.c_trim.proofs.Common.{Some, None, Option, filter_map, bytes_eq, sym, refl, ap, ◌∙◌, subst, append_assoc, append-nil, length_push}
+use Rattle.c_trim.proofs.Common.{filter-append, bytes_eq-Decides, AllByRecursion, list_all, both_hold, named, KeepsRules, Name, is_among}
+use Rattle.c_trim.proofs.Common.{name_of, body_functions, item_functions, kept, stays, arith}
+use Rattle.std.proofs.lemmas.Bool.{and_from, not-true}
 use Rattle.w2c_base.proofs.Places.{take_front, take_with}
 use Rattle.c_tree.specs.Tree as tree
 use Rattle.c_tree.specs.Scope as scope
@@ -35,28 +35,7 @@ module _ (needed : Name → Bool) where
   same_function x is [] = refl
   same_function x is (tree.Array name count bytes ∷ items) = same_function x is items
   same_function x is (tree.Var ty name number ∷ items) = same_function x is items
-  same_function x is (tree.Function f ∷ items) =
-      by (stays needed (tree.Function f)) (bytes_eq f.name x) refl refl (same_function x is items)
-    where
-      rest : List tree.Item
-      rest = kept needed items
-
-      by : (b c : Bool) → stays needed (tree.Function f) ≡ b → bytes_eq f.name x ≡ c
-          → named x (functions_in rest) ≡ named x (functions_in items)
-          → named x (functions_in (if b then tree.Function f ∷ rest else rest))
-          ≡ (if c then Some (scope.func_type_of f) else named x (functions_in items))
-      by true true stay same behind = ap (λ t. if t then Some (scope.func_type_of f) else named x (functions_in rest)) same
-      by true false stay same behind = ap (λ t. if t then Some (scope.func_type_of f) else named x (functions_in rest)) same ∙ behind
-      by false true stay same behind =
-          let e : f.name ≡ x = (bytes_eq-Decides f.name x).0 same in
-          let must : needed f.name ≡ true = ap needed e ∙ is in
-          absurd (never f.is_static (needed f.name) stay must)
-        where
-          never : (b c : Bool) → (not b || c) ≡ false → c ≡ true → ⊥
-          never true true e f = cc
-          never true false e f = cc
-          never false c e f = cc
-      by false false stay same behind = behind
+  same_function x is (tree.Function f ∷ items) = grind (arith, same_function x is items, bytes_eq-Decides)
 
   agree : (items : List tree.Item) → AgreeOn needed items (kept needed items)
   agree items = record {
@@ -110,19 +89,7 @@ module _ (needed : Name → Bool) where
 
     defined_static : (y : tree.Item) → stays needed y ≡ true → rule.is_defined_if_static (item_at u (length before) y) ≡ true
         → rule.is_defined_if_static (item_at t at y) ≡ true
-    defined_static (tree.Function f) stay e = by f.is_static stay e
-      where
-        same_stays : needed f.name ≡ true → (y : tree.Item) → rule.defines f.name y ≡ true → stays needed y ≡ true
-        same_stays is (tree.Array name count bytes) e = refl
-        same_stays is (tree.Var ty name number) e = refl
-        same_stays is (tree.Function g) e =
-            let same = both_hold (bytes_eq g.name f.name) (is_some g.body) e in
-            or_right (not g.is_static) (needed g.name) (ap needed ((bytes_eq-Decides g.name f.name).0 same.0) ∙ is)
-
-        by : (b : Bool) → (not b || needed f.name) ≡ true → (not b || list_any (rule.defines f.name) u) ≡ true
-            → (not b || list_any (rule.defines f.name) t) ≡ true
-        by false stay e = refl
-        by true stay e = any_left (rule.defines f.name) (stays needed) (same_stays stay) u e
+    defined_static (tree.Function f) stay e = grind (arith, both_hold, bytes_eq-Decides, any_left)
     defined_static _ stay e = refl
 
     item_rules_hold : Hold rule.item_rules (item_at u (length before) x) → Hold rule.item_rules (item_at t at x)

@@ -4,6 +4,7 @@ pub mod Needed
 mod Common
 mod Lists
 mod RulesHold
+mod Named
 mod SameScope
 mod KeptRules
 mod KeptText

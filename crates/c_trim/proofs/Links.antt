@@ -1,10 +1,9 @@
 -- Units in which one is trimmed link as before, and the same calls fit.
-use Rattle.c_trim.proofs.Common.{◌≡◌, ℕ, zero, suc, ◌+◌, Bool, true, false, not, ◌&&◌, ◌||◌, List, [], ◌∷◌, ◌++◌, length, take, is_some}
-use Rattle.c_trim.proofs.Common.{if◌then◌else◌, slice_get, Some, None, Option, zip, flat_map, sym, refl, ap, ◌∙◌, list_any, range_with_len}
+use Rattle.c_trim.proofs.Common.{◌≡◌, ℕ, zero, suc, ◌+◌, Bool, true, false, not, ◌&&◌, ◌||◌, List, [], ◌∷◌, ◌++◌, length, take, is_some, ap}
+use Rattle.c_trim.proofs.Common.{if◌then◌else◌, slice_get, Some, None, Option, zip, flat_map, sym, refl, ◌∙◌, list_any, range_with_len}
 use Rattle.c_trim.proofs.Common.{if_found, Host, same_func_type, Name, func_type_of, LinkRefusal, NotDefined, Program, SymbolCall, Twice}
-use Rattle.c_trim.proofs.Common.{TypeDiffers, defined_for_all, external_func, external_functions, fits, func_type, host_symbol}
-use Rattle.c_trim.proofs.Common.{link_refusal, externals, made, names_kept, test_same, Renaming, AllKeepRules, among, TellsNeeded, kept}
-use Rattle.c_trim.proofs.Common.{stays}
+use Rattle.c_trim.proofs.Common.{TypeDiffers, defined_for_all, external_func, external_functions, fits, func_type, host_symbol, externals}
+use Rattle.c_trim.proofs.Common.{link_refusal, made, names_kept, test_same, Renaming, AllKeepRules, among, TellsNeeded, kept, stays}
 use Rattle.c_tree.specs.Tree as tree
 use Rattle.c_meaning.proofs.Links.{program_twice, program_unresolved, refusal_stands}
 use Rattle.c_renaming.specs.Trimming as whole

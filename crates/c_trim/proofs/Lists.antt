@@ -1,7 +1,6 @@
 -- Lists of which some elements are left out, and what holds of each element.
-use Rattle.c_trim.proofs.Common.{◌≡◌, ℕ, ◌+◌, Bool, true, false, ◌&&◌, ◌||◌, List, [], ◌∷◌, ◌++◌, map, if◌then◌else◌, None, filter, Option}
-use Rattle.c_trim.proofs.Common.{filter_map, sym, refl, ap, ◌∙◌, AllByRecursion, cons_option, list_all, list_any, option_or, both_hold}
-use Rattle.c_trim.proofs.Common.{of_each, named}
+use Rattle.c_trim.proofs.Common.{◌≡◌, ℕ, Bool, true, false, ◌||◌, List, [], ◌∷◌, ◌++◌, map, if◌then◌else◌, None, filter, Option, filter_map}
+use Rattle.c_trim.proofs.Common.{sym, refl, ap, ◌∙◌, AllByRecursion, list_all, list_any, option_or, both_hold, of_each, named, arith}
 use Rattle.std.proofs.lemmas.Bool.{and_from, or_right, or_left}
 use Rattle.name_table.proofs.Lookups.{named-append}
 
@@ -25,26 +24,12 @@ all_left {A} p keep (x ∷ xs) e =
 pub any_left : {A : Type 0} (p keep : A → Bool) → ((a : A) → p a ≡ true → keep a ≡ true) → (xs : List A) → list_any p xs ≡ true
     → list_any p (filter keep xs) ≡ true
 any_left p keep stays [] e = cc
-any_left {A} p keep stays (x ∷ xs) e = by (p x) (keep x) refl (stays x) e (any_left p keep stays xs)
-  where
-    by : (b c : Bool) → p x ≡ b → (p x ≡ true → c ≡ true) → (b || list_any p xs) ≡ true
-        → (list_any p xs ≡ true → list_any p (filter keep xs) ≡ true)
-        → list_any p (if c then x ∷ filter keep xs else filter keep xs) ≡ true
-    by true true is must e behind = or_left (p x) (list_any p (filter keep xs)) is
-    by true false is must e behind = let no : false ≡ true = must is in cc
-    by false true is must e behind = or_right (p x) (list_any p (filter keep xs)) (behind e)
-    by false false is must e behind = behind e
+any_left {A} p keep stays (x ∷ xs) e = grind (arith, keep x, any_left p keep stays xs, or_left, or_right)
 
 -- what is found in a part is found in the whole
 pub any_of_left : {A : Type 0} (p keep : A → Bool) (xs : List A) → list_any p xs ≡ false → list_any p (filter keep xs) ≡ false
 any_of_left p keep [] e = refl
-any_of_left {A} p keep (x ∷ xs) e = by (p x) (keep x) refl e (any_of_left p keep xs)
-  where
-    by : (b c : Bool) → p x ≡ b → (b || list_any p xs) ≡ false → (list_any p xs ≡ false → list_any p (filter keep xs) ≡ false)
-        → list_any p (if c then x ∷ filter keep xs else filter keep xs) ≡ false
-    by true c is e behind = cc
-    by false true is e behind = ap (λ b. b || list_any p (filter keep xs)) is ∙ behind e
-    by false false is e behind = behind e
+any_of_left {A} p keep (x ∷ xs) e = grind (arith, keep x, any_of_left p keep xs)
 
 pub any_map : {A B : Type 0} (p : B → Bool) (f : A → B) (xs : List A) → list_any p (map f xs) ≡ list_any (λ a. p (f a)) xs
 any_map p f [] = refl
@@ -54,12 +39,7 @@ any_map p f (x ∷ xs) = ap (λ b. p (f x) || b) (any_map p f xs)
 pub map_left : {A B : Type 0} (f : A → Option B) (keep : A → Bool) → ((a : A) → keep a ≡ false → f a ≡ None) → (xs : List A)
     → filter_map f (filter keep xs) ≡ filter_map f xs
 map_left f keep quiet [] = refl
-map_left {A} {B} f keep quiet (x ∷ xs) = by (keep x) refl (map_left f keep quiet xs)
-  where
-    by : (b : Bool) → keep x ≡ b → filter_map f (filter keep xs) ≡ filter_map f xs
-        → filter_map f (if b then x ∷ filter keep xs else filter keep xs) ≡ filter_map f (x ∷ xs)
-    by true is behind = ap (cons_option (f x)) behind
-    by false is behind = behind ∙ sym (ap (λ o. cons_option o (filter_map f xs)) (quiet x is))
+map_left {A} {B} f keep quiet (x ∷ xs) = grind (arith, keep x, map_left f keep quiet xs)
 
 -- each element passes what any element passes
 pub any_of_each : {A : Type 0} (xs : List A) → AllByRecursion (λ (a : A). (test : A → Bool) → test a ≡ true → list_any test xs ≡ true) xs

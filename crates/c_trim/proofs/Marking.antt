@@ -1,5 +1,5 @@
 -- What reaching functions by their names comes to, name by name.
-use Rattle.c_trim.proofs.Common.{◌≡◌, ℕ, zero, suc, ◌+◌, ◌<◌, ◌≤◌, Bool, true, false, List, [], ◌∷◌, ◌++◌, map, length, get_or, take, drop}
+use Rattle.c_trim.proofs.Common.{◌≡◌, ℕ, zero, suc, ◌+◌, ◌<◌, ◌≤◌, Bool, List, [], ◌∷◌, ◌++◌, map, length, get_or, take, drop}
 use Rattle.c_trim.proofs.Common.{if◌then◌else◌, Some, None, flat_map, sym, refl, ap, ◌∙◌, arith, position_from, option_or, named, Name}
 use Rattle.c_trim.proofs.Common.{Reached, with_item, with_names}
 use Rattle.c_tree.proofs.Tested.{at_front}
@@ -25,16 +25,7 @@ one_reached table names f xs i item old new whole less is reached before =
 pub position_push : {A : Type 0} (test : A → Bool) (k : ℕ) (xs : List A) (x : A)
     → position_from test k (xs ++ x ∷ []) ≡ option_or (position_from test k xs) (if test x then Some (k + length xs) else None)
 position_push test k [] x = let e : k ≡ k + 0 = omega arith in ap (λ n. if test x then Some n else None) e
-position_push {A} test k (y ∷ xs) x = by (test y) (position_push test (k + 1) xs x)
-  where
-    by : (b : Bool) → position_from test (k + 1) (xs ++ x ∷ [])
-        ≡ option_or (position_from test (k + 1) xs) (if test x then Some (k + 1 + length xs) else None)
-        → (if b then Some k else position_from test (k + 1) (xs ++ x ∷ []))
-        ≡ option_or (if b then Some k else position_from test (k + 1) xs) (if test x then Some (k + suc (length xs)) else None)
-    by true behind = refl
-    by false behind =
-        let e : k + 1 + length xs ≡ k + suc (length xs) = omega arith in
-        behind ∙ ap (λ n. option_or (position_from test (k + 1) xs) (if test x then Some n else None)) e
+position_push {A} test k (y ∷ xs) x = grind (arith, test y, position_push test (k + 1) xs x, test x)
 
 pub length_take : {A : Type 0} (xs : List A) (i : ℕ) → i ≤ length xs → length (take i xs) ≡ i
 length_take xs zero le = refl

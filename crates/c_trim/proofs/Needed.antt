@@ -1,8 +1,7 @@
 -- What is needed in a unit: what stays of the unit names that alone, and it is needed in what stays too.
-use Rattle.c_trim.proofs.Common.{◌≡◌, Bool, true, false, not, ◌&&◌, ◌||◌, List, [], ◌∷◌, if◌then◌else◌, filter, bytes_eq, sym, refl, ap}
-use Rattle.c_trim.proofs.Common.{◌∙◌, subst, bytes_eq-Decides, AllByRecursion, list_any, both_hold, of_each, same_tests, KeepsRules, Name}
-use Rattle.c_trim.proofs.Common.{is_among, name_of, IsNeeded, IsTrimmed, TellsNeeded, is_external, item_functions, kept, leads, names}
-use Rattle.c_trim.proofs.Common.{stays, all_filtered}
+use Rattle.c_trim.proofs.Common.{◌≡◌, Bool, true, false, not, ◌&&◌, ◌||◌, List, [], ◌∷◌, filter, bytes_eq, sym, refl, ap, ◌∙◌, subst, Name}
+use Rattle.c_trim.proofs.Common.{bytes_eq-Decides, AllByRecursion, list_any, both_hold, of_each, KeepsRules, is_among, name_of, IsNeeded}
+use Rattle.c_trim.proofs.Common.{IsTrimmed, TellsNeeded, is_external, item_functions, kept, leads, names, stays, all_filtered, arith}
 use Rattle.std.proofs.lemmas.Bool.{and_from, or_right}
 use Rattle.c_tree.specs.Tree as tree
 use Rattle.c_tree.specs.Spelled.{Formed, FitsItem, depth_limit}
@@ -74,12 +73,7 @@ module _ (unit : List tree.Item) (needed : Name → Bool) (tells : TellsNeeded u
 -- what passes a test passes a weaker one
 filter_again : {A : Type 0} (p q : A → Bool) → ((a : A) → p a ≡ true → q a ≡ true) → (xs : List A) → filter q (filter p xs) ≡ filter p xs
 filter_again p q go [] = refl
-filter_again {A} p q go (x ∷ xs) = by (p x) refl (filter_again p q go xs)
-  where
-    by : (b : Bool) → p x ≡ b → filter q (filter p xs) ≡ filter p xs
-        → filter q (if b then x ∷ filter p xs else filter p xs) ≡ (if b then x ∷ filter p xs else filter p xs)
-    by true is behind = ap (λ b. if b then x ∷ filter q (filter p xs) else filter q (filter p xs)) (go x is) ∙ ap (λ l. x ∷ l) behind
-    by false is behind = behind
+filter_again {A} p q go (x ∷ xs) = grind (arith, filter_again p q go xs)
 
 -- what stays when it is trimmed again
 pub trimmed_again : (unit once twice : List tree.Item) → IsTrimmed unit once → IsTrimmed once twice → twice ≡ once
@@ -101,19 +95,7 @@ trimmed_again unit once twice first second =
 
 -- a unit is trimmed in one way
 pub one_trimmed : (unit one other : List tree.Item) → IsTrimmed unit one → IsTrimmed unit other → one ≡ other
-one_trimmed unit one other left right = left.is ∙ same unit ∙ sym right.is
-  where
-    same_test : (x : Name) → left.needed x ≡ right.needed x
-    same_test x = same_tests (left.needed x) (right.needed x)
-        (λ is. (right.tells x).1 ((left.tells x).0 is)) (λ is. (left.tells x).1 ((right.tells x).0 is))
-
-    same_stays : (item : tree.Item) → stays left.needed item ≡ stays right.needed item
-    same_stays (tree.Function f) = ap (λ b. not f.is_static || b) (same_test f.name)
-    same_stays _ = refl
-
-    same : (items : List tree.Item) → kept left.needed items ≡ kept right.needed items
-    same [] = refl
-    same (item ∷ items) = λ i. if same_stays item i then item ∷ same items i else same items i
+one_trimmed unit one other left right = grind arith
 
 pub trimmed_formed : (unit trimmed : List tree.Item) → IsTrimmed unit trimmed → Formed unit → Formed trimmed
 trimmed_formed unit trimmed is formed =

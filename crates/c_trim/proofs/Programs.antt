@@ -1,9 +1,8 @@
 -- A unit among others, trimmed, makes a program from which functions are left out that no text uses.
 use Rattle.c_trim.proofs.Common.{◌≡◌, ℕ, ◌+◌, ◌<◌, Bool, true, false, not, ◌&&◌, ◌||◌, ◌≢◌, List, [], ◌∷◌, ◌++◌, map, length, is_some}
-use Rattle.c_trim.proofs.Common.{if◌then◌else◌, ◌==◌, slice_get, Some, None, Option, option_map, zip, filter_map, sym, refl, ap, ◌∙◌, subst}
-use Rattle.c_trim.proofs.Common.{arith, eq-eqb, eqb-true, AllByRecursion, cons_option, range_with_len, both_hold, of_each, by_test, Host}
-use Rattle.c_trim.proofs.Common.{Name, Program, trimmed_renames, KeptItem, item_stays, Renaming, AllKeepRules, among, TellsNeeded}
-use Rattle.c_trim.proofs.Common.{body_functions, kept, stays}
+use Rattle.c_trim.proofs.Common.{if◌then◌else◌, ◌==◌, slice_get, Some, zip, filter_map, sym, refl, ap, ◌∙◌, subst, arith, eq-eqb, eqb-true}
+use Rattle.c_trim.proofs.Common.{AllByRecursion, range_with_len, both_hold, of_each, by_test, Host, Name, Program, trimmed_renames}
+use Rattle.c_trim.proofs.Common.{KeptItem, item_stays, Renaming, AllKeepRules, among, TellsNeeded, body_functions, kept, stays}
 use Rattle.std.proofs.lemmas.Bool.{and_from, or_right, or_left}
 use Rattle.c_tree.specs.Tree as tree
 use Rattle.c_tree.specs.Rules as rule
@@ -27,17 +26,7 @@ name_stays needed x = rule.is_symbol x || needed x
 -- by names and by items the same is kept
 pub same_stays : (needed : Name → Bool) (item : tree.Item) → rule.file_name_is_free item ≡ true
     → item_stays (name_stays needed) item ≡ stays needed item
-same_stays needed (tree.Function f) free = by f.is_static free
-  where
-    own : (b c : Bool) → (not b && not c) ≡ true → c ≡ false
-    own true c e = cc
-    own false true e = cc
-    own false false e = refl
-
-    by : (b : Bool) → (if b then rule.is_own_name f.name else rule.is_symbol f.name) ≡ true
-        → (rule.is_symbol f.name || needed f.name) ≡ (not b || needed f.name)
-    by true e = ap (λ b. b || needed f.name) (own (rule.is_runtime_name f.name) (rule.is_symbol f.name) e)
-    by false e = ap (λ b. b || needed f.name) e
+same_stays needed (tree.Function f) free = grind (arith, rule.is_runtime_name f.name, rule.is_symbol f.name)
 same_stays needed _ free = refl
 
 same_left : (needed : Name → Bool) (items : List tree.Item) → AreNamed items → whole.left (name_stays needed) items ≡ kept needed items
@@ -70,11 +59,7 @@ module _ (before after : List (List tree.Item)) (hosts : List Host) (unit : List
   ρ = whole.trimming p used stay
 
   symbol_stays : (u : ℕ) (x : Name) → rule.is_symbol x ≡ true → stay u x ≡ true
-  symbol_stays u x is = by (u == k)
-    where
-      by : (b : Bool) → (if b then name_stays needed x else true) ≡ true
-      by true = ap (λ b. b || needed x) is
-      by false = refl
+  symbol_stays u x is = grind arith
 
   -- ---- the other units, and this one
 
@@ -144,32 +129,10 @@ module _ (before after : List (List tree.Item)) (hosts : List Host) (unit : List
   externals u j [] free = tt
   externals u j (tree.Array name count bytes ∷ items) free = externals u (j + 1) items free.1
   externals u j (tree.Var ty name number ∷ items) free = externals u (j + 1) items free.1
-  externals u j (tree.Function f ∷ items) free = by f.body (externals u (j + 1) items free.1)
-    where
-      symbol : (b : Bool) → (if b then rule.is_own_name f.name else rule.is_symbol f.name) ≡ true → not b ≡ true
-          → rule.is_symbol f.name ≡ true
-      symbol true e external = cc
-      symbol false e external = e
-
-      by : (o : Option tree.Body) → text.Each (λ (d : Definition). is_external d ≡ true → stay u d.func.name
-          ≡ true) (definitions_from (j + 1) items)
-          → text.Each (λ (d : Definition). is_external d ≡ true → stay u d.func.name ≡ true)
-          (cons_option (option_map (λ body. record { item = j; func = f; body = body }) o) (definitions_from (j + 1) items))
-      by None behind = behind
-      by (Some b) behind = (λ external. symbol_stays u f.name (symbol f.is_static free.0 external), behind)
+  externals u j (tree.Function f ∷ items) free = grind (arith, externals u (j + 1) items free.1, symbol_stays)
 
   is_used : (u : ℕ) (x : Name) → used u x ≡ true → whole.IsUsed p stay u x
-  is_used u x e = by (definition_at p u x) refl (both_hold (is_some (slice_get p.units u)) _ e)
-    where
-      by : (o : Option Definition) → definition_at p u x ≡ o → (is_some (slice_get p.units u) ≡ true) × ((stay u x || not (is_some o))
-          ≡ true)
-          → whole.IsUsed p stay u x
-      by None is two = whole.Foreign two.0 is
-      by (Some d) is two = whole.Own (either (stay u x) two.1) (ap is_some is)
-        where
-          either : (b : Bool) → (b || false) ≡ true → b ≡ true
-          either true e = refl
-          either false e = e
+  is_used u x e = search (arith, both_hold)
 
   pub may : whole.MayTrim p used stay
   may = record {
@@ -209,8 +172,7 @@ module _ (before after : List (List tree.Item)) (hosts : List Host) (unit : List
   pub trimmed_is : whole.trimmed p stay ≡ among before (kept needed unit) after hosts
   trimmed_is = ap (λ (units : List (List tree.Item)). record {
     units = units;
-    hosts =
-        hosts;
+    hosts = hosts;
   }) (front_left 0 before (let e : 0 + length before ≡ length before = omega arith in e))
 
   pub renames : Renames ρ p (whole.trimmed p stay)

@@ -1,8 +1,8 @@
 -- A unit keeps the rules where each of its items and statements does.
-use Rattle.c_trim.proofs.Common.{◌≡◌, ℕ, ◌+◌, Bool, true, false, not, List, [], ◌∷◌, ◌++◌, map, length, take, if◌then◌else◌, slice_get}
-use Rattle.c_trim.proofs.Common.{Some, None, filter, Option, zip, flat_map, sym, refl, ap, ◌∙◌, subst, append_assoc, length_push}
-use Rattle.c_trim.proofs.Common.{AllByRecursion, range_with_len, ⊤, numbered, BrokenAt, KeepsRules, broken_in_body, broken_in_item}
-use Rattle.c_trim.proofs.Common.{broken_in_stmt, broken_of, broken_rules, Place, StmtPlace, item_rules, stmt_rules, Scope}
+use Rattle.c_trim.proofs.Common.{◌≡◌, ℕ, ◌+◌, Bool, true, not, List, [], ◌∷◌, ◌++◌, map, length, take, if◌then◌else◌, slice_get, Some, None}
+use Rattle.c_trim.proofs.Common.{filter, Option, zip, flat_map, sym, refl, ap, ◌∙◌, subst, append_assoc, length_push, AllByRecursion}
+use Rattle.c_trim.proofs.Common.{range_with_len, ⊤, numbered, BrokenAt, KeepsRules, broken_in_body, broken_in_item, broken_in_stmt}
+use Rattle.c_trim.proofs.Common.{broken_of, broken_rules, Place, StmtPlace, item_rules, stmt_rules, Scope, arith}
 use Rattle.c_tree.specs.Tree as tree
 use Rattle.w2c_base.proofs.Nothing.{append_none, map_none, none_first}
 
@@ -17,11 +17,7 @@ module _ {P : Type 0} (p : P) where
 
   each_holds : (rules : List (ℕ × (P → Bool))) → broken_of rules p ≡ [] → Hold rules p
   each_holds [] e = tt
-  each_holds (rule ∷ rules) e = by (rule.1 p) refl e (each_holds rules)
-    where
-      by : (b : Bool) → rule.1 p ≡ b → numbers b rule rules ≡ [] → (broken_of rules p ≡ [] → Hold rules p) → Hold (rule ∷ rules) p
-      by true is none behind = (is, behind none)
-      by false is none behind = cc
+  each_holds (rule ∷ rules) e = grind (arith, rule.1 p, each_holds rules)
 
   none_breaks : (rules : List (ℕ × (P → Bool))) → Hold rules p → broken_of rules p ≡ []
   none_breaks [] hold = refl
@@ -85,19 +81,11 @@ in_body unit k f body = elim body as (λ _. List BrokenAt) [
 ]
 
 text_holds : (unit : List tree.Item) (k : ℕ) (x : tree.Item) → broken_in_body unit k x ≡ [] → TextHolds unit k x
-text_holds unit k (tree.Function f) e = by f.body e
-  where
-    by : (o : Option tree.Body) → in_body unit k f o ≡ [] → BodyHolds unit k f o
-    by None e = tt
-    by (Some b) e = stmts_hold (scope_at unit k f b) k 0 b.stmts e
+text_holds unit k (tree.Function f) e = grind (arith, stmts_hold)
 text_holds unit k _ e = tt
 
 none_in_text : (unit : List tree.Item) (k : ℕ) (x : tree.Item) → TextHolds unit k x → broken_in_body unit k x ≡ []
-none_in_text unit k (tree.Function f) hold = by f.body hold
-  where
-    by : (o : Option tree.Body) → BodyHolds unit k f o → in_body unit k f o ≡ []
-    by None hold = refl
-    by (Some b) hold = none_in_stmts (scope_at unit k f b) k 0 b.stmts hold
+none_in_text unit k (tree.Function f) hold = grind (arith, none_in_stmts)
 none_in_text unit k _ hold = refl
 
 abbrev in_items : List tree.Item → ℕ → List tree.Item → List BrokenAt

@@ -1,9 +1,9 @@
 -- Rules of a statement in two scopes that differ in functions alone which the statement does not name.
 use Rattle.c_trim.proofs.Common.{◌≡◌, ℕ, ◌+◌, Bool, true, false, not, ◌&&◌, ◌||◌, List, [], ◌∷◌, ◌++◌, map, is_some, Some, None, codes}
-use Rattle.c_trim.proofs.Common.{Option, flat_map, filter_map, sym, refl, ap, ◌∙◌, list_all-append, AllByRecursion, list_all, all_split}
-use Rattle.c_trim.proofs.Common.{if_found, named, primitives, same_type, Name, Scope, arrays, file_functions, functions, is_among}
-use Rattle.c_trim.proofs.Common.{is_comparison, is_object_type, pointed_by, pointer_to, type_of, typing_of, variables, CType, arg_functions}
-use Rattle.c_trim.proofs.Common.{callee_functions, stmt_functions}
+use Rattle.c_trim.proofs.Common.{Option, flat_map, filter_map, refl, ap, ◌∙◌, AllByRecursion, list_all, all_split, if_found, named}
+use Rattle.c_trim.proofs.Common.{primitives, same_type, Name, Scope, file_functions, functions, is_among, is_comparison}
+use Rattle.c_trim.proofs.Common.{is_object_type, pointed_by, pointer_to, type_of, typing_of, variables, CType, arg_functions}
+use Rattle.c_trim.proofs.Common.{callee_functions, functions_of, stmt_functions}
 use Rattle.c_tree.specs.declared.tree.CType.TheVariants as type
 use Rattle.c_tree.specs.Tree as tree
 use Rattle.c_tree.specs.Scope as scope
@@ -13,6 +13,14 @@ use Rattle.c_trim.proofs.Lists.{named_in_front}
 
 abbrev pub Each : (Name → Bool) → List Name → Type 0
 Each needed xs = AllByRecursion (λ (x : Name). needed x ≡ true) xs
+
+both_named : (needed : Name → Bool) (uses others : List rule.Use) → Each needed (functions_of (uses ++ others))
+    → Each needed (functions_of uses) × Each needed (functions_of others)
+both_named needed [] others all = (tt, all)
+both_named needed (rule.AsVariable x ∷ uses) others all = both_named needed uses others all
+both_named needed (rule.AsArray x ∷ uses) others all = both_named needed uses others all
+both_named needed (rule.AsFunction x ∷ uses) others all =
+    let two = both_named needed uses others all.1 in ((all.0, two.0), two.1)
 
 -- what is declared, but for functions of other names
 pub record AgreeOn (needed : Name → Bool) (old new : List tree.Item) : Type 0 where
@@ -53,12 +61,6 @@ module _ (needed : Name → Bool) (old new : List tree.Item) (agree : AgreeOn ne
 
   -- ---- rule 8: names are known
 
-  all_append : (uses others : List rule.Use) → list_all (rule.is_known s') uses ≡ list_all (rule.is_known s) uses
-      → list_all (rule.is_known s') others ≡ list_all (rule.is_known s) others
-      → list_all (rule.is_known s') (uses ++ others) ≡ list_all (rule.is_known s) (uses ++ others)
-  all_append uses others left right =
-      list_all-append (rule.is_known s') uses others ∙ (λ i. left i && right i) ∙ sym (list_all-append (rule.is_known s) uses others)
-
   known_variable : (x : Name) → rule.is_known s' (rule.AsVariable x) ≡ rule.is_known s (rule.AsVariable x)
   known_variable x = ap is_some (type_named x)
 
@@ -74,50 +76,11 @@ module _ (needed : Name → Bool) (old new : List tree.Item) (agree : AgreeOn ne
   abbrev known' : List rule.Use → Bool
   known' uses = list_all (rule.is_known s') uses
 
-  known_one : (one : rule.Use) (uses : List rule.Use) → rule.is_known s' one ≡ rule.is_known s one → known' uses ≡ known uses
-      → known' (one ∷ uses) ≡ known (one ∷ uses)
-  known_one one uses first rest = λ i. first i && rest i
-
-  known_expr : (e : tree.Expr) → known' (rule.expr_uses e) ≡ known (rule.expr_uses e)
-  known_expr (tree.Name x) = known_one (rule.AsVariable x) [] (known_variable x) refl
-  known_expr (tree.At x e) = known_one (rule.AsArray x) (rule.expr_uses e) (known_array x) (known_expr e)
-  known_expr (tree.Number number) = refl
-  known_expr (tree.To32 e) = known_expr e
-  known_expr (tree.To64 e) = known_expr e
-  known_expr (tree.Star x) = known_one (rule.AsVariable x) [] (known_variable x) refl
-  known_expr (tree.Op op left right) = all_append (rule.expr_uses left) (rule.expr_uses right) (known_expr left) (known_expr right)
-
-  known_arg : (a : tree.Arg) → Each needed (arg_functions a) → known' (rule.arg_uses a) ≡ known (rule.arg_uses a)
-  known_arg (tree.Value e) all = known_expr e
-  known_arg (tree.Address x) all = known_one (rule.AsVariable x) [] (known_variable x) refl
-  known_arg (tree.OfFunction x) all = known_one (rule.AsFunction x) [] (known_function x all.0) refl
-
-  known_args : (args : List tree.Arg) → Each needed (flat_map arg_functions args) → known' (flat_map rule.arg_uses args)
-      ≡ known (flat_map rule.arg_uses args)
-  known_args [] all = refl
-  known_args (a ∷ args) all =
-      let two = all_split (λ (x : Name). needed x ≡ true) (arg_functions a) (flat_map arg_functions args) all in
-      all_append (rule.arg_uses a) (flat_map rule.arg_uses args) (known_arg a two.0) (known_args args two.1)
-
-  known_callee : (f : tree.Callee) → Each needed (callee_functions f) → known' (rule.callee_uses f) ≡ known (rule.callee_uses f)
-  known_callee (tree.Called x) all = known_one (rule.AsFunction x) [] (known_function x all.0) refl
-  known_callee (tree.Through ty x) all = known_one (rule.AsVariable x) [] (known_variable x) refl
-
-  known_target : (o : Option Name) → known' (rule.target_uses o) ≡ known (rule.target_uses o)
-  known_target None = refl
-  known_target (Some x) = known_one (rule.AsVariable x) [] (known_variable x) refl
-
-  known_stmt : (stmt : tree.Stmt) → Each needed (stmt_functions stmt) → known' (rule.stmt_uses stmt) ≡ known (rule.stmt_uses stmt)
-  known_stmt (tree.Set x a) all = known_one (rule.AsVariable x) (rule.arg_uses a) (known_variable x) (known_arg a all)
-  known_stmt (tree.SetStar x e) all = known_one (rule.AsVariable x) (rule.expr_uses e) (known_variable x) (known_expr e)
-  known_stmt (tree.Call target f args) all =
-      let two = all_split (λ (x : Name). needed x ≡ true) (callee_functions f) (flat_map arg_functions args) all in
-      all_append (rule.target_uses target) (rule.callee_uses f ++ flat_map rule.arg_uses args) (known_target target)
-      (all_append (rule.callee_uses f) (flat_map rule.arg_uses args) (known_callee f two.0) (known_args args two.1))
-  known_stmt (tree.If op left right x) all = all_append (rule.expr_uses left) (rule.expr_uses right) (known_expr left) (known_expr right)
-  known_stmt (tree.Switch e cases x) all = known_expr e
-  known_stmt (tree.Return a) all = known_arg a all
-  known_stmt _ all = refl
+  known_uses : (uses : List rule.Use) → Each needed (functions_of uses) → known' uses ≡ known uses
+  known_uses [] all = refl
+  known_uses (rule.AsVariable x ∷ uses) all = λ i. known_variable x i && known_uses uses all i
+  known_uses (rule.AsArray x ∷ uses) all = λ i. known_array x i && known_uses uses all i
+  known_uses (rule.AsFunction x ∷ uses) all = λ i. known_function x all.0 i && known_uses uses all.1 i
 
   -- ---- rule 9: expressions have types
 
@@ -165,13 +128,13 @@ module _ (needed : Name → Bool) (old new : List tree.Item) (agree : AgreeOn ne
       (ap (λ vs. if_found (named x vs) pointer_to) agree.variables)
   same_suit t (tree.OfFunction x) all = ap (λ o. is_some o && same_type t type.FnPtr) (agree.functions x all.0)
 
-  same_suits : (types : List CType) (args : List tree.Arg) → Each needed (flat_map arg_functions args) → rule.args_suit s' types args
-      ≡ rule.args_suit s types args
+  same_suits : (types : List CType) (args : List tree.Arg) → Each needed (functions_of (flat_map rule.arg_uses args))
+      → rule.args_suit s' types args ≡ rule.args_suit s types args
   same_suits [] [] all = refl
   same_suits [] (a ∷ args) all = refl
   same_suits (t ∷ types) [] all = refl
   same_suits (t ∷ types) (a ∷ args) all =
-      let two = all_split (λ (x : Name). needed x ≡ true) (arg_functions a) (flat_map arg_functions args) all in
+      let two = both_named needed (rule.arg_uses a) (flat_map rule.arg_uses args) all in
       λ i. same_suit t a two.0 i && same_suits types args two.1 i
 
   same_callee : (f : tree.Callee) → Each needed (callee_functions f) → rule.callee_type s' f ≡ rule.callee_type s f
@@ -182,7 +145,8 @@ module _ (needed : Name → Bool) (old new : List tree.Item) (agree : AgreeOn ne
   same_target_suits result None = refl
   same_target_suits result (Some x) = ap (λ o. not (rule.is_void result) && rule.has_same_type o result) (type_named x)
 
-  same_call : (target : Option Name) (args : List tree.Arg) → Each needed (flat_map arg_functions args) → (o : Option tree.FuncType)
+  same_call : (target : Option Name) (args : List tree.Arg) → Each needed (functions_of (flat_map rule.arg_uses args))
+      → (o : Option tree.FuncType)
       → rule.if_any o (rule.call_suits s' target args) ≡ rule.if_any o (rule.call_suits s target args)
   same_call target args all None = refl
   same_call target args all (Some ty) = λ i. same_suits (rule.proper_types ty.params) args all i && same_target_suits ty.result target i
@@ -197,7 +161,9 @@ module _ (needed : Name → Bool) (old new : List tree.Item) (agree : AgreeOn ne
       ∙ same_set a all (named x (variables s))
   same_stmt_suits (tree.SetStar x e) all = λ i. rule.if_any (if_found (type_named x i) pointed_by) (rule.has_same_type (same_type_of e i))
   same_stmt_suits (tree.Call target f args) all =
-      let two = all_split (λ (x : Name). needed x ≡ true) (callee_functions f) (flat_map arg_functions args) all in
+      let behind : List rule.Use = rule.callee_uses f ++ flat_map rule.arg_uses args in
+      let rest = (both_named needed (rule.target_uses target) behind all).1 in
+      let two = both_named needed (rule.callee_uses f) (flat_map rule.arg_uses args) rest in
       ap (λ o. rule.if_any o (rule.call_suits s' target args)) (same_callee f two.0) ∙ same_call target args two.1 (rule.callee_type s f)
   same_stmt_suits (tree.Return a) all = ap (λ b. not (rule.is_void func.result) && b) (same_suit func.result a all)
   same_stmt_suits _ all = refl
@@ -217,10 +183,10 @@ module _ (needed : Name → Bool) (old new : List tree.Item) (agree : AgreeOn ne
       let cases : Hold ((11, rule.cases_are_distinct) ∷ (12, rule.last_ends_body) ∷ []) (stmt_at s' k stmt) =
       (same_cases k stmt ∙ hold.1.1.1.1.1.1.0, hold.1.1.1.1.1.1.1) in
       let types : Hold ((10, rule.types_agree) ∷ (11, rule.cases_are_distinct) ∷ (12, rule.last_ends_body) ∷ []) (stmt_at s' k stmt) =
-      ((λ i. not (known_stmt stmt all i) || same_stmt_suits stmt all i) ∙ hold.1.1.1.1.1.0, cases) in
+      ((λ i. not (known_uses (rule.stmt_uses stmt) all i) || same_stmt_suits stmt all i) ∙ hold.1.1.1.1.1.0, cases) in
       let typed : rule.expressions_are_typed (stmt_at s' k stmt) ≡ true =
-      (λ i. not (known_stmt stmt all i) || same_typed stmt i) ∙ hold.1.1.1.1.0 in
-      (hold.0, (hold.1.0, (hold.1.1.0, (known_stmt stmt all ∙ hold.1.1.1.0, (typed, types)))))
+      (λ i. not (known_uses (rule.stmt_uses stmt) all i) || same_typed stmt i) ∙ hold.1.1.1.1.0 in
+      (hold.0, (hold.1.0, (hold.1.1.0, (known_uses (rule.stmt_uses stmt) all ∙ hold.1.1.1.0, (typed, types)))))
 
   pub stmts_hold : (k : ℕ) (stmts : List tree.Stmt) → Each needed (flat_map stmt_functions stmts) → StmtsHold s k stmts
       → StmtsHold s' k stmts

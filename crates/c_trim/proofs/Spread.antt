@@ -34,11 +34,7 @@ set_here (b ∷ flags) (suc j) less = set_here flags j (omega arith)
 set_only : (flags : List Bool) (j m : ℕ) → flag (slice_set flags j true) m ≡ true → (flag flags m ≡ true) ⊎ (j ≡ m)
 set_only [] j m e = cc
 set_only (b ∷ flags) zero zero e = inr refl
-set_only (b ∷ flags) (suc j) (suc m) e = by (set_only flags j m e)
-  where
-    by : (flag flags m ≡ true) ⊎ (j ≡ m) → (flag flags m ≡ true) ⊎ (suc j ≡ suc m)
-    by (inl is) = inl is
-    by (inr is) = inr (ap suc is)
+set_only (b ∷ flags) (suc j) (suc m) e = grind (arith, set_only flags j m e)
 set_only _ _ _ e = inl e
 
 -- what is told false is there
@@ -90,11 +86,7 @@ pub record Grows (r r' : Reached) : Type 0 where
 
 grows_item : (o : Option ℕ) (r : Reached) → Grows r (with_item o r)
 grows_item None r = record { long = refl; flags = λ j e. e; more = []; order = sym (append-nil r.1) }
-grows_item (Some j) r = by (slice_index_or r.0 j true)
-  where
-    by : (b : Bool) → Grows r (if b then r else (slice_set r.0 j true, r.1 ++ j ∷ []))
-    by true = record { long = refl; flags = λ m e. e; more = []; order = sym (append-nil r.1) }
-    by false = record { long = set_long r.0 j; flags = λ m e. set_grows r.0 j m e; more = j ∷ []; order = refl }
+grows_item (Some j) r = grind (arith, append-nil r.1, set_long r.0 j, set_grows)
 
 grows_both : (r s t : Reached) → Grows r s → Grows s t → Grows r t
 grows_both r s t one two = record {
@@ -120,15 +112,7 @@ one_more (y ∷ xs) x = ap suc (one_more xs x)
 
 cost_item : (o : Option ℕ) (r : Reached) → cost (with_item o r) ≡ cost r
 cost_item None r = refl
-cost_item (Some j) r = by (slice_index_or r.0 j true) refl
-  where
-    by : (b : Bool) → slice_index_or r.0 j true ≡ b → cost (if b then r else (slice_set r.0 j true, r.1 ++ j ∷ [])) ≡ cost r
-    by true is = refl
-    by false is =
-        let less = fewer r.0 j is in
-        let more = one_more r.1 j in
-        let same : unreached (slice_set r.0 j true) + length (r.1 ++ j ∷ []) ≡ unreached r.0 + length r.1 = omega (arith, less, more) in
-        same
+cost_item (Some j) r = grind (arith, one_more r.1 j, fewer)
 
 pub cost_names : (table : List (Name × ℕ)) (names : List Name) (r : Reached) → cost (with_names table names r) ≡ cost r
 cost_names table [] r = refl
@@ -139,38 +123,11 @@ cost_names table (x ∷ names) r = cost_names table names (with_item (named x ta
 module _ (unit : List tree.Item) where
   reached_item : (j : ℕ) (r : Reached) → AreReached unit r → ((item : tree.Item) → slice_get unit j ≡ Some item → IsWanted unit item)
       → AreReached unit (with_item (Some j) r)
-  reached_item j r old want = by (slice_index_or r.0 j true) refl
-    where
-      new : Reached
-      new = (slice_set r.0 j true, r.1 ++ j ∷ [])
-
-      order : (m : ℕ) → (flag r.0 m ≡ true) ⊎ (j ≡ m) → is_in m (r.1 ++ j ∷ []) ≡ true
-      order m (inl is) = in_front m r.1 (j ∷ []) (old.ordered m is)
-      order m (inr is) = subst (λ n. is_in n (r.1 ++ j ∷ []) ≡ true) is (at_end j r.1)
-
-      flags : j < length r.0 → (m : ℕ) → (is_in m r.1 ≡ true) ⊎ (j ≡ m) → flag (slice_set r.0 j true) m ≡ true
-      flags less m (inl is) = set_grows r.0 j m (old.flagged m is)
-      flags less m (inr is) = subst (λ n. flag (slice_set r.0 j true) n ≡ true) is (set_here r.0 j less)
-
-      reason : (m : ℕ) (item : tree.Item) → (is_in m r.1 ≡ true) ⊎ (j ≡ m) → slice_get unit m ≡ Some item → IsWanted unit item
-      reason m item (inl is) there = old.wanted m item is there
-      reason m item (inr is) there = want item (subst (λ n. slice_get unit n ≡ Some item) (sym is) there)
-
-      by : (b : Bool) → slice_index_or r.0 j true ≡ b → AreReached unit (if b then r else (slice_set r.0 j true, r.1 ++ j ∷ []))
-      by true is = old
-      by false is = record {
-        long = set_long r.0 j ∙ old.long;
-        ordered = λ m e. order m (set_only r.0 j m e);
-        flagged = λ m e. flags (there_if_false r.0 j is) m (in_either m j r.1 e);
-        wanted = λ m item e. reason m item (in_either m j r.1 e);
-      }
+  reached_item j r old want =
+      search (arith, at_end j r.1, set_long r.0 j, in_front, set_grows, set_here, set_only, there_if_false, in_either)
 
   item_flag : (m : ℕ) (r : Reached) → m < length r.0 → flag (with_item (Some m) r).0 m ≡ true
-  item_flag m r less = by (slice_index_or r.0 m true) refl
-    where
-      by : (b : Bool) → slice_index_or r.0 m true ≡ b → flag (if b then r else (slice_set r.0 m true, r.1 ++ m ∷ [])).0 m ≡ true
-      by true is = true_both r.0 m less is
-      by false is = set_here r.0 m less
+  item_flag m r less = grind (arith, set_here r.0 m less, true_both)
 
   -- the item that defines a function
   pub record Defined (x : Name) (m : ℕ) : Type 0 where
@@ -207,19 +164,10 @@ module _ (unit : List tree.Item) where
     names_flagged : (names : List Name) (r : Reached) (x : Name) (m : ℕ) → is_among x names ≡ true → named x table ≡ Some m → m < length r.0
         → flag (with_names table names r).0 m ≡ true
     names_flagged [] r x m among is less = cc
-    names_flagged (y ∷ names) r x m among is less = by (bytes_eq x y) refl among (names_flagged names (with_item (named y table) r) x m)
-      where
-        by : (b : Bool) → bytes_eq x y ≡ b → (b || is_among x names) ≡ true
-            → (is_among x names ≡ true → named x table ≡ Some m → m < length (with_item (named y table) r).0
-            → flag (with_names table names (with_item (named y table) r)).0 m ≡ true)
-            → flag (with_names table names (with_item (named y table) r)).0 m ≡ true
-        by true same among behind =
-            let at : named y table ≡ Some m = ap (λ n. named n table) (sym ((bytes_eq-Decides x y).0 same)) ∙ is in
-            (grows table names (with_item (named y table) r)).flags m
-            (ap (λ o. flag (with_item o r).0 m) at ∙ item_flag m r less)
-        by false same among behind =
-            let long = (grows_item (named y table) r).long in
-            behind among is (subst (λ n. m < n) (sym long) less)
+    names_flagged (y ∷ names) r x m among is less =
+        let new = with_item (named y table) r in
+        let longer = grows_item (named y table) r in
+        grind (arith, names_flagged names new x m, bytes_eq-Decides x y, grows table names new, item_flag m r less, longer)
 
     -- ---- an item is followed
 
@@ -291,38 +239,9 @@ module _ (unit : List tree.Item) where
 pub begin_next : (unit : List tree.Item) (i : ℕ) (item : tree.Item) (r r' : Reached) → slice_get unit i ≡ Some item
     → r' ≡ (if begins item then with_item (Some i) r else r) → AreReached unit r → BegunTo unit i r
     → AreReached unit r' × BegunTo unit (i + 1) r'
-begin_next unit i item r r' there is old begun = by (begins item) refl is
-  where
-    before : (j : ℕ) → (s : Reached) → Grows r s → (other : tree.Item) → slice_get unit j ≡ Some other → begins other ≡ true → (j < i)
-        → flag s.0 j ≡ true
-    before j s g other at starts less = g.flags j (begun j other less at starts)
-
-    either : (j : ℕ) → j < i + 1 → (j < i) ⊎ (j ≡ i)
-    either j less = grind arith
-
-    by : (b : Bool) → begins item ≡ b → r' ≡ (if b then with_item (Some i) r else r) → AreReached unit r' × BegunTo unit (i + 1) r'
-    by true starts new =
-        let want : (other : tree.Item) → slice_get unit i ≡ Some other → IsWanted unit other =
-        λ other at. inl (ap is_external (sym (same_Some item other (sym there ∙ at)))
-        ∙ (both_hold (is_external item) (has_body item) starts).0) in
-        let g : Grows r r' = subst (Grows r) (sym new) (grows_item (Some i) r) in
-        let less : i < length r.0 = subst (λ n. i < n) (sym old.long) (slice_get_within unit i item there) in (
-          rw new (reached_item unit i r old want),
-          λ j other short at begun_here. go g less j other at begun_here (either j short),
-        )
-      where
-        go : Grows r r' → i < length r.0 → (j : ℕ) (other : tree.Item) → slice_get unit j ≡ Some other → begins other ≡ true
-            → (j < i) ⊎ (j ≡ i) → flag r'.0 j ≡ true
-        go g less j other at begun_here (inl short) = before j r' g other at begun_here short
-        go g less j other at begun_here (inr same) =
-            ap (λ (s : Reached). flag s.0 j) new ∙ ap (λ n. flag (with_item (Some i) r).0 n) same ∙ item_flag unit i r less
-    by false starts new = (subst (AreReached unit) (sym new) old, λ j other short at begun_here. go j other at begun_here (either j short))
-      where
-        go : (j : ℕ) (other : tree.Item) → slice_get unit j ≡ Some other → begins other ≡ true → (j < i) ⊎ (j ≡ i) → flag r'.0 j ≡ true
-        go j other at begun_here (inl short) = before j r' (subst (Grows r) (sym new) (grows_item None r)) other at begun_here short
-        go j other at begun_here (inr same) =
-            let other_is : other ≡ item = same_Some other item (sym at ∙ ap (slice_get unit) same ∙ there) in
-            absurd (false≢true (sym starts ∙ ap begins (sym other_is) ∙ begun_here))
+begin_next unit i item r r' there is old begun =
+    let within = slice_get_within unit i item there in
+    search (arith, grows_item (Some i) r, within, grows_item None r, same_Some, both_hold, reached_item, item_flag, false≢true)
 
 -- ---- the loop over the order
 

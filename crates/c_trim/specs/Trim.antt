@@ -1,26 +1,28 @@
 -- A unit without the static functions that nothing needs (C11, 6.2.2 paragraph 3 internal linkage).
-use Rattle.std.specs.Prelude.{◌≡◌, ◌↔◌, ◌&&◌, ◌||◌, not, Bool, true, false, List, [], ◌∷◌, ◌++◌, filter, flat_map, bytes_eq, Option, Some}
+use Rattle.std.specs.Prelude.{◌≡◌, ◌↔◌, ◌&&◌, ◌||◌, not, Bool, true, false, List, [], ◌∷◌, filter, flat_map, bytes_eq, Option, Some}
 use Rattle.std.specs.Prelude.{None}
 use Rattle.std.specs.List.{list_any}
 use Rattle.c_tree.specs.Tree as tree
 use Rattle.c_tree.specs.Scope.{Name, is_among, name_of}
+use Rattle.c_tree.specs.Rules.{Use, AsVariable, AsArray, AsFunction, arg_uses, callee_uses, stmt_uses}
 
 -- ---- the functions that text names: by a call, or as an element of a table
 
+-- those among the names that are used
+abbrev pub functions_of : List Use → List Name
+functions_of [] = []
+functions_of (AsFunction name ∷ uses) = name ∷ functions_of uses
+functions_of (AsVariable name ∷ uses) = functions_of uses
+functions_of (AsArray name ∷ uses) = functions_of uses
+
 abbrev pub arg_functions : tree.Arg → List Name
-arg_functions (tree.Value e) = []
-arg_functions (tree.Address name) = []
-arg_functions (tree.OfFunction name) = name ∷ []
+arg_functions a = functions_of (arg_uses a)
 
 abbrev pub callee_functions : tree.Callee → List Name
-callee_functions (tree.Called name) = name ∷ []
-callee_functions (tree.Through ty name) = []
+callee_functions f = functions_of (callee_uses f)
 
 abbrev pub stmt_functions : tree.Stmt → List Name
-stmt_functions (tree.Set name a) = arg_functions a
-stmt_functions (tree.Call target f args) = callee_functions f ++ flat_map arg_functions args
-stmt_functions (tree.Return a) = arg_functions a
-stmt_functions _ = []
+stmt_functions stmt = functions_of (stmt_uses stmt)
 
 abbrev pub body_functions : Option tree.Body → List Name
 body_functions None = []

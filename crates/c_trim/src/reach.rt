@@ -140,6 +140,7 @@ impl Marks {
         }
     }
 
+    #[tactic(auto, using(crate::proofs::Named::no_functions))]
     fn reach_argument(&mut self, table: &NameTable<usize>, argument: &Arg) -> Result<(), Memory>
         ensures { OnOk result (reached_by self.new ≡ with_names table.now (arg_functions (arg_of argument.now)) (reached_by self.old)) }
     {
@@ -169,6 +170,7 @@ impl Marks {
         }
     }
 
+    #[tactic(auto, using(crate::proofs::Named::no_functions, crate::proofs::Named::neither_functions, crate::proofs::Named::call_functions))]
     fn reach_statement(&mut self, table: &NameTable<usize>, statement: &Stmt) -> Result<(), Memory>
         ensures { OnOk result (reached_by self.new ≡ with_names table.now (stmt_functions (stmt_of statement.now)) (reached_by self.old)) }
     {

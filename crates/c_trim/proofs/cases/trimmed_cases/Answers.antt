@@ -1,6 +1,5 @@
-use Rattle.c_trim.proofs.Common.{◌≡◌, Bool, true, false, not, ◌&&◌, ◌||◌, List, [], ◌∷◌, codes, bytes_eq, refl, ap, ◌∙◌, list_all}
-use Rattle.c_trim.proofs.Common.{both_hold, by_test, Name, is_among, name_of, IsNeeded, TellsNeeded, external_names, item_functions, leads}
-use Rattle.c_trim.proofs.Common.{names}
+use Rattle.c_trim.proofs.Common.{◌≡◌, Bool, true, false, not, ◌&&◌, ◌||◌, List, [], ◌∷◌, codes, bytes_eq, refl, ap, ◌∙◌, list_all, by_test}
+use Rattle.c_trim.proofs.Common.{both_hold, Name, is_among, name_of, IsNeeded, TellsNeeded, external_names, item_functions, leads, names}
 use Rattle.std.proofs.lemmas.Bool.{not-true, and_right}
 use Rattle.c_tree.specs.Tree as tree
 use Rattle.c_trim.specs.Samples as sample
