@@ -1,7 +1,6 @@
 -- Operands inside a block, and statements that are replaced.
-use Rattle.body_emitter.proofs.Common.{◌≡◌, ℕ, zero, suc, ◌≤◌, List, [], ◌∷◌, map, length, take, set, sym, refl, ap, ◌∙◌, subst, arith}
-use Rattle.body_emitter.proofs.Common.{length-map, map-set, stmt_of, Stmt, Inside, gap, Keeps, Operands}
-use Rattle.c_tree.specs.Tree as tree
+use Rattle.body_emitter.proofs.Common.{◌≡◌, ℕ, ◌≤◌, List, [], ◌∷◌, length, take, sym, refl, ap, ◌∙◌, subst, arith}
+use Rattle.body_emitter.proofs.Common.{Inside, Keeps, Operands}
 
 pub all_of_them : {A : Type 0} (xs : List A) → take (length xs) xs ≡ xs
 all_of_them [] = refl
@@ -18,17 +17,6 @@ inside_kept o a b h k = record {
   floor = k.floor ∙ h.floor;
   below = ap (λ n. take n b.types.items) k.floor ∙ k.below ∙ h.below;
 }
-
-pub set_mapped : (stmts : List Stmt) (place : ℕ) (s : Stmt) → map stmt_of (set stmts place s) ≡ set (map stmt_of stmts) place (stmt_of s)
-set_mapped stmts place s = map-set stmt_of stmts place s
-
-pub set_past : (stmts : List Stmt) (place : ℕ) → length stmts ≤ place → map stmt_of stmts ≡ set (map stmt_of stmts) place gap
-set_past stmts place past = sym (beyond (map stmt_of stmts) place (rw length-map past))
-  where
-    beyond : (xs : List tree.Stmt) (i : ℕ) → length xs ≤ i → set xs i gap ≡ xs
-    beyond [] i h = refl
-    beyond (x ∷ xs) zero h = absurd (omega (arith, h))
-    beyond (x ∷ xs) (suc i) h = ap (λ (ys : List tree.Stmt). x ∷ ys) (beyond xs i (omega (arith, h)))
 
 -- where the operands around a block begin is no higher than where its own do
 pub floor_below : (outer now : Operands) (floor : ℕ) → Inside outer now → floor ≡ outer.floor → floor ≤ now.floor

@@ -1,7 +1,7 @@
 -- Statements that are put one behind another.
-use Rattle.body_emitter.proofs.Common.{◌≡◌, ℕ, ◌<◌, Bool, true, false, List, [], ◌∷◌, ◌++◌, map, length, Some, None, filter, Option}
-use Rattle.body_emitter.proofs.Common.{option_map, sym, refl, ap, arith, ValType, stmt_of, Stmt, params_from, params_of, Aim, branch_if}
-use Rattle.body_emitter.proofs.Common.{case_label, if_aim, is_straight, jump, Made, aim_of, is_written, put, put_each, written, label_name}
+use Rattle.body_emitter.proofs.Common.{◌≡◌, ℕ, ◌<◌, true, false, List, [], ◌∷◌, ◌++◌, length, Some, None, Option}
+use Rattle.body_emitter.proofs.Common.{option_map, sym, refl, ValType, Stmt, Aim, branch_if}
+use Rattle.body_emitter.proofs.Common.{case_label, if_aim, is_straight, jump, Made, aim_of, put, put_each, label_name}
 use Rattle.body_emitter.proofs.Common.{jump_if}
 use Rattle.c_tree.specs.Tree as tree
 use Rattle.c_tree.specs.declared.tree.COp.TheVariants as op
@@ -43,21 +43,3 @@ branch_straight types l aim e = rw e refl
 pub branch_around : (types : List ValType) (l : ℕ) (aim : Aim) → is_straight aim types ≡ false
     → branch_if types l aim ≡ jump_if op.Eq (length types) l ∷ (jump aim types ++ tree.Label (label_name l) ∷ [])
 branch_around types l aim e = rw e refl
-
-pub none_of : (types : List ValType) → length types ≡ 0 → params_of types ≡ params_of []
-none_of [] e = refl
-none_of (t ∷ types) e = absurd (omega (arith, e))
-
-pub some_of : (types : List ValType) → 0 < length types → params_of types ≡ params_from 0 types
-some_of [] e = absurd (omega (arith, e))
-some_of (t ∷ types) e = refl
-
-pub map_filtered : (stmts : List Stmt) → map stmt_of (filter (λ (s : Stmt). is_written (stmt_of s)) stmts) ≡ written (map stmt_of stmts)
-map_filtered [] = refl
-map_filtered (s ∷ stmts) = by_test (is_written (stmt_of s)) refl (map_filtered stmts)
-  where
-    by_test : (b : Bool) → is_written (stmt_of s) ≡ b
-        → map stmt_of (filter (λ (z : Stmt). is_written (stmt_of z)) stmts) ≡ written (map stmt_of stmts)
-        → map stmt_of (filter (λ (z : Stmt). is_written (stmt_of z)) (s ∷ stmts)) ≡ written (map stmt_of (s ∷ stmts))
-    by_test true e rest = rw e (ap (λ (others : List tree.Stmt). stmt_of s ∷ others) rest)
-    by_test false e rest = rw e rest

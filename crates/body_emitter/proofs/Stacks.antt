@@ -1,9 +1,9 @@
 -- Stacks kept with the top last, and the marks of slots.
 use Rattle.body_emitter.proofs.Common.{◌≡◌, ℕ, zero, suc, ◌+◌, ◌-◌, ◌<◌, ◌≤◌, true, List, [], ◌∷◌, ◌++◌, map, reverse, length, get_or, take}
 use Rattle.body_emitter.proofs.Common.{drop, set, slice_get, Some, None, option_map, sym, refl, ap, ◌∙◌, subst, arith, length-drop}
-use Rattle.body_emitter.proofs.Common.{take-append-drop, drop-append_seam, get_or-reverse, length-map, length-reverse, map-append}
-use Rattle.body_emitter.proofs.Common.{reverse-append, take-append-le, slice_get-get_or, slice_get-map, slice_get_past, ValType, stmt_of}
-use Rattle.body_emitter.proofs.Common.{Stmt, aim_of, is_named, named_at, mark, no_mark, with_mark, Keeps, Mark, Operands, OpenBlock}
+use Rattle.body_emitter.proofs.Common.{take-append-drop, drop-append_seam, get_or-reverse, length-map, length-reverse}
+use Rattle.body_emitter.proofs.Common.{reverse-append, take-append-le, slice_get-get_or, slice_get-map, slice_get_past, ValType}
+use Rattle.body_emitter.proofs.Common.{aim_of, is_named, named_at, mark, no_mark, with_mark, Keeps, Mark, Operands, OpenBlock}
 
 pub length_reversed : {A : Type 0} (xs : List A) → length xs ≡ length (reverse xs)
 length_reversed xs = sym (length-reverse xs)
@@ -46,9 +46,6 @@ pub mark_past : (t : ValType) (h : ℕ) (marks : List Mark) → length marks ≤
 mark_past t h [] big = refl
 mark_past t zero (m ∷ marks) big = absurd (omega (arith, big))
 mark_past t (suc h) (m ∷ marks) big = ap (λ (ms : List Mark). m ∷ ms) (mark_past t h marks (omega (arith, big)))
-
-pub map_more : (xs : List Stmt) (x : Stmt) → map stmt_of (xs ++ x ∷ []) ≡ map stmt_of xs ++ stmt_of x ∷ []
-map_more xs x = map-append stmt_of xs (x ∷ [])
 
 pub under_of : {A : Type 0} (xs : List A) (k : ℕ) → length xs - k ≡ length (drop k xs)
 under_of xs k = sym (length-drop k xs)

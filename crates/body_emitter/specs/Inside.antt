@@ -1,8 +1,9 @@
 -- Operands inside a block that was opened over others.
-use Rattle.std.specs.Prelude.{◌≡◌, take, vec_len}
+use Rattle.std.specs.Prelude.{◌≡◌, take, length, vec_len}
 use Rattle.body_emitter.specs.declared.stack.Operands.{Operands}
 use Rattle.body_emitter.specs.declared.target.Opening.{Opening}
 use Rattle.body_emitter.specs.declared.emitter.Emitter.{Emitter}
+use Rattle.packed_stmts.specs.Listed.{listed}
 
 -- they stand on the others, which are whole
 pub record Inside (outer now : Operands) : Type 0 where
@@ -13,4 +14,4 @@ pub record Inside (outer now : Operands) : Type 0 where
 pub record IsOpening (at : Opening) (outer : Emitter) : Type 0 where
   pub label : at.label ≡ outer.labels
   pub floor : at.floor ≡ outer.operands.floor
-  pub place : at.place ≡ vec_len outer.stmts
+  pub place : at.place ≡ length (listed outer.stmts)

@@ -1,11 +1,8 @@
 -- promised: cited by contracts of what is offered
-pub mod Names
-pub mod Slots
-pub mod Branches
-pub mod Variables
 pub mod Marks
+pub mod SlotVariables
 pub mod Shown
 pub mod Made
 pub mod MadeBy
 pub mod Inside
-pub mod Frame
+pub mod Begun

@@ -1,5 +1,5 @@
 -- What the translation of a body has made at some place of the code, and the changes that instructions make of it.
-use Rattle.std.specs.Prelude.{ℕ, zero, suc, ◌+◌, ◌||◌, not, Bool, true, false, List, [], ◌∷◌, ◌++◌, map, filter, drop, length, slice_get}
+use Rattle.std.specs.Prelude.{ℕ, zero, suc, ◌+◌, ◌||◌, not, Bool, true, false, List, [], ◌∷◌, ◌++◌, map, drop, length, slice_get}
 use Rattle.std.specs.Prelude.{slice_set, Option, Some, None}
 use Rattle.w2c_base.specs.declared.value.ValType.{ValType}
 use Rattle.w2c_base.specs.declared.value.ValType.TheVariants as type
@@ -10,8 +10,9 @@ use Rattle.c_tree.specs.DefinedNames.{label_name}
 use Rattle.body_emitter.specs.declared.mark.Mark.{Mark}
 use Rattle.body_emitter.specs.declared.target.Target.{Target}
 use Rattle.body_emitter.specs.declared.target.OpenBlock.{OpenBlock}
-use Rattle.body_emitter.specs.Slots.{operand, jump_if}
-use Rattle.body_emitter.specs.Branches.{Aim, label_if, if_aim, cases_from, case_label, moving_case, jump_over}
+use Rattle.body_forms.specs.Slots.{operand, jump_if}
+use Rattle.body_forms.specs.Branches.{Aim, label_if, if_aim, cases_from, case_label, moving_case, jump_over}
+use Rattle.packed_stmts.specs.Gaps.{gap}
 use Rattle.body_emitter.specs.Marks.{mark}
 
 -- the statements so far, with gaps where a label was left out again; the types on the stack, the top first; the slots
@@ -26,17 +27,6 @@ pub record Made : Type 0 where
   pub is_dead : Bool
   pub returns : Bool
   pub is_indirect : Bool
-
--- what stands in place of a label that was left out: one without a name
-abbrev pub gap : tree.Stmt
-gap = tree.Label []
-
-abbrev pub is_written : tree.Stmt → Bool
-is_written (tree.Label []) = false
-is_written s = true
-
-abbrev pub written : List tree.Stmt → List tree.Stmt
-written stmts = filter is_written stmts
 
 abbrev pub aim_of : Target → Aim
 aim_of t = record { label = t.label; height = t.height; value = t.value }

@@ -1,13 +1,13 @@
 -- What a translation in the program has made.
-use Rattle.std.specs.Prelude.{map, reverse}
-use Rattle.c_tree.specs.View.{stmt_of}
+use Rattle.std.specs.Prelude.{reverse}
 use Rattle.body_emitter.specs.declared.emitter.Emitter.{Emitter}
 use Rattle.body_emitter.specs.Made.{Made}
+use Rattle.packed_stmts.specs.Listed.{listed}
 use Rattle.body_emitter.specs.Shown.{types_of}
 
 abbrev pub made_by : Emitter → Made
 made_by e = record {
-  stmts = map stmt_of e.stmts.items;
+  stmts = listed e.stmts;
   types = types_of e.operands;
   marks = e.operands.marks.items;
   blocks = reverse e.blocks.items;

@@ -2,10 +2,9 @@
 ghost use Rattle.std.specs.Prelude.{◌≡◌, ◌<◌, ◌≤◌, ◌+◌, ◌^◌, ◌∷◌, ◌||◌, not, [], length, OnOk, IfOk};
 ghost use Rattle.w2c_base.specs.declared.value.ValType.{ValType};
 ghost use Rattle.wasm_tree.specs.Views.{otherwise_tree};
-ghost use Rattle.c_tree.specs.View.{stmt_of};
 ghost use Rattle.body_emitter.specs.declared.emitter.Emitter.{Emitter as Place};
 ghost use Rattle.body_emitter.specs.declared.stack.Operands.{Operands as Those};
-ghost use Rattle.body_emitter.specs.Branches as branch;
+ghost use Rattle.body_forms.specs.Branches as branch;
 ghost use Rattle.body_emitter.specs.Made as made;
 ghost use Rattle.body_emitter.specs.MadeBy.{made_by};
 ghost use Rattle.body_emitter.specs.Inside.{Inside, IsOpening};
@@ -13,9 +12,7 @@ ghost use Rattle.body_emitter.specs.Shown.{Keeps};
 
 use crate::emitter::Emitter;
 use crate::target::{OpenBlock, Opening, Target};
-use c_tree::{COp, Name, Stmt};
-use std::alloc::Global;
-use std::mem::replace;
+use c_tree::COp;
 use w2c_base::{Memory, ValType};
 use wasm_tree::ElsePart;
 
@@ -154,13 +151,12 @@ impl Emitter {
     }
 
     // Leaves the label at a place out again, unless it is named.
-    #[tactic(auto, using(crate::proofs::Insides::set_mapped, crate::proofs::Insides::set_past))]
     fn leave_out(&mut self, named: bool, place: usize)
         ensures made { made_by self.new ≡ made.left_out named place (made_by self.old) }
         ensures kept { self.new.operands ≡ self.old.operands }
     {
-        if !named && place < self.stmts.len() {
-            put_gap(&mut self.stmts[place], self.alloc);
+        if !named {
+            self.stmts.leave_out(place);
         }
     }
 
@@ -204,13 +200,6 @@ impl Emitter {
         self.put_label_if(falls || named, at.label + 1)?;
         self.give(value)
     }
-}
-
-// A label without a name, which stands for no statement.
-fn put_gap(stmt: &mut Stmt, alloc: Global)
-    ensures { stmt_of stmt.new ≡ made.gap }
-{
-    drop(replace(stmt, Stmt::Label(Name::new(alloc))));
 }
 
 // The label behind the first branch of an `if`.

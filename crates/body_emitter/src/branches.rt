@@ -3,13 +3,13 @@ ghost use Rattle.std.specs.Prelude.{◌≡◌, ◌<◌, ◌+◌, ◌^◌, ◌++�
 ghost use Rattle.c_tree.specs.View.{stmt_of};
 ghost use Rattle.c_tree.specs.declared.tree.Num.TheVariants as num;
 ghost use Rattle.c_tree.specs.DefinedNames as defined;
-ghost use Rattle.body_emitter.specs.Branches as branch;
+ghost use Rattle.body_forms.specs.Branches as branch;
 ghost use Rattle.body_emitter.specs.Made as made;
 ghost use Rattle.body_emitter.specs.MadeBy.{made_by};
 
 use crate::emitter::Emitter;
-use crate::names::slot;
 use crate::target::Target;
+use body_forms::slot;
 use c_tree::{COp, Cases, Expr, Name, Num, Stmt, label_name};
 use w2c_base::{Memory, ValType};
 

@@ -3,17 +3,17 @@ ghost use Rattle.std.specs.Prelude.{◌≡◌, ◌+◌, ◌<◌, ◌^◌, ◌==�
 ghost use Rattle.c_tree.specs.Tree as tree;
 ghost use Rattle.c_tree.specs.View.{stmt_of, expr_of};
 ghost use Rattle.c_tree.specs.DefinedNames as defined;
-ghost use Rattle.body_emitter.specs.Branches as branch;
+ghost use Rattle.body_forms.specs.Branches as branch;
 ghost use Rattle.body_emitter.specs.Made as made;
 ghost use Rattle.body_emitter.specs.MadeBy.{made_by};
-ghost use Rattle.body_emitter.specs.Slots as slots;
+ghost use Rattle.body_forms.specs.Slots as slots;
 ghost use Rattle.body_emitter.specs.Shown.{HasOperands, Keeps};
 
-use crate::names::slot;
-use crate::pieces::{set_slot, set_to_operand};
 use crate::stack::Operands;
 use crate::target::{OpenBlock, Target};
+use body_forms::{set_slot, set_to_operand, slot};
 use c_tree::{COp, Expr, Num, Stmt, label_name};
+use packed_stmts::Statements;
 use std::alloc::Global;
 use w2c_base::{Memory, ValType};
 
@@ -25,7 +25,7 @@ pub struct Emitter {
     pub alloc: Global,
     pub operands: Operands,
     pub(crate) blocks: Vec<OpenBlock>,
-    pub(crate) stmts: Vec<Stmt>,
+    pub(crate) stmts: Statements,
     pub(crate) labels: usize,
     pub is_dead: bool,
     pub returns: bool,
@@ -34,7 +34,6 @@ pub struct Emitter {
 
 impl Emitter {
     /// One more statement.
-    #[tactic(auto, using(crate::proofs::Stacks::map_more))]
     pub fn put(&mut self, s: Stmt) -> Result<(), Memory>
         ensures made { OnOk result (made_by self.new ≡ made.put (stmt_of s) (made_by self.old)) }
         ensures kept { OnOk result (self.new.operands ≡ self.old.operands) }

@@ -5,17 +5,21 @@ ghost use Rattle.c_tree.specs.Tree as tree;
 ghost use Rattle.c_tree.specs.View.{expr_of, stmt_of};
 ghost use Rattle.c_tree.specs.Makers as makers;
 ghost use Rattle.c_tree.specs.Runtime.{depth_name};
-ghost use Rattle.body_emitter.specs.Frame as frame;
+ghost use Rattle.body_forms.specs.Frame as frame;
+ghost use Rattle.body_emitter.specs.Begun as begun;
+ghost use Rattle.packed_stmts.specs.Listed.{left};
 ghost use Rattle.body_emitter.specs.Made as made;
+ghost use Rattle.packed_stmts.specs.Gaps as left_out;
 ghost use Rattle.body_emitter.specs.MadeBy.{made_by};
 
 use crate::emitter::Emitter;
-use crate::pieces::operand;
 use crate::stack::Operands;
 use crate::target::{OpenBlock, Target};
+use body_forms::operand;
 use c_tree::{
     Arg, COp, DEPTH_NAME, Expr, Stmt, Stmts, label_name, n32, name_of, operation, set, trap,
 };
+use packed_stmts::{Parts, Statements};
 use std::alloc::Global;
 use w2c_base::{Memory, TrapKind, ValType};
 
@@ -50,34 +54,16 @@ fn depth_test(alloc: Global) -> Result<Stmt, Memory>
     Ok(Stmt::If(COp::Lt, depth, n32(1024), entry))
 }
 
-// A statement that stays, and no gap.
-fn is_written(s: &Stmt) -> bool
-    ensures { result ≡ made.is_written (stmt_of s.now) }
-{
-    match s {
-        Stmt::Label(name) => !name.as_slice().is_empty(),
-        Stmt::Null
-        | Stmt::Set(_, _)
-        | Stmt::SetStar(_, _)
-        | Stmt::Call(_, _, _)
-        | Stmt::Goto(_)
-        | Stmt::If(_, _, _, _)
-        | Stmt::Switch(_, _, _)
-        | Stmt::ReturnNone
-        | Stmt::Return(_) => true,
-    }
-}
-
 impl Emitter {
     /// Nothing is made yet.
     pub fn empty(alloc: Global) -> Emitter
-        ensures { made_by result ≡ frame.nothing_made }
+        ensures { made_by result ≡ begun.nothing_made }
     {
         Emitter {
             alloc,
             operands: Operands::new(alloc),
             blocks: Vec::new(alloc),
-            stmts: Vec::new(alloc),
+            stmts: Statements::new(alloc),
             labels: 2,
             is_dead: false,
             returns: false,
@@ -87,8 +73,8 @@ impl Emitter {
 
     // The result's slot occurs, and the function's exit can be branched to.
     fn put_exit(&mut self, outcome: Option<ValType>) -> Result<(), Memory>
-        requires { made_by self.old ≡ frame.nothing_made }
-        ensures { OnOk result (made_by self.new ≡ frame.with_exit outcome) }
+        requires { made_by self.old ≡ begun.nothing_made }
+        ensures { OnOk result (made_by self.new ≡ begun.with_exit outcome) }
     {
         if let Some(ty) = outcome {
             self.operands.mark_next(ty)?;
@@ -125,8 +111,8 @@ impl Emitter {
 
     /// What stands in front of the code.
     pub fn begin(&mut self, outcome: Option<ValType>) -> Result<(), Memory>
-        requires { made_by self.old ≡ frame.nothing_made }
-        ensures { OnOk result (made_by self.new ≡ frame.begun outcome) }
+        requires { made_by self.old ≡ begun.nothing_made }
+        ensures { OnOk result (made_by self.new ≡ begun.begun outcome) }
     {
         self.put_exit(outcome)?;
         self.put_head(outcome)
@@ -144,7 +130,7 @@ impl Emitter {
 
     /// What stands behind it.
     pub fn finish(&mut self, outcome: Option<ValType>) -> Result<(), Memory>
-        ensures { OnOk result (made_by self.new ≡ frame.behind_code outcome (made_by self.old)) }
+        ensures { OnOk result (made_by self.new ≡ begun.behind_code outcome (made_by self.old)) }
     {
         let alloc = self.alloc;
         let named = self.is_exit_named() || self.returns;
@@ -152,22 +138,19 @@ impl Emitter {
         self.put(change_depth(alloc, COp::Sub)?)?;
         self.put(give_back(alloc, outcome)?)
     }
-
-    /// The statements without the gaps.
-    #[tactic(auto, using(crate::proofs::Puts::map_filtered))]
-    pub fn fill_gaps(&mut self)
-        ensures stmts { map stmt_of self.new.stmts.items ≡ made.written (map stmt_of self.old.stmts.items) }
-        ensures marks { self.new.operands ≡ self.old.operands }
-        ensures indirect { self.new.is_indirect ≡ self.old.is_indirect }
-    {
-        self.stmts.retain(|s| is_written(s));
-    }
 }
 
-/// The statements that were made.
-pub fn statements(emitter: Emitter) -> Stmts
-    ensures { result ≡ emitter.stmts.items }
+/// The statements that were made, without those that were left out. A want of memory is the only error.
+pub fn statements(emitter: Emitter) -> Result<Stmts, Memory>
+    ensures { IfOk result (λ stmts. map stmt_of stmts ≡ left_out.written (made_by emitter).stmts) }
+{
+    parts(emitter).all()
+}
+
+/// The same in parts, each of which takes little memory beside what is packed of all.
+pub fn parts(emitter: Emitter) -> Parts
+    ensures { left result ≡ left_out.written (made_by emitter).stmts }
 {
     let Emitter { stmts, .. } = emitter;
-    Stmts::from_vec(stmts)
+    stmts.into_parts()
 }

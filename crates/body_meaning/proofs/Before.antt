@@ -245,8 +245,7 @@ continues g spare ts exit base middle rest outs from n left stack now r x less h
     let a = x.1 in
     before g 0 spare ts exit base rest outs n left a.way (record {
       least = omega (arith, a.paid.least);
-      fewer =
-          less;
+      fewer = less;
       most = omega (arith, a.paid.most);
     }) r (follows_past g 0 x.0 ts exit base middle rest outs a.machine a.vars left r h)
 
@@ -331,8 +330,7 @@ turn_follows g ts exit t l h stack base start rest {outs} from n again (exec.Bra
     subst (λ vs. StandsAt g (vs ++ (stack ++ base)) now a.machine a.vars) empty a.stands in
     before g 0 0 ts exit base rest outs n left a.way (record {
       least = a.paid.least;
-      fewer =
-          omega (arith, f.less);
+      fewer = omega (arith, f.less);
       most = omega (arith, a.paid.most);
     }) (again left now) (next left now a.machine a.vars f.less stands)
 turn_follows g ts exit t l h stack base start rest from n again (exec.Branch (suc label) left inner now) e f next = f

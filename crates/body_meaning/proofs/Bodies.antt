@@ -13,7 +13,7 @@ use Rattle.wasm_meaning.specs.LinkedSet as link
 use Rattle.wasm_meaning.specs.Store as store
 use Rattle.wasm_meaning.specs.Execution as exec
 use Rattle.c_meaning.specs.State as state
-use Rattle.c_body.proofs.Heights.{stands_top}
+use Rattle.body_definition.proofs.Heights.{stands_top}
 use Rattle.body_meaning.specs.Bodies.{BodiesFollow}
 use Rattle.body_meaning.proofs.Hosts.{host_follows}
 use Rattle.body_meaning.proofs.Own.{IsOwn, own_is, func_body}
@@ -174,8 +174,7 @@ code_follows all {p} {s} served {count} room calls calls_follow
     (record {
       target = target;
       found = λ e. places.exit (or_right (targets 0 code) (any_in is_return code) e);
-      aim_is =
-          refl;
+      aim_is = refl;
       base_is = refl;
     })
     (λ t height e. or_right (stands t height (values ty.result)) (occurs t height c [] code) e)

@@ -17,8 +17,8 @@ use Rattle.wasm_meaning.specs.LinkedSet as link
 use Rattle.wasm_meaning.specs.Store as store
 use Rattle.wasm_meaning.specs.Execution as exec
 use Rattle.c_meaning.specs.State as state
-use Rattle.c_body.proofs.Heights.{stands_top}
-use Rattle.c_body.specs.Stack.{stands}
+use Rattle.body_definition.proofs.Heights.{stands_top}
+use Rattle.body_definition.specs.Stack.{stands}
 use Rattle.body_meaning.proofs.Indexes.{own_of_context, import_of_context, func_callable}
 use Rattle.body_meaning.proofs.Vars.{stacked_below, agree_below}
 use Rattle.body_meaning.proofs.Slots.{SlotIsSet, slots_are_set}

@@ -105,20 +105,20 @@ pub use Rattle.c_helpers.specs.declared.steps.Way.{Way}
 pub use Rattle.c_helpers.specs.declared.steps.Way.TheVariants.{ByHelper, ByOperator, ByShift}
 pub use Rattle.c_symbols.specs.Objects.{callee, global_value, memory_arg, set_global, table_arg}
 pub use Rattle.c_symbols.specs.Symbols.{c_func_type, func_imports, global_imports, import_symbol, is_usable, memory_imports, table_imports}
-pub use Rattle.body_emitter.specs.Branches.{Aim, case_label, cases_from, entry_label, exit_label, exit_of, if_aim}
-pub use Rattle.body_emitter.specs.Branches.{is_straight, jump, jump_over, label_if, moving_case}
-pub use Rattle.body_emitter.specs.Frame.{change_depth, give_back}
-pub use Rattle.body_emitter.specs.Names.{element_name, local_name, slot}
-pub use Rattle.body_emitter.specs.Slots.{jump_if, operand, selected, set_slot, under}
-pub use Rattle.body_emitter.specs.Variables.{locals_from, params_from, params_of, zero_local}
-pub use Rattle.c_body.specs.Body.{body_of, code_stmts, defined_at, element_local, func_of, has_element, has_slot, is_return, most_operands}
-pub use Rattle.c_body.specs.Body.{names_exit, no_func, slots_of, stmts_of}
-pub use Rattle.c_body.specs.Code.{behind, branch_table, call_element, call_named, call_of, emit, emit_kind}
-pub use Rattle.c_body.specs.Code.{moving_cases, operands_from, result_slot}
-pub use Rattle.c_body.specs.Labels.{falls, labels_in, labels_of, targets, targets_else, targets_in}
-pub use Rattle.c_body.specs.Limits.{BodyHasLimits, HasLimits}
-pub use Rattle.c_body.specs.Plain.{Setting, by_way, bytes_stmt, call_helper, plain_stmts}
-pub use Rattle.c_body.specs.Stack.{after, after_call, occurs, occurs_in, peak, stands}
+pub use Rattle.body_forms.specs.Branches.{Aim, case_label, cases_from, entry_label, exit_label, exit_of, if_aim}
+pub use Rattle.body_forms.specs.Branches.{is_straight, jump, jump_over, label_if, moving_case}
+pub use Rattle.body_forms.specs.Frame.{change_depth, give_back}
+pub use Rattle.body_forms.specs.Names.{element_name, local_name, slot}
+pub use Rattle.body_forms.specs.Slots.{jump_if, operand, selected, set_slot, under}
+pub use Rattle.body_forms.specs.Variables.{locals_from, params_from, params_of, zero_local}
+pub use Rattle.body_definition.specs.Body.{body_of, code_stmts, defined_at, element_local, func_of, has_element, has_slot, is_return}
+pub use Rattle.body_definition.specs.Body.{most_operands, names_exit, no_func, slots_of, stmts_of}
+pub use Rattle.body_definition.specs.Code.{behind, branch_table, call_element, call_named, call_of, emit, emit_kind}
+pub use Rattle.body_definition.specs.Code.{moving_cases, operands_from, result_slot}
+pub use Rattle.body_definition.specs.Labels.{falls, labels_in, labels_of, targets, targets_else, targets_in}
+pub use Rattle.body_definition.specs.Limits.{BodyHasLimits, HasLimits}
+pub use Rattle.body_definition.specs.Plain.{Setting, by_way, bytes_stmt, call_helper, plain_stmts}
+pub use Rattle.body_definition.specs.Stack.{after, after_call, occurs, occurs_in, peak, stands}
 pub use Rattle.c_prelude.proofs.CallStatements.{named_here, statement_comes_between, statement_comes_to}
 pub use Rattle.c_prelude.proofs.EachHelper.{helper_right}
 pub use Rattle.c_prelude.proofs.Widths.{evaluate-num, flagged, flagged-bit, operate-value, type_of-value}

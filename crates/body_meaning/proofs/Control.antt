@@ -1,22 +1,21 @@
 -- Code is followed by its statements: one induction over code, for every budget.
 use Rattle.body_meaning.proofs.Common.{◌≡◌, ℕ, zero, suc, ◌+◌, ◌^◌, ◌<◌, ◌≤◌, Bool, true, false, not, ◌&&◌, ◌||◌, List, [], ◌∷◌, ◌++◌, map}
-use Rattle.body_meaning.proofs.Common.{reverse, length, if◌then◌else◌, Some, None, Option, sym, refl, ap, ◌∙◌, subst, true≢false}
-use Rattle.body_meaning.proofs.Common.{append_assoc, arith, eq-eqb, or_parts, or_right, type_equals_itself, types_of, ValType, Value, I32}
-use Rattle.body_meaning.proofs.Common.{Block, Br, BrIf, BrTable, Call, CallIndirect, Code, If, Kind, Loop, Return, Unreachable, else_code}
-use Rattle.body_meaning.proofs.Common.{end_code, no_else, then_code, has_wide, Context, Labels, HasType, KindHasType, Stack, values, join}
-use Rattle.body_meaning.proofs.Common.{stays, Reaches, Progress, after_label, is_return, Aim, behind, emit, emit_kind, jump_over, label_if}
-use Rattle.body_meaning.proofs.Common.{Arrives, Follows, Site, StandsAt, Target, at, labelled, any_in, any_inside, falls, labels_in}
-use Rattle.body_meaning.proofs.Common.{labels_of, targets_else, targets_in, label_name, AllCodeFollows, AreTargets, IndirectCallsFollow}
-use Rattle.body_meaning.proofs.Common.{IsExit, IsPlaced, IsThere, KindFollows, aims_of, is_plain, jump_if, after, ends, occurs, occurs_in}
-use Rattle.body_meaning.proofs.Common.{stands, IsHere}
+use Rattle.body_meaning.proofs.Common.{reverse, length, if◌then◌else◌, Some, None, Option, sym, refl, ap, ◌∙◌, subst, true≢false, arith, Br}
+use Rattle.body_meaning.proofs.Common.{append_assoc, eq-eqb, or_parts, or_right, type_equals_itself, types_of, ValType, Value, I32, Block}
+use Rattle.body_meaning.proofs.Common.{BrIf, BrTable, Call, CallIndirect, Code, If, Kind, Loop, Return, Unreachable, else_code, end_code}
+use Rattle.body_meaning.proofs.Common.{no_else, then_code, has_wide, Context, Labels, HasType, KindHasType, Stack, values, join, stays, Aim}
+use Rattle.body_meaning.proofs.Common.{Reaches, Progress, after_label, is_return, behind, emit, emit_kind, jump_over, label_if, Arrives, at}
+use Rattle.body_meaning.proofs.Common.{Follows, Site, StandsAt, Target, labelled, any_in, any_inside, falls, labels_in, labels_of, IsExit}
+use Rattle.body_meaning.proofs.Common.{targets_else, targets_in, label_name, AllCodeFollows, AreTargets, IndirectCallsFollow, IsPlaced}
+use Rattle.body_meaning.proofs.Common.{IsThere, KindFollows, aims_of, is_plain, jump_if, after, ends, occurs, occurs_in, stands, IsHere}
 use Rattle.w2c_base.specs.declared.value.Value.TheVariants.{I64}
 use Rattle.c_tree.specs.declared.tree.COp.TheVariants as op
 use Rattle.c_tree.specs.Tree as tree
 use Rattle.wasm_meaning.specs.Store as store
 use Rattle.wasm_meaning.specs.Execution as exec
 use Rattle.c_meaning.specs.State as state
-use Rattle.c_body.specs.Labels.{targets as branches_to}
-use Rattle.c_body.proofs.Heights.{after_typed, stands_occurs}
+use Rattle.body_definition.specs.Labels.{targets as branches_to}
+use Rattle.body_definition.proofs.Heights.{after_typed, stands_occurs}
 use Rattle.body_meaning.proofs.Slots.{SlotIsSet, slots_are_set}
 use Rattle.body_meaning.proofs.Plain.{plain_kinds_follow}
 use Rattle.body_meaning.proofs.Calls.{calls_in_code_follow}
@@ -196,11 +195,7 @@ opened : {g : Site}
 opened {g} {ts} l v stack {base} to fewer names some less less_named declared found h =
     let p = part stack fewer _ less (λ k is. less_named (suc k) is) h in
     record {
-      targets = (
-        record { upper = []; lower = refl; height = refl; declared = declared },
-        found,
-        targets_unshift g _ some 0 ts p.targets,
-      );
+      targets = (record { upper = []; lower = refl; height = refl; declared = declared }, found, targets_unshift g _ some 0 ts p.targets);
       is_exit = p.is_exit;
       there = p.there;
       narrow = p.narrow;
@@ -397,8 +392,7 @@ mutual
       stands = s;
       statements = 0;
       way = stays g.program (at g m rest vars);
-      paid =
-          record { least = omega arith; most = omega arith };
+      paid = record { least = omega arith; most = omega arith };
     },
   )
   code_goes g calls others (then_code place kind code) ts exit base stack l n rest outs now m vars typed inside slots few placed s =
@@ -517,8 +511,7 @@ mutual
       (code_goes g calls others other (x ∷ ts) exit (stack ++ base) [] (labels_in code + suc (suc l)) left' (end ++ rest) (values t) now
       m vars typed.1 (opened (suc l) t stack rest (λ test. any_in test other) names (λ k. branches_to k other) (λ test is. rw (
         is,
-        or_right
-            (any_in test code) true refl,
+        or_right (any_in test code) true refl,
       ) (or_right (test kind) true refl)) (λ k is. rw is (or_right (branches_to k code) true refl))
       (declared_over g t types (left refl)) (λ is. found (rw is (or_right (branches_to 0 code) true refl))) inside)
       (λ u height is. slots u height (rw is (or_right (occurs u height g.setting.context types code) true refl)))

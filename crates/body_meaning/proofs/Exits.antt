@@ -3,7 +3,7 @@ use Rattle.w2c_base.specs.declared.trap.TrapKind.TheVariants as trap
 use Rattle.c_tree.specs.declared.tree.COp.TheVariants as op
 use Rattle.c_tree.specs.Tree as tree
 use Rattle.c_tree.specs.Makers as makers
-use Rattle.c_body.proofs.RulesOfLabels.{body_labels_differ}
+use Rattle.body_definition.proofs.RulesOfLabels.{body_labels_differ}
 use Rattle.body_meaning.proofs.Common.{◌≡◌, ◌+◌, ◌^◌, ◌<◌, true, List, [], ◌∷◌, ◌++◌, Some, Option, sym, ap, ◌∙◌, append_assoc, ValType}
 use Rattle.body_meaning.proofs.Common.{Code, N32, after_label, depth_name, change_depth, code_stmts, give_back, names_exit, stmts_of}
 use Rattle.body_meaning.proofs.Common.{entry_label, exit_label, label_if, labels_in, label_name, IsPlaced, Setting}

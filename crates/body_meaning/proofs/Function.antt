@@ -86,8 +86,7 @@ value_returned g m vars {v} typed there =
     let r : state.Running = (state_at g m code vars).running in
     way_by g m code vars (rw (
       slot_value m r (type_of v) 0 there,
-      ap
-          (λ (t : Option ValType). is_returned (c_result_of t) (Some (state.Number v))) typed ∙ number_is_returned v,
+      ap (λ (t : Option ValType). is_returned (c_result_of t) (Some (state.Number v))) typed ∙ number_is_returned v,
     ) refl)
 
 gives_back : (g : Site) (m : state.Machine) {vars : state.Vars} (t : Option ValType) (value : Option Value) {locals : List Value}
@@ -118,8 +117,7 @@ exit_gives g m {vars} {t} value {d} is typed agree deep room =
 result_all : (t : Option ValType) (value : Option Value) → is_result t value ≡ true
     → exec.gives_all t (exec.with_result value []) ≡ Some value
 result_all None None typed = refl
-result_all (Some t) (Some v) typed =
-    of_its_type t v (Some v) (same_Some t (type_of v) (result_is_typed (Some t) v typed))
+result_all (Some t) (Some v) typed = of_its_type t v (Some v) (same_Some t (type_of v) (result_is_typed (Some t) v typed))
 result_all _ _ typed = absurd cc
 
 result_top : (t : Option ValType) (stack : List Value) {kept : List Value} (value : Option Value) → exec.top t stack ≡ Some kept
@@ -129,8 +127,7 @@ result_top None stack None e is typed = refl
 result_top (Some t) (v ∷ stack) {kept} (Some w) e is typed = go (equal_type t (type_of v)) e
   where
     go : (b : Bool) → (if b then Some (v ∷ []) else None) ≡ Some kept → (if b then Some (Some v) else None) ≡ Some (Some w)
-    go true e =
-        let same : v ≡ w = cc in ap (λ (x : Value). Some (Some x)) same
+    go true e = let same : v ≡ w = cc in ap (λ (x : Value). Some (Some x)) same
     go false e = absurd cc
 result_top _ _ _ e is typed = absurd cc
 

@@ -19,7 +19,7 @@ use Rattle.wasm_meaning.specs.Store as store
 use Rattle.wasm_meaning.specs.Execution as exec
 use Rattle.c_meaning.specs.State as state
 use Rattle.c_helpers.specs.declared.operation.Helper.TheVariants as helper
-use Rattle.c_body.proofs.Heights.{stands_top}
+use Rattle.body_definition.proofs.Heights.{stands_top}
 use Rattle.c_prelude.specs.Operators.{number, IsSigned, element_found}
 use Rattle.alike.specs.Objects.{table_object}
 use Rattle.body_meaning.proofs.Seen.{TableFound, table_found}

@@ -5,7 +5,7 @@ use Rattle.body_meaning.proofs.Common.{type_of, types_of, value, ValType, Value,
 use Rattle.body_meaning.proofs.Common.{of_the_same_type, pattern_of, join_one, stays, after_label, number, Arrives, Follows, Site, StandsAt}
 use Rattle.body_meaning.proofs.Common.{Target, at, label_name, local_name, slot, IsSite, KindFollows, operand, plain_stmts, selected}
 use Rattle.body_meaning.proofs.Common.{set_slot, type_of-value, types_many, Spot, IsHere, Turns, ends, false, Kind, under, evaluate-num}
-use Rattle.c_body.specs.Plain.{if_type}
+use Rattle.body_definition.specs.Plain.{if_type}
 use Rattle.w2c_base.specs.declared.value.ValType.TheVariants as type
 use Rattle.w2c_base.specs.declared.value.Value.TheVariants.{I64}
 use Rattle.wasm_tree.specs.Instructions as wasm

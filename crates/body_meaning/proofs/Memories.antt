@@ -3,13 +3,12 @@ use Rattle.body_meaning.proofs.Common.{◌≡◌, ℕ, zero, suc, ◌+◌, ◌*�
 use Rattle.body_meaning.proofs.Common.{take, drop, replicate, if◌then◌else◌, nat_le, Some, None, codes, Option, unwrap_or, sym, refl, ap}
 use Rattle.body_meaning.proofs.Common.{◌∙◌, subst, arith, length-append, length-drop, length-take, nat_tests, length-replicate, none-some}
 use Rattle.body_meaning.proofs.Common.{same_Some, AllByRecursion, all_append, type_equals_itself, low_bytes, with_bytes, named, equal_type}
-use Rattle.body_meaning.proofs.Common.{number_of, type_of, types_of, value, ValType, Value, I32, load_access, store_access, Load}
-use Rattle.body_meaning.proofs.Common.{MemoryGrow, MemorySize, Store, MemArg, LoadOp, StoreOp, load_typing, store_typing, Stack}
-use Rattle.body_meaning.proofs.Common.{TurnsAsTabled, table_type, load_fits, LinkedSet, memory_at, load_number, store_number, Gives, Effect}
-use Rattle.body_meaning.proofs.Common.{NoEffect, gives, mem_grow, with_content, Reaches, go_on, Is, Number, Pointer, Step, c_step}
-use Rattle.body_meaning.proofs.Common.{evaluate_args, place_of, take_effect, helper_right, CallComesTo, call_ended, helper_of, ComesWithin}
-use Rattle.body_meaning.proofs.Common.{Helper, MemoryAgrees, Site, StandsAt, at, state_at, slot, memory_arg, IsSite, IsThere, KindFollows}
-use Rattle.body_meaning.proofs.Common.{call_helper, operand, Spot}
+use Rattle.body_meaning.proofs.Common.{number_of, type_of, types_of, value, ValType, Value, I32, load_access, store_access, Load, Store, Is}
+use Rattle.body_meaning.proofs.Common.{MemoryGrow, MemorySize, MemArg, LoadOp, StoreOp, load_typing, store_typing, Stack, TurnsAsTabled, at}
+use Rattle.body_meaning.proofs.Common.{table_type, load_fits, LinkedSet, memory_at, load_number, store_number, Gives, Effect, NoEffect}
+use Rattle.body_meaning.proofs.Common.{gives, mem_grow, with_content, Reaches, go_on, Number, Pointer, Step, c_step, evaluate_args, Helper}
+use Rattle.body_meaning.proofs.Common.{place_of, take_effect, helper_right, CallComesTo, call_ended, helper_of, ComesWithin, MemoryAgrees}
+use Rattle.body_meaning.proofs.Common.{Site, StandsAt, state_at, slot, memory_arg, IsSite, IsThere, KindFollows, call_helper, operand, Spot}
 use Rattle.w2c_base.specs.declared.value.ValType.TheVariants as type
 use Rattle.w2c_base.specs.declared.value.Value.TheVariants.{I64}
 use Rattle.w2c_base.specs.declared.trap.TrapKind.TheVariants as trap
@@ -21,7 +20,7 @@ use Rattle.wasm_meaning.specs.Execution as exec
 use Rattle.c_meaning.specs.State as state
 use Rattle.c_meaning.specs.Machine as machine
 use Rattle.c_helpers.specs.declared.operation.Helper.TheVariants as helper
-use Rattle.c_body.proofs.Bounds.{not_wide}
+use Rattle.body_definition.proofs.Bounds.{not_wide}
 use Rattle.c_prelude.specs.Operators.{number, answered, stored}
 use Rattle.alike.specs.Objects.{memory_object}
 use Rattle.alike.proofs.Store.{together_memory}
@@ -132,11 +131,9 @@ written_agrees {memory} place new within small agrees = record {
   whole = omega (
     arith,
     length-append (take place memory.bytes) (new ++ drop (place + length new) memory.bytes),
-    length-append new
-        (drop (place + length new) memory.bytes),
+    length-append new (drop (place + length new) memory.bytes),
     length-take place memory.bytes,
-    length-drop
-        (place + length new) memory.bytes,
+    length-drop (place + length new) memory.bytes,
     within,
     agrees.whole,
   );
@@ -254,8 +251,7 @@ more_typed bytes pages more e = omega (
   arith,
   e,
   length-append bytes (replicate (more * 65536) 0),
-  length-replicate {A = ℕ}
-      (more * 65536) 0,
+  length-replicate {A = ℕ} (more * 65536) 0,
 )
 
 grown_agrees : {memory : store.Memory} {other : state.Memory} (more : ℕ) → store.pages memory + more ≤ 16384 → MemoryAgrees memory other

@@ -19,7 +19,7 @@ use Rattle.wasm_meaning.specs.Execution as exec
 use Rattle.c_meaning.specs.State as state
 use Rattle.c_helpers.specs.declared.operation.NumOp.TheVariants as num
 use Rattle.c_helpers.specs.declared.operation.Helper.TheVariants as helper
-use Rattle.c_body.proofs.Heights.{after_typed, stands_top}
+use Rattle.body_definition.proofs.Heights.{after_typed, stands_top}
 use Rattle.c_prelude.specs.Operators.{number as c_number, answered as c_answered}
 use Rattle.body_meaning.proofs.Names.{slot_is_no_depth}
 use Rattle.body_meaning.proofs.Vars.{height, stands_below}

@@ -13,8 +13,8 @@ use Rattle.c_tree.specs.Tree as tree
 use Rattle.wasm_meaning.specs.LinkedSet as link
 use Rattle.c_meaning.specs.State as state
 use Rattle.c_symbols.proofs.FewParams.{few_params}
-use Rattle.c_body.proofs.Bounds.{within_of}
-use Rattle.c_body.proofs.TypedBodies.{typed_body}
+use Rattle.body_definition.proofs.Bounds.{within_of}
+use Rattle.body_definition.proofs.TypedBodies.{typed_body}
 use Rattle.body_meaning.proofs.Indexes.{own_type}
 use Rattle.alike.proofs.LookUps.{module_is}
 
@@ -56,13 +56,7 @@ body_found m index {body} has = of_entry (defined_at m.tree index) refl has
         → (d : FuncEntry × BodyEntry) × (ty : FuncType) × (defined_at m.tree index ≡ Some d) × (type_in m.tree d.0.type_index ≡ Some ty)
         × (body_of m.tree m.name index ≡ func_of m index ty d.1)
     of_type d None at is has = absurd cc
-    of_type d (Some ty) at is has = (
-      d,
-      ty,
-      at,
-      is,
-      rw (at, is) refl,
-    )
+    of_type d (Some ty) at is has = (d, ty, at, is, rw (at, is) refl)
 
     of_entry : (o : Option (FuncEntry × BodyEntry)) → defined_at m.tree index ≡ o
         → (unwrap_or (if_found o (λ d. option_map (λ ty. func_of m index ty d.1) (type_in m.tree d.0.type_index))) no_func).body ≡ Some body

@@ -6,23 +6,22 @@ use Rattle.c_tree.specs.Tree as tree
 use Rattle.c_meaning.specs.State as state
 use Rattle.c_meaning.specs.Machine as machine
 use Rattle.wasm_meaning.specs.Execution.{Calls}
-use Rattle.c_body.proofs.Bounds.{within_of}
-use Rattle.body_meaning.proofs.Common.{◌≡◌, ℕ, zero, suc, ◌+◌, ◌<◌, ◌≤◌, Bool, true, false, List, [], ◌∷◌, ◌++◌, map, length, replicate}
-use Rattle.body_meaning.proofs.Common.{is_some, if◌then◌else◌, IsSome, slice_get, Some, None, filter, Option, option_map, flat_map}
-use Rattle.body_meaning.proofs.Common.{bytes_eq, sym, refl, ap, ◌∙◌, subst, arith, length-map, none-some, same_Some, slice_get-map}
-use Rattle.body_meaning.proofs.Common.{slice_get_within, AllByRecursion, range_with_len, at_index, if_found, named, with_named, IsNumber}
-use Rattle.body_meaning.proofs.Common.{type_of, types_of, ValType, Value, global_of_import, global_space, imported_globals}
-use Rattle.body_meaning.proofs.Common.{is_global_import, is_memory_import, is_table_import, memory_of_import, memory_space, table_of_import}
-use Rattle.body_meaning.proofs.Common.{table_space, Import, ImportKind, ImportFunc, ImportGlobal, ImportMemory, ImportTable, Module}
-use Rattle.body_meaning.proofs.Common.{Context, HasMemory, HasTable, External, GlobalAddress, IndexSpaces, IsGlobal, IsLinked, LinkedSet}
-use Rattle.body_meaning.proofs.Common.{NamedModule, Resolves, as_global, as_memory, as_table, global_at, global_type, import_at, imports_of}
-use Rattle.body_meaning.proofs.Common.{instances, memory_at, module_at, spaces_of, table_at, put_number, Program, Evaluated, Is, NoRule}
-use Rattle.body_meaning.proofs.Common.{Number, Pointer, found, then_evaluate, Next, Step, act, as_object, assign, c_step, depth_name}
-use Rattle.body_meaning.proofs.Common.{evaluate_arg, in_unit, next, number_in, place_of, put_in, value_of, with_value, with_vars}
-use Rattle.body_meaning.proofs.Common.{first_global, global_name, memory_name, table_name, global_imports, memory_imports, table_imports}
-use Rattle.body_meaning.proofs.Common.{IsCallableIfAny, IsMade, MemoryAgrees, PointersAreSet, PointsTo, TableAgrees, Site, StandsAt}
-use Rattle.body_meaning.proofs.Common.{state_at, HasLimits, pointer_name, global_value, memory_arg, set_global, table_arg, IsSite}
-use Rattle.body_meaning.proofs.Common.{AreServed, types_many}
+use Rattle.body_definition.proofs.Bounds.{within_of}
+use Rattle.body_meaning.proofs.Common.{◌≡◌, ℕ, zero, suc, ◌+◌, ◌<◌, ◌≤◌, Bool, true, false, List, [], ◌∷◌, ◌++◌, map, length, replicate, ap}
+use Rattle.body_meaning.proofs.Common.{is_some, if◌then◌else◌, IsSome, slice_get, Some, None, filter, Option, option_map, flat_map, sym, Is}
+use Rattle.body_meaning.proofs.Common.{bytes_eq, refl, ◌∙◌, subst, arith, length-map, none-some, same_Some, slice_get-map, slice_get_within}
+use Rattle.body_meaning.proofs.Common.{AllByRecursion, range_with_len, at_index, if_found, named, with_named, IsNumber, type_of, types_of}
+use Rattle.body_meaning.proofs.Common.{ValType, Value, global_of_import, global_space, imported_globals, is_global_import, is_memory_import}
+use Rattle.body_meaning.proofs.Common.{is_table_import, memory_of_import, memory_space, table_of_import, table_space, Import, ImportKind}
+use Rattle.body_meaning.proofs.Common.{ImportFunc, ImportGlobal, ImportMemory, ImportTable, Module, Context, HasMemory, HasTable, External}
+use Rattle.body_meaning.proofs.Common.{GlobalAddress, IndexSpaces, IsGlobal, IsLinked, LinkedSet, NamedModule, Resolves, as_global, Program}
+use Rattle.body_meaning.proofs.Common.{as_memory, as_table, global_at, global_type, import_at, imports_of, instances, memory_at, module_at}
+use Rattle.body_meaning.proofs.Common.{spaces_of, table_at, put_number, Evaluated, NoRule, Number, Pointer, found, then_evaluate, Next, act}
+use Rattle.body_meaning.proofs.Common.{Step, as_object, assign, c_step, depth_name, evaluate_arg, in_unit, next, number_in, place_of, Site}
+use Rattle.body_meaning.proofs.Common.{put_in, value_of, with_value, with_vars, first_global, global_name, memory_name, table_name, IsMade}
+use Rattle.body_meaning.proofs.Common.{global_imports, memory_imports, table_imports, IsCallableIfAny, MemoryAgrees, PointersAreSet, IsSite}
+use Rattle.body_meaning.proofs.Common.{PointsTo, TableAgrees, StandsAt, state_at, HasLimits, pointer_name, global_value, memory_arg}
+use Rattle.body_meaning.proofs.Common.{set_global, table_arg, AreServed, types_many}
 use Rattle.w2c_base.proofs.Lists.{get_behind, get_none, get_numbered, get_past, filter_few}
 use Rattle.wasm_tree.proofs.ImportCounts.{of_kind, memory_count, table_count, global_count}
 use Rattle.alike.proofs.Store.{AreFew, global_seen, memory_seen, table_seen}
@@ -208,8 +207,7 @@ few_globals {s} owner {tree} {o} served is made =
       first,
       filter_few is_global_import tree.imports,
       count,
-      length-map tree.globals
-          (λ g. g.ty),
+      length-map tree.globals (λ g. g.ty),
       types_many o.globals,
     )
 

@@ -4,8 +4,8 @@ use Rattle.body_meaning.proofs.Common.{with_named, IsNumber, type_of, types_of, 
 use Rattle.body_meaning.proofs.Common.{most_operands, Site, slot, IsSite, occurs, peak, stands}
 use Rattle.wasm_meaning.specs.Execution as exec
 use Rattle.c_meaning.specs.State as state
-use Rattle.c_body.proofs.Heights.{stands_low, occurs_low}
-use Rattle.c_body.proofs.Peaks.{one_value}
+use Rattle.body_definition.proofs.Heights.{stands_low, occurs_low}
+use Rattle.body_definition.proofs.Peaks.{one_value}
 use Rattle.body_meaning.proofs.Vars.{push}
 
 pub slots_are_low : (t : ValType) (c : Context) (code : Code) (height : ℕ) → has_slot t c code height ≡ true → height < most_operands c code

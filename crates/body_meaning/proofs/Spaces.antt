@@ -67,8 +67,7 @@ instance_from hosts earlier (x ∷ modules) zero n {m} e at =
     let place : n ≡ length earlier = omega (arith, at) in
     let taken : take n (instances_behind hosts earlier (x ∷ modules)) ≡ earlier = rw (whole, place) (take-append_seam earlier (i ∷ r.0)) in
     let there : slice_get (instances_behind hosts earlier (x ∷ modules)) n ≡ Some i = rw (whole, at) (get_behind earlier (i ∷ r.0) 0) in (
-      there ∙ ap (λ m. Some (instance_of hosts earlier m)) (same_Some x m e)
-          ∙ ap (λ before. Some (instance_of hosts before m)) (sym taken),
+      there ∙ ap (λ m. Some (instance_of hosts earlier m)) (same_Some x m e) ∙ ap (λ before. Some (instance_of hosts before m)) (sym taken),
       ap length taken ∙ sym place,
     )
 instance_from hosts earlier (x ∷ modules) (suc k) n e at =
@@ -292,9 +291,7 @@ pub looked_up : {A : Type 0} (space : IndexSpaces → List (Option A)) (s : Link
     → slice_get s.modules p ≡ Some m
     → if_found (slice_get (instances s) p) (λ i. at_index (space i.spaces) index)
     ≡ at_index (space (spaces_of (import_at s p) p m.tree)) index
-looked_up space s p m index e =
-    let i = spaces_at s p e in
-    rw (i.1, i.2) refl
+looked_up space s p m index e = let i = spaces_at s p e in rw (i.1, i.2) refl
 
 -- what holds of all that a module's index space has
 space_has : {A : Type 0}

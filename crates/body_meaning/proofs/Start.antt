@@ -114,9 +114,7 @@ element_made code = go (has_element code)
 
 locals_joined : (k : ℕ) (xs ys : List Value) → local_vars k xs ++ local_vars (k + length xs) ys ≡ local_vars k (xs ++ ys)
 locals_joined k [] ys = ap (λ n. local_vars n ys) (omega arith)
-locals_joined k (x ∷ xs) ys =
-    let e : k + length (x ∷ xs) ≡ suc k + length xs = omega arith in
-    rw (e, locals_joined (suc k) xs ys) refl
+locals_joined k (x ∷ xs) ys = let e : k + length (x ∷ xs) ≡ suc k + length xs = omega arith in rw (e, locals_joined (suc k) xs ys) refl
 
 -- a function that is called with such arguments begins with these variables
 pub first_vars_are : (m : link.NamedModule) (index item : ℕ) (ty : FuncType) (entry : BodyEntry) (args : List Value)
@@ -233,8 +231,7 @@ slot_there t test a (suc n) h passes from to = elim (cases_eq a h) [
         → named (slot t h) (slot_vars t
         (cond keep (a ∷ filter test (range_with_len (a + 1) n)) (filter test (range_with_len (a + 1) n))))
         ≡ Some (state.Number (value t 0))
-    by_test true e = hidden (bytes_eq (slot t a) (slot t h))
-        (named (slot t h) (slot_vars t (filter test (range_with_len (a + 1) n)))) e
+    by_test true e = hidden (bytes_eq (slot t a) (slot t h)) (named (slot t h) (slot_vars t (filter test (range_with_len (a + 1) n)))) e
     by_test false e = e
 
 -- the arguments and zeros are its locals, and it has all its slots

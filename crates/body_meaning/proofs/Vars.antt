@@ -61,8 +61,7 @@ Takes held new = (old : state.CValue) × (held ≡ Some old) × (of_one_type old
 
 pub number_taken : (t : ValType) (held : Option state.CValue) (v : Value) → HoldsNumber t held → type_of v ≡ t
     → Takes held (state.Number v)
-number_taken t held v holds typed =
-    (state.Number holds.0, holds.1, numbers_of_one_type holds.0 v (holds.2 ∙ sym typed))
+number_taken t held v holds typed = (state.Number holds.0, holds.1, numbers_of_one_type holds.0 v (holds.2 ∙ sym typed))
 
 pub function_taken : (held : Option state.CValue) (to : Option state.FuncAddress) → HoldsFunction held
     → Takes held (state.FuncPointer to)
@@ -132,8 +131,7 @@ left_of : {slots : ValType → ℕ → Bool}
 left_of {vars} name new no_global no_pointer takes a = record {
   declared = λ t h is. still_holds (HoldsNumber t) (slot t h) name new vars takes (another_number t (named name vars) new takes)
       (a.declared t h is);
-  element = λ is. still_holds HoldsFunction element_name name new vars takes (another_function (named name vars) new takes)
-      (a.element is);
+  element = λ is. still_holds HoldsFunction element_name name new vars takes (another_function (named name vars) new takes) (a.element is);
   globals_seen = λ k. named-with_another (global_name k) name new vars (λ e. no_global k (sym e)) ∙ a.globals_seen k;
   pointers_seen = λ object. named-with_another (pointer_name object) name new vars (λ e. no_pointer object (sym e))
       ∙ a.pointers_seen object;

@@ -7,7 +7,7 @@ use Rattle.w2c_base.specs.Values.{type_of, types_of, IsNumber}
 use Rattle.w2c_base.specs.Lookup.{named}
 use Rattle.c_tree.specs.DefinedNames.{global_name, pointer_name}
 use Rattle.c_meaning.specs.State as state
-use Rattle.body_emitter.specs.Names.{slot, local_name, element_name}
+use Rattle.body_forms.specs.Names.{slot, local_name, element_name}
 
 -- each operand stands in its slot; the top comes first
 abbrev pub Stacked : List Value → state.Vars → Type 0

@@ -14,8 +14,8 @@ use Rattle.c_meaning.specs.Linking.{Program}
 use Rattle.c_meaning.specs.Run.{Pending, Progress, Going}
 use Rattle.c_meaning.specs.Reaches.{Reaches}
 use Rattle.alike.specs.CallsFollow.{Paid, Together, StopsAlike}
-use Rattle.body_emitter.specs.Branches.{Aim}
-use Rattle.c_body.specs.Plain.{Setting}
+use Rattle.body_forms.specs.Branches.{Aim}
+use Rattle.body_definition.specs.Plain.{Setting}
 use Rattle.body_meaning.specs.Agree.{VarsAgree}
 
 -- what does not change while a function's code runs: the program and the set, how many modules are

@@ -22,12 +22,12 @@ use Rattle.c_helpers.specs.declared.operation.Helper.{Helper}
 use Rattle.c_helpers.specs.Helpers.{helper_of}
 use Rattle.c_helpers.specs.Translated.{any_in}
 use Rattle.c_helpers.specs.Needed.{calls_helper}
-use Rattle.body_emitter.specs.Branches.{Aim, exit_of}
-use Rattle.c_body.specs.Stack.{stands, occurs, after}
-use Rattle.c_body.specs.Labels.{labels_in, targets as branches_to}
-use Rattle.c_body.specs.Limits.{BodyHasLimits}
-use Rattle.c_body.specs.Code.{emit, emit_kind}
-use Rattle.c_body.specs.Body.{func_of, has_slot, has_element, is_return, is_indirect}
+use Rattle.body_forms.specs.Branches.{Aim, exit_of}
+use Rattle.body_definition.specs.Stack.{stands, occurs, after}
+use Rattle.body_definition.specs.Labels.{labels_in, targets as branches_to}
+use Rattle.body_definition.specs.Limits.{BodyHasLimits}
+use Rattle.body_definition.specs.Code.{emit, emit_kind}
+use Rattle.body_definition.specs.Body.{func_of, has_slot, has_element, is_return, is_indirect}
 use Rattle.body_meaning.specs.Serves.{AreServed}
 use Rattle.alike.specs.Defines.{Defines}
 use Rattle.alike.specs.Placed.{IsPlaced}

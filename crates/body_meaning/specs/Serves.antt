@@ -15,7 +15,7 @@ use Rattle.c_helpers.specs.declared.operation.Helper.{Helper}
 use Rattle.c_helpers.specs.Helpers.{helper_of}
 use Rattle.c_helpers.specs.Needed.{helpers_of}
 use Rattle.c_symbols.specs.Symbols.{import_symbol, is_usable}
-use Rattle.c_body.specs.Body.{body_of}
+use Rattle.body_definition.specs.Body.{body_of}
 use Rattle.alike.specs.Defines.{Defines}
 
 -- the symbol of the function import with number k reaches the function that the import stands for

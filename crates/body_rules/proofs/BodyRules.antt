@@ -5,8 +5,8 @@ use Rattle.c_tree.specs.declared.tree.CType.TheVariants as type
 use Rattle.c_tree.specs.declared.tree.COp.TheVariants as op
 use Rattle.c_tree.specs.Tree as tree
 use Rattle.c_tree.specs.Scope as scope
-use Rattle.c_body.proofs.RulesOfLabels.{body_labels_differ}
-use Rattle.c_body.proofs.Heights.{stands_top}
+use Rattle.body_definition.proofs.RulesOfLabels.{body_labels_differ}
+use Rattle.body_definition.proofs.Heights.{stands_top}
 use Rattle.body_rules.proofs.Common.{◌≡◌, ℕ, suc, ◌+◌, ◌^◌, ◌<◌, ◌≤◌, Bool, true, false, ◌&&◌, List, [], ◌∷◌, ◌++◌, map, length, drop}
 use Rattle.body_rules.proofs.Common.{is_some, if◌then◌else◌, nat_le, slice_get, Some, codes, sym, refl, ap, ◌∙◌, subst, append_assoc, arith}
 use Rattle.body_rules.proofs.Common.{or_left, or_right, list_all-append, list_any-append, AllByRecursion, list_all, list_any, all_join}

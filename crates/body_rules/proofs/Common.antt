@@ -66,17 +66,17 @@ pub use Rattle.c_helpers.specs.declared.steps.Way.{Way}
 pub use Rattle.c_helpers.specs.declared.steps.Way.TheVariants.{ByHelper, ByOperator, ByShift}
 pub use Rattle.c_symbols.specs.Objects.{callee, global_value, memory_arg, set_global, table_arg}
 pub use Rattle.c_symbols.specs.Symbols.{c_func_type, global_imports, memory_imports, pointer_type, table_imports}
-pub use Rattle.body_emitter.specs.Branches.{Aim, branch_if, case_label, cases_from, entry_label, exit_label, exit_of, first_label, if_aim}
-pub use Rattle.body_emitter.specs.Branches.{is_straight, jump, jump_over, label_if, moving_case}
-pub use Rattle.body_emitter.specs.Frame.{change_depth, give_back}
-pub use Rattle.body_emitter.specs.Names.{element_name, local_name, slot}
-pub use Rattle.body_emitter.specs.Slots.{jump_if, operand, selected, set_slot, under}
-pub use Rattle.body_emitter.specs.Variables.{locals_from, params_from, params_of, zero_local}
-pub use Rattle.c_body.specs.Body.{code_stmts, element_local, func_of, has_element, has_slot, is_indirect, is_return, most_operands}
-pub use Rattle.c_body.specs.Body.{names_exit, slots_of, stmts_of}
-pub use Rattle.c_body.specs.Code.{behind, branch_table, call_element, call_indirect_stmts, call_named, call_of, call_stmts, emit, emit_else}
-pub use Rattle.c_body.specs.Code.{emit_kind, if_stmts, moving_cases, operands_from, result_slot}
-pub use Rattle.c_body.specs.Labels.{falls, labels_in, targets, targets_else, targets_in}
-pub use Rattle.c_body.specs.Plain.{Setting, by_way, bytes_stmt, call_helper, if_type, plain_stmts}
-pub use Rattle.c_body.specs.Stack.{after, occurs, occurs_in, occurs_in_else, peak, stands}
+pub use Rattle.body_forms.specs.Branches.{Aim, branch_if, case_label, cases_from, entry_label, exit_label, exit_of, first_label, if_aim}
+pub use Rattle.body_forms.specs.Branches.{is_straight, jump, jump_over, label_if, moving_case}
+pub use Rattle.body_forms.specs.Frame.{change_depth, give_back}
+pub use Rattle.body_forms.specs.Names.{element_name, local_name, slot}
+pub use Rattle.body_forms.specs.Slots.{jump_if, operand, selected, set_slot, under}
+pub use Rattle.body_forms.specs.Variables.{locals_from, params_from, params_of, zero_local}
+pub use Rattle.body_definition.specs.Body.{code_stmts, element_local, func_of, has_element, has_slot, is_indirect, is_return, most_operands}
+pub use Rattle.body_definition.specs.Body.{names_exit, slots_of, stmts_of}
+pub use Rattle.body_definition.specs.Code.{behind, branch_table, call_element, call_indirect_stmts, call_named, call_of, call_stmts, emit}
+pub use Rattle.body_definition.specs.Code.{emit_else, emit_kind, if_stmts, moving_cases, operands_from, result_slot}
+pub use Rattle.body_definition.specs.Labels.{falls, labels_in, targets, targets_else, targets_in}
+pub use Rattle.body_definition.specs.Plain.{Setting, by_way, bytes_stmt, call_helper, if_type, plain_stmts}
+pub use Rattle.body_definition.specs.Stack.{after, occurs, occurs_in, occurs_in_else, peak, stands}
 pub use Rattle.c_prelude.specs.Functions.{helper_type}

@@ -17,8 +17,8 @@ use Rattle.w2c_base.proofs.SignatureNumbers.{result_digit-small, type_digit-smal
 use Rattle.wasm_tree.specs.Instructions as wasm
 use Rattle.c_tree.specs.declared.tree.COp.TheVariants as op
 use Rattle.c_tree.specs.Tree as tree
-use Rattle.c_body.specs.Labels.{labels_of as label_count}
-use Rattle.c_body.proofs.Bounds.{not_wide}
+use Rattle.body_definition.specs.Labels.{labels_of as label_count}
+use Rattle.body_definition.proofs.Bounds.{not_wide}
 
 abbrev pub Fits : List tree.Stmt → Type 0
 Fits stmts = AllByRecursion (FitsStmt depth_limit) stmts
@@ -174,8 +174,7 @@ branch_if_fits types l aim = by (is_straight aim types)
     by true = ((tt, jump_if_fits), tt)
     by false = (
       (tt, jump_if_fits),
-      all_append (FitsStmt depth_limit) (jump aim types) (tree.Label (label_name l) ∷ [])
-          (jump_fits aim types) (tt, tt),
+      all_append (FitsStmt depth_limit) (jump aim types) (tree.Label (label_name l) ∷ []) (jump_fits aim types) (tt, tt),
     )
 
 if_aim_fits : (o : Option Aim) (f : Aim → List tree.Stmt) → ((aim : Aim) → Fits (f aim)) → Fits (if_aim o f)

@@ -8,7 +8,7 @@ use Rattle.c_tree.specs.Tree as tree
 use Rattle.c_tree.specs.Rules.{labels_of}
 use Rattle.c_tree.proofs.Names.{numbered}
 use Rattle.w2c_base.proofs.Lists.{all_weaker}
-use Rattle.c_body.proofs.RulesOfLabels.{body_within}
+use Rattle.body_definition.proofs.RulesOfLabels.{body_within}
 use Rattle.body_rules.proofs.Common.{◌≡◌, ℕ, suc, ◌+◌, ◌^◌, ◌<◌, ◌≤◌, Bool, true, false, ◌||◌, List, [], ◌∷◌, map, length, if◌then◌else◌}
 use Rattle.body_rules.proofs.Common.{slice_get, Some, None, filter_map, bytes_eq, sym, refl, subst, arith, bytes_eq-Decides, AllByRecursion}
 use Rattle.body_rules.proofs.Common.{all_append, named, FuncType, ValType, declared_locals, BodyEntry, has_wide, Context, context_of}
@@ -186,8 +186,7 @@ pub body_named : (m : NamedModule) (index : ℕ) (ty : FuncType) (body : BodyEnt
       body =
           record {
             locals = body_locals ty body (context_of m.tree ty body);
-            stmts =
-                stmts_of (record { named = m; context = context_of m.tree ty body }) body.code;
+            stmts = stmts_of (record { named = m; context = context_of m.tree ty body }) body.code;
           };
     }))
     (stmts_of (record { named = m; context = context_of m.tree ty body }) body.code)

@@ -1,19 +1,18 @@
 -- The parameters and local variables of a body's function: what each of their names stands for, that they are
 -- distinct, and that no other name is one of them.
 use Rattle.std.proofs.Common.{◌==◌}
-use Rattle.body_rules.proofs.Common.{◌≡◌, ℕ, zero, suc, ◌+◌, ◌^◌, ◌<◌, ◌≤◌, max, Bool, true, false, ◌||◌, ◌⊎◌, List, [], ◌∷◌, ◌++◌, map}
-use Rattle.body_rules.proofs.Common.{length, if◌then◌else◌, slice_get, Some, None, filter, bytes_eq, sym, refl, ap, ◌∙◌, subst, inl, inr}
-use Rattle.body_rules.proofs.Common.{append_assoc, arith, map-append, list_any-append, same_Some, AllByRecursion, range_with_len}
-use Rattle.body_rules.proofs.Common.{all_append, all_map, named, FuncType, ValType, declared_locals, Code, BodyEntry, Context, values}
-use Rattle.body_rules.proofs.Common.{are_distinct, is_own_name, Name, is_among, param_variables, CType, Plain, bytes_equal, c_type_of}
-use Rattle.body_rules.proofs.Common.{element_local, has_element, has_slot, locals_from, most_operands, params_from, params_of, slots_of}
-use Rattle.body_rules.proofs.Common.{zero_local, element_name, local_name, slot, occurs, peak, stands, zero-add, add-zero, all_filtered}
-use Rattle.body_rules.proofs.Common.{same_or_more, one_moves}
+use Rattle.body_rules.proofs.Common.{◌≡◌, ℕ, zero, suc, ◌+◌, ◌^◌, ◌<◌, ◌≤◌, max, Bool, true, false, ◌||◌, ◌⊎◌, List, [], ◌∷◌, ◌++◌, map, ap}
+use Rattle.body_rules.proofs.Common.{length, if◌then◌else◌, slice_get, Some, None, filter, bytes_eq, sym, refl, ◌∙◌, subst, inl, inr, arith}
+use Rattle.body_rules.proofs.Common.{append_assoc, map-append, list_any-append, same_Some, AllByRecursion, range_with_len, all_append, Code}
+use Rattle.body_rules.proofs.Common.{all_map, named, FuncType, ValType, declared_locals, BodyEntry, Context, values, are_distinct, Name}
+use Rattle.body_rules.proofs.Common.{is_own_name, is_among, param_variables, CType, Plain, bytes_equal, c_type_of, element_local, has_slot}
+use Rattle.body_rules.proofs.Common.{has_element, locals_from, most_operands, params_from, params_of, slots_of, zero_local, element_name}
+use Rattle.body_rules.proofs.Common.{local_name, slot, occurs, peak, stands, zero-add, add-zero, all_filtered, same_or_more, one_moves}
 use Rattle.w2c_base.specs.declared.value.ValType.TheVariants.{I32, I64}
 use Rattle.w2c_base.proofs.Lists.{all_weaker}
 use Rattle.c_tree.specs.declared.tree.CType.TheVariants as type
 use Rattle.c_tree.specs.Tree as tree
-use Rattle.c_body.proofs.Heights.{stands_low, occurs_low}
+use Rattle.body_definition.proofs.Heights.{stands_low, occurs_low}
 use Rattle.c_tree.proofs.NameClasses.{GivesNames, lettered, class_lettered}
 use Rattle.c_tree.proofs.NumberedLabels.{all_differ}
 use Rattle.c_tree.specs.NameClasses.{class}

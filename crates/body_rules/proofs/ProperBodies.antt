@@ -4,8 +4,8 @@ use Rattle.body_rules.proofs.Common.{list_any, FuncType, declared_locals, Code, 
 use Rattle.body_rules.proofs.Common.{most_operands, stmts_of, peak}
 use Rattle.std.proofs.lemmas.Map.Keys.{any_passes_from_place}
 use Rattle.c_tree.specs.Tree as tree
-use Rattle.c_body.proofs.Heights.{after_typed}
-use Rattle.c_body.proofs.Peaks.{one_value}
+use Rattle.body_definition.proofs.Heights.{after_typed}
+use Rattle.body_definition.proofs.Peaks.{one_value}
 use Rattle.body_rules.specs.BodiesAreProper.{IsTypedBody, BodiesKeepTheRules, BodiesAreFormed}
 use Rattle.body_rules.proofs.RulesOfBodies.{body_passes}
 use Rattle.body_rules.proofs.OwnNames.{body_locals}
@@ -45,8 +45,7 @@ bodies_are_formed m index ty body declared b few knows named name = (
         body =
             record {
               locals = body_locals ty body (context_of m.tree ty body);
-              stmts =
-                  stmts_of (record { named = m; context = context_of m.tree ty body }) body.code;
+              stmts = stmts_of (record { named = m; context = context_of m.tree ty body }) body.code;
             };
       })
       (record { named = m; context = context_of m.tree ty body }) body.code

@@ -242,8 +242,7 @@ return_passes s a e p = record {
   there = refl;
   known = p.known;
   typed = p.typed;
-  suits = rw
-      (e, p.suits) refl;
+  suits = rw (e, p.suits) refl;
   cases = refl;
 }
 

@@ -8,27 +8,26 @@ use Rattle.c_tree.specs.declared.tree.COp.TheVariants as op
 use Rattle.c_tree.specs.Tree as tree
 use Rattle.c_tree.specs.Rules.{labels_of}
 use Rattle.c_tree.specs.Makers as makers
-use Rattle.c_body.specs.Labels.{labels_of as label_count}
+use Rattle.body_definition.specs.Labels.{labels_of as label_count}
 use Rattle.body_rules.proofs.RulesOfKinds.{plain_kept, Knows, HasSlots, IsWithinCode, same_number, stands_under, shaped, operand_typed}
 use Rattle.body_rules.proofs.RulesOfKinds.{operand_arg, set_slot_passes, slot_takes, jump_if_passes, call_helper_passes, helper_in}
 use Rattle.body_rules.proofs.RulesOfKinds.{select_kept}
 use Rattle.c_tree.proofs.NumberedLabels.{labels-append}
-use Rattle.c_body.proofs.Heights.{stands_top, stands_occurs}
+use Rattle.body_definition.proofs.Heights.{stands_top, stands_occurs}
 use Rattle.c_tree.proofs.TypesInC.{proper_params}
-use Rattle.body_rules.proofs.Common.{◌≡◌, ℕ, zero, suc, ◌+◌, ◌<◌, Bool, true, false, not, ◌&&◌, ◌||◌, List, [], ◌∷◌, ◌++◌, map, reverse}
-use Rattle.body_rules.proofs.Common.{length, drop, if◌then◌else◌, ◌==◌, slice_get, Some, None, codes, Option, bytes_eq, sym, refl, ap, ◌∙◌}
-use Rattle.body_rules.proofs.Common.{subst, append_assoc, arith, or_left, or_right, length-reverse, reverse-append, list_any-append}
-use Rattle.body_rules.proofs.Common.{same_Some, AllByRecursion, list_all, list_any, all_append, at_index, named, sig_number_of, FuncType}
-use Rattle.body_rules.proofs.Common.{ValType, Code, Kind, Otherwise, else_code, end_code, no_else, then_code, Context, Labels, ElseHasType}
-use Rattle.body_rules.proofs.Common.{HasTable, HasType, KindHasType, Stack, Turns, values, are_distinct_numbers, case_value, is_result_type}
-use Rattle.body_rules.proofs.Common.{is_value_type, number_suits, Name, Scope, functions, is_among, N64, bytes_equal, c_result_of}
-use Rattle.body_rules.proofs.Common.{c_type_of, c_func_type, is_indirect, is_return, Aim, behind, branch_if, branch_table, call_element}
-use Rattle.body_rules.proofs.Common.{call_indirect_stmts, call_named, call_stmts, case_label, cases_from, emit, emit_else, emit_kind}
-use Rattle.body_rules.proofs.Common.{exit_label, exit_of, if_aim, if_stmts, is_straight, jump, jump_over, label_if, moving_case}
-use Rattle.body_rules.proofs.Common.{moving_cases, operands_from, result_slot, any_in, any_in_else, any_inside, falls, labels_in, targets}
-use Rattle.body_rules.proofs.Common.{targets_else, targets_in, element_name, label_name, callee, table_arg, Setting, jump_if, operand}
-use Rattle.body_rules.proofs.Common.{plain_stmts, set_slot, after, ends, occurs, occurs_in, occurs_in_else, stands, under, zero-add}
-use Rattle.body_rules.proofs.Common.{one_moves}
+use Rattle.body_rules.proofs.Common.{◌≡◌, ℕ, zero, suc, ◌+◌, ◌<◌, Bool, true, false, not, ◌&&◌, ◌||◌, List, [], ◌∷◌, ◌++◌, map, reverse, ap}
+use Rattle.body_rules.proofs.Common.{length, drop, if◌then◌else◌, ◌==◌, slice_get, Some, None, codes, Option, bytes_eq, sym, refl, ◌∙◌, N64}
+use Rattle.body_rules.proofs.Common.{subst, append_assoc, arith, or_left, or_right, length-reverse, reverse-append, list_any-append, named}
+use Rattle.body_rules.proofs.Common.{same_Some, AllByRecursion, list_all, list_any, all_append, at_index, sig_number_of, FuncType, ValType}
+use Rattle.body_rules.proofs.Common.{Code, Kind, Otherwise, else_code, end_code, no_else, then_code, Context, Labels, ElseHasType, HasTable}
+use Rattle.body_rules.proofs.Common.{HasType, KindHasType, Stack, Turns, values, are_distinct_numbers, case_value, is_result_type, Name}
+use Rattle.body_rules.proofs.Common.{is_value_type, number_suits, Scope, functions, is_among, bytes_equal, c_result_of, c_type_of, Aim}
+use Rattle.body_rules.proofs.Common.{c_func_type, is_indirect, is_return, behind, branch_if, branch_table, call_element, call_named, emit}
+use Rattle.body_rules.proofs.Common.{call_indirect_stmts, call_stmts, case_label, cases_from, emit_else, emit_kind, exit_label, exit_of}
+use Rattle.body_rules.proofs.Common.{if_aim, if_stmts, is_straight, jump, jump_over, label_if, moving_case, moving_cases, operands_from}
+use Rattle.body_rules.proofs.Common.{result_slot, any_in, any_in_else, any_inside, falls, labels_in, targets, targets_else, targets_in}
+use Rattle.body_rules.proofs.Common.{element_name, label_name, callee, table_arg, Setting, jump_if, operand, plain_stmts, set_slot, after}
+use Rattle.body_rules.proofs.Common.{ends, occurs, occurs_in, occurs_in_else, stands, under, zero-add, one_moves}
 use Rattle.c_helpers.specs.declared.operation.Helper.TheVariants as helper
 use Rattle.body_rules.proofs.Rules.{Passes, AreArgs, TakesResult, call_passes_as, through_passes, switch_passes, goto_passes, label_passes}
 use Rattle.body_rules.proofs.Rules.{null_passes, n32_typed, n64_typed, value_arg}
@@ -73,8 +72,7 @@ AreAims s slots aims is_named = (i : ℕ) (aim : Aim) → slice_get aims i ≡ S
 
 fewer_aims : (s : Scope) (slots : ValType → ℕ → Bool) (aims : List Aim) (most some : ℕ → Bool) → ((i : ℕ) → some i ≡ true → most i ≡ true)
     → AreAims s slots aims most → AreAims s slots aims some
-fewer_aims s slots aims most some f are i aim e =
-    record { there = λ is. (are i aim e).there (f i is); slot_is = (are i aim e).slot_is }
+fewer_aims s slots aims most some f are i aim e = record { there = λ is. (are i aim e).there (f i is); slot_is = (are i aim e).slot_is }
 
 inner_aims : (s : Scope) (slots : ValType → ℕ → Bool) (aim : Aim) (aims : List Aim) (outer inner : ℕ → Bool)
     → IsAim s slots (inner 0) aim → ((i : ℕ) → inner (suc i) ≡ true → outer i ≡ true) → AreAims s slots aims outer
@@ -164,8 +162,7 @@ module _ (s : Scope) (c : Setting) (whole : Code) (slots : ValType → ℕ → B
       by : (b : Bool) → All ((if b then [] else set_slot t height (operand t (under 1 types)) ∷ []) ++ tree.Goto (label_name l) ∷ [])
       by true = (goto_passes s (label_name l) there, tt)
       by false = (
-        set_slot_passes s c whole slots k t height _ (has t refl).0
-            (operand_typed s c whole slots k t (under 1 types) (has t refl).1),
+        set_slot_passes s c whole slots k t height _ (has t refl).0 (operand_typed s c whole slots k t (under 1 types) (has t refl).1),
         (goto_passes s (label_name l) there, tt),
       )
 
@@ -459,8 +456,7 @@ module _ (s : Scope) (c : Setting) (whole : Code) (slots : ValType → ℕ → B
 
   trap_passes : All (makers.trap trap.Unreachable ∷ [])
   trap_passes = (
-    call_passes_as s None (codes "w2c_trap") _ _ (type.U32 ∷ []) k.traps refl
-        (value_arg s _ type.U32 (n32_typed s _), tt) tt,
+    call_passes_as s None (codes "w2c_trap") _ _ (type.U32 ∷ []) k.traps refl (value_arg s _ type.U32 (n32_typed s _), tt) tt,
     tt,
   )
 

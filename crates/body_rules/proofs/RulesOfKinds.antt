@@ -25,7 +25,7 @@ use Rattle.c_tree.specs.declared.tree.COp.TheVariants as op
 use Rattle.c_tree.specs.Tree as tree
 use Rattle.c_tree.specs.Scope as scope
 use Rattle.c_tree.specs.Rules.{labels_of}
-use Rattle.c_body.proofs.Heights.{stands_top}
+use Rattle.body_definition.proofs.Heights.{stands_top}
 use Rattle.c_helpers.specs.declared.operation.NumOp.TheVariants as num
 use Rattle.c_helpers.specs.declared.operation.Helper.TheVariants as helper
 use Rattle.body_rules.proofs.Rules.{Passes, IsTyped, name_typed, n32_typed, n64_typed, op_typed, compare_typed, flag_typed, narrow_typed}

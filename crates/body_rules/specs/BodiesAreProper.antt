@@ -12,8 +12,8 @@ use Rattle.c_tree.specs.WellFormed.{IsName, NamedItem}
 use Rattle.c_tree.specs.Rules.{is_declared_once}
 use Rattle.c_tree.specs.FirstBroken.{broken_in_item}
 use Rattle.c_symbols.specs.FewParams.{HaveFewParams}
-use Rattle.c_body.specs.Limits.{BodyHasLimits}
-use Rattle.c_body.specs.Body.{func_of}
+use Rattle.body_definition.specs.Limits.{BodyHasLimits}
+use Rattle.body_definition.specs.Body.{func_of}
 use Rattle.c_tree.specs.NameClasses.{NoneOf}
 use Rattle.body_rules.specs.Declared.{FileKnows, NamedItems}
 

@@ -16,10 +16,10 @@ use Rattle.c_helpers.specs.declared.steps.Step.{Step}
 use Rattle.c_helpers.proofs.CodeLists.{code_more}
 use Rattle.body_emitter.specs.declared.emitter.Emitter.{Emitter}
 use Rattle.body_emitter.specs.Shown.{types_of}
-use Rattle.c_body.proofs.TypedBodies.{typed_body}
-use Rattle.c_body.proofs.Zipped.{pair_at}
-use Rattle.c_body.proofs.Bounds.{within_of}
-use Rattle.c_body.proofs.Heights.{after_typed}
+use Rattle.body_definition.proofs.TypedBodies.{typed_body}
+use Rattle.body_definition.proofs.Zipped.{pair_at}
+use Rattle.body_definition.proofs.Bounds.{within_of}
+use Rattle.body_definition.proofs.Heights.{after_typed}
 use Rattle.c_body.proofs.Marked.{covered_drop}
 use Rattle.c_body.proofs.Went.{Went, Goes}
 use Rattle.c_body.proofs.WentBlocks.{second_ready}

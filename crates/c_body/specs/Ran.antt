@@ -11,14 +11,14 @@ use Rattle.wasm_tree.specs.Instructions.{GlobalGet, GlobalSet}
 use Rattle.c_tree.specs.Makers as makers
 use Rattle.c_helpers.specs.declared.steps.Step.{Step}
 use Rattle.c_helpers.specs.Steps.{step_of, taken, given}
-use Rattle.body_emitter.specs.Frame.{begun, behind_code}
+use Rattle.body_emitter.specs.Begun.{begun, behind_code}
 use Rattle.body_emitter.specs.Made.{Made, aims_of, put, put_each, popped, give, with_labels, ended, returned, indirect, name_block}
 use Rattle.body_emitter.specs.Made.{name_blocks, switch_on, move_case, moved_cases, in_block, in_loop, in_first, in_second, behind_block}
 use Rattle.body_emitter.specs.Made.{behind_loop, behind_first, behind_second}
-use Rattle.body_emitter.specs.Branches.{exit_of, if_aim, jump, branch_if}
-use Rattle.c_body.specs.Plain.{Setting, plain_stmts}
-use Rattle.c_body.specs.Labels.{labels_of}
-use Rattle.c_body.specs.Code.{call_stmts, call_indirect_stmts}
+use Rattle.body_forms.specs.Branches.{exit_of, if_aim, jump, branch_if}
+use Rattle.body_definition.specs.Plain.{Setting, plain_stmts}
+use Rattle.body_definition.specs.Labels.{labels_of}
+use Rattle.body_definition.specs.Code.{call_stmts, call_indirect_stmts}
 use Rattle.c_body.specs.StepStmts.{step_stmt}
 
 abbrev pub did_step : Setting → Made → Step → Made

@@ -15,8 +15,8 @@ use Rattle.body_emitter.specs.Marks.{is_marked}
 use Rattle.body_emitter.specs.Shown.{HasOperands, types_of}
 use Rattle.body_emitter.specs.declared.mark.Mark.{Mark}
 use Rattle.body_emitter.specs.declared.emitter.Emitter.{Emitter}
-use Rattle.c_body.specs.Stack.{stands}
-use Rattle.c_body.specs.Labels.{labels_in, labels_in_else, labels_of}
+use Rattle.body_definition.specs.Stack.{stands}
+use Rattle.body_definition.specs.Labels.{labels_in, labels_in_else, labels_of}
 
 -- every operand on the stack is marked
 pub record Covered (types : Stack) (marks : List Mark) : Type 0 where

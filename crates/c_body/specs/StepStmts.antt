@@ -14,9 +14,9 @@ use Rattle.c_helpers.specs.declared.operation.Helper.TheVariants as helper
 use Rattle.c_helpers.specs.declared.steps.Step.{Step}
 use Rattle.c_helpers.specs.declared.steps.Step.TheVariants as step
 use Rattle.c_symbols.specs.Objects.{memory_arg}
-use Rattle.body_emitter.specs.Names.{slot}
-use Rattle.body_emitter.specs.Slots.{operand, set_slot}
-use Rattle.c_body.specs.Plain.{call_helper, bytes_stmt, by_way}
+use Rattle.body_forms.specs.Names.{slot}
+use Rattle.body_forms.specs.Slots.{operand, set_slot}
+use Rattle.body_definition.specs.Plain.{call_helper, bytes_stmt, by_way}
 
 -- a truth value is an u32
 abbrev pub as_value : Bool → tree.Expr → tree.Expr

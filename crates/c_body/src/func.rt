@@ -5,17 +5,21 @@ ghost use Rattle.w2c_base.specs.Lookup.{if_found};
 ghost use Rattle.w2c_base.specs.declared.value.ValType.TheVariants as type;
 ghost use Rattle.wasm_tree.specs.IndexSpaces.{declared_locals, type_in};
 ghost use Rattle.wasm_typing.specs.Context.{context_of};
-ghost use Rattle.c_tree.specs.View.{body_of as body_seen, func_of as func_seen};
+ghost use Rattle.c_tree.specs.View.{func_of as func_seen};
+ghost use Rattle.packed_stmts.specs.PackedItems.{packed_body_of, packed_func_of};
 ghost use Rattle.c_symbols.specs.Spaces.{named_of};
-ghost use Rattle.body_emitter.specs.Variables as variables;
+ghost use Rattle.body_forms.specs.Variables as variables;
+ghost use Rattle.body_emitter.specs.SlotVariables as slot_variables;
 ghost use Rattle.c_body.specs.Around.{setting_of};
-ghost use Rattle.c_body.specs.Body as function;
+ghost use Rattle.body_definition.specs.Body as function;
 ghost use Rattle.c_body.specs.Ready.{BodyIsReady};
 
 use crate::around::Around;
-use body_emitter::{Emitter, Mark, declared, params, put_element, put_slots, statements};
+use body_emitter::{Emitter, Mark, parts, put_element, put_slots};
+use body_forms::{declared, params};
 use c_symbols::{IndexSpaces, func_name};
-use c_tree::{Body, CType, Func, Locals, Name, Params, c_result};
+use c_tree::{CType, Func, Locals, Name, Params, c_result};
+use packed_stmts::{PackedBody, PackedFunc};
 use std::alloc::Global;
 use w2c_base::{FuncType, Memory, ValType};
 use wasm_tree::{BodyEntry, Code, Run};
@@ -61,9 +65,9 @@ fn all_locals(
 ) -> Result<Locals, Memory>
     requires { first < 2 ^ 63 }
     ensures { IfOk result (λ locals. locals ≡ ((variables.locals_from first own.now
-        ++ variables.slots_from type.I32 0 marks.now)
-        ++ variables.slots_from type.I64 0 marks.now)
-        ++ variables.element_if is_indirect) }
+        ++ slot_variables.slots_from type.I32 0 marks.now)
+        ++ slot_variables.slots_from type.I64 0 marks.now)
+        ++ slot_variables.element_if is_indirect) }
 {
     let mut locals = declared(alloc, first, own)?;
     put_slots(alloc, &mut locals, ValType::I32, marks)?;
@@ -73,10 +77,15 @@ fn all_locals(
 }
 
 // The variables and the statements of a body, whose own locals are numbered from the first on.
-fn whole_body(around: &Around, first: usize, own: &[ValType], code: &Code) -> Result<Body, Memory>
+fn whole_body(
+    around: &Around,
+    first: usize,
+    own: &[ValType],
+    code: &Code,
+) -> Result<PackedBody, Memory>
     requires first { first < 2 ^ 63 }
     requires ready { BodyIsReady (setting_of around.now).context code.now }
-    ensures { IfOk result (λ b. body_seen b ≡ record {
+    ensures { IfOk result (λ b. packed_body_of b ≡ record {
       locals = variables.locals_from first own.now
           ++ (function.slots_of type.I32 (setting_of around.now).context code.now
           ++ (function.slots_of type.I64 (setting_of around.now).context code.now
@@ -88,9 +97,9 @@ fn whole_body(around: &Around, first: usize, own: &[ValType], code: &Code) -> Re
     around.body(&mut emitter, code)?;
     let marks = emitter.operands.marks.as_slice();
     let made = all_locals(around.alloc, first, own, marks, emitter.is_indirect);
-    let stmts = statements(emitter);
+    let stmts = parts(emitter);
     let locals = made?;
-    Ok(Body { locals, stmts })
+    Ok(PackedBody { locals, stmts })
 }
 
 // The variables and the statements of a function of this type and this body.
@@ -99,9 +108,9 @@ fn content(
     spaces: &IndexSpaces,
     ty: &FuncType,
     body: &BodyEntry,
-) -> Result<Body, Memory>
+) -> Result<PackedBody, Memory>
     requires { BodyIsReady (context_of spaces.now.tree.now ty.now body.now) body.now.code }
-    ensures { IfOk result (λ b. body_seen b ≡ record {
+    ensures { IfOk result (λ b. packed_body_of b ≡ record {
       locals = variables.locals_from (length ty.now.params) (declared_locals body.now.runs)
           ++ (function.slots_of type.I32 (context_of spaces.now.tree.now ty.now body.now) body.now.code
           ++ (function.slots_of type.I64 (context_of spaces.now.tree.now ty.now body.now) body.now.code
@@ -127,24 +136,28 @@ fn defined(
     index: u32,
     ty: &FuncType,
     body: &BodyEntry,
-) -> Result<Func, Memory>
+) -> Result<PackedFunc, Memory>
     requires { BodyIsReady (context_of spaces.now.tree.now ty.now body.now) body.now.code }
-    ensures { IfOk result (λ f. func_seen f ≡ function.func_of (named_of spaces.now) index ty.now body.now) }
+    ensures { IfOk result (λ f. packed_func_of f ≡ function.func_of (named_of spaces.now) index ty.now body.now) }
 {
     let params = params(alloc, ty.params.as_slice())?;
     let name = func_name(alloc, index)?;
     let content = content(alloc, spaces, ty, body)?;
-    Ok(Func {
+    let head = Func {
         is_static: true,
         result: c_result(ty.result),
         name,
         params,
+        body: None,
+    };
+    Ok(PackedFunc {
+        head,
         body: Some(content),
     })
 }
 
 /// The type of the function that the module defines with an index.
-#[tactic(auto, using(crate::proofs::Zipped::no_func_type, crate::proofs::Zipped::no_body_type, crate::proofs::Zipped::type_of_both))]
+#[tactic(auto, using(body_definition::proofs::Zipped::no_func_type, body_definition::proofs::Zipped::no_body_type, body_definition::proofs::Zipped::type_of_both))]
 pub fn defined_type<'a>(spaces: &IndexSpaces<'a>, index: u32) -> Option<&'a FuncType>
     ensures { option_copied result ≡ if_found (function.defined_at spaces.now.tree.now index) (λ d. type_in spaces.now.tree.now d.0.type_index) }
 {
@@ -157,15 +170,16 @@ pub fn defined_type<'a>(spaces: &IndexSpaces<'a>, index: u32) -> Option<&'a Func
     }
 }
 
-/// The function with an index, by the module's index spaces. It is the translation of the function that the module defines with it.
-pub fn function(
+/// The function with an index, by the module's index spaces, its statements packed. It is the translation of the function that the
+/// module defines with it. Its one error is want of memory.
+pub fn packed_function(
     alloc: Global,
     m: &ValidModule,
     spaces: &IndexSpaces,
     index: u32,
-) -> Result<Func, Memory>
+) -> Result<PackedFunc, Memory>
     requires { m.now ≡ spaces.now.tree.now }
-    ensures { IfOk result (λ f. func_seen f ≡ function.body_of spaces.now.tree.now spaces.now.name.now index) }
+    ensures { IfOk result (λ f. packed_func_of f ≡ function.body_of spaces.now.tree.now spaces.now.name.now index) }
 {
     match spaces.func_at(index) {
         None => no_func(alloc),
@@ -184,16 +198,30 @@ pub fn function(
 }
 
 // What stands for a function that is not there.
-fn no_func(alloc: Global) -> Result<Func, Memory>
-    ensures { IfOk result (λ f. func_seen f ≡ function.no_func) }
+fn no_func(alloc: Global) -> Result<PackedFunc, Memory>
+    ensures { IfOk result (λ f. packed_func_of f ≡ function.no_func) }
 {
-    Ok(Func {
+    let head = Func {
         is_static: true,
         result: CType::Void,
         name: Name::new(alloc),
         params: Params::new(alloc),
         body: None,
-    })
+    };
+    Ok(PackedFunc { head, body: None })
+}
+
+// The same function with all its statements.
+fn function(
+    alloc: Global,
+    m: &ValidModule,
+    spaces: &IndexSpaces,
+    index: u32,
+) -> Result<Func, Memory>
+    requires { m.now ≡ spaces.now.tree.now }
+    ensures { IfOk result (λ f. func_seen f ≡ function.body_of spaces.now.tree.now spaces.now.name.now index) }
+{
+    packed_function(alloc, m, spaces, index)?.whole()
 }
 
 /// The function that the function of a module with an index is translated to, under the module's name. Of many

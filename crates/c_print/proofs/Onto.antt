@@ -9,6 +9,10 @@ pub onto_append : (page : Page) (xs ys : List Token) → printed_onto page (xs +
 onto_append page [] ys = refl
 onto_append page (x ∷ xs) ys = onto_append (printed page x) xs ys
 
+pub each_append : {A : Type 0} (f : A → List Token) (xs ys : List A) → each f (xs ++ ys) ≡ each f xs ++ each f ys
+each_append f [] ys = refl
+each_append f (x ∷ xs) ys = ap (λ ts. f x ++ ts) (each_append f xs ys) ∙ sym (append_assoc (f x) (each f xs) (each f ys))
+
 pub each_map : {A B : Type 0} (f : B → List Token) (view : A → B) (xs : List A) → each f (map view xs) ≡ each (λ x. f (view x)) xs
 each_map f view [] = refl
 each_map f view (x ∷ xs) = ap (λ ts. f (view x) ++ ts) (each_map f view xs)

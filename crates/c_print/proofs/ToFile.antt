@@ -272,7 +272,7 @@ module _ {F : Type 0} (f : Files F) where
   pub front_begins : (a : F) (p : Page) (all : List Token) → PrintsFront f a a p p all all
   front_begins a p all = record { given = []; split = refl; prints = prints_here f a p p [] refl }
 
-  front_more : (a b c : F) (p q r : Page) (all left next after : List Token) → PrintsFront f a b p q all left → left ≡ next ++ after
+  pub front_more : (a b c : F) (p q r : Page) (all left next after : List Token) → PrintsFront f a b p q all left → left ≡ next ++ after
       → Prints f b c q r next → PrintsFront f a c p r all after
   front_more a b c p q r all left next after front is prints = record {
     given = front.given ++ next;
@@ -280,12 +280,12 @@ module _ {F : Type 0} (f : Files F) where
     prints = prints_both f a b c p q r front.given next front.prints prints;
   }
 
-  front_ends : (a b : F) (p q : Page) (all left : List Token) → PrintsFront f a b p q all left → left ≡ [] → Prints f a b p q all
+  pub front_ends : (a b : F) (p q : Page) (all left : List Token) → PrintsFront f a b p q all left → left ≡ [] → Prints f a b p q all
   front_ends a b p q all left front none =
       prints_as f a b p q front.given all
       (sym (front.split ∙ ap (λ (l : List Token). front.given ++ l) none ∙ append-nil front.given)) front.prints
 
-  front_fails : (a b c : F) (p q : Page) (all left next after : List Token) (why : WriteAnswer) → PrintsFront f a b p q all left
+  pub front_fails : (a b c : F) (p q : Page) (all left next after : List Token) (why : WriteAnswer) → PrintsFront f a b p q all left
       → left ≡ next ++ after → HasFailed f b c (printed_onto q next).text why → HasFailed f a c (printed_onto p all).text why
   front_fails a b c p q all left next after why front is failed =
       subst (λ (l : List Token). HasFailed f a c (printed_onto p l).text why)
@@ -312,6 +312,26 @@ module _ {F : Type 0} (f : Files F) where
       → PrintsFront f a b p q (each of xs) (each of (drop i xs)) → Prints f a b p q (each of xs)
   pieces_end of a b p q xs i le front = front_ends a b p q (each of xs) (each of (drop i xs)) front (ap (each of) (drop_all i xs le))
 
+-- ---- what is put in three steps, of which the last stays on the page
+
+module _ {F : Type 0} (f : Files F) (a : F) (p : Page) (ts us vs : List Token) where
+  pub first_breaks : (b : F) (why : WriteAnswer) → HasFailed f a b (printed_onto p ts).text why
+      → HasFailed f a b (printed_onto p (ts ++ (us ++ vs))).text why
+  first_breaks b why failed = fails_in f a a b p p [] ts (us ++ vs) why (prints_here f a p p [] refl) failed
+
+  pub second_breaks : (b c : F) (q : Page) (why : WriteAnswer) → Prints f a b p q ts → HasFailed f b c (printed_onto q us).text why
+      → HasFailed f a c (printed_onto p (ts ++ (us ++ vs))).text why
+  second_breaks b c q why first failed = fails_in f a b c p q ts us vs why first failed
+
+  pub third_wants : (b c : F) (q r : Page) → Prints f a b p q ts → Prints f b c q r us
+      → HasFailed f a c (printed_onto p (ts ++ (us ++ vs))).text writing.Memory
+  third_wants b c q r first second = fails_last f a b c p q ts (us ++ vs) writing.Memory first (fails_between f b c q r us vs second)
+
+  pub all_three : (b c : F) (q r s : Page) → Prints f a b p q ts → Prints f b c q r us → s ≡ printed_onto r vs
+      → Prints f a c p s (ts ++ (us ++ vs))
+  all_three b c q r s first second is =
+      prints_both f a b c p q s ts (us ++ vs) first (prints_both f b c c q r s us vs second (prints_here f c r s vs is))
+
 -- ---- an item to its end
 
 module _ {F : Type 0} (f : Files F) where
@@ -322,13 +342,7 @@ module _ {F : Type 0} (f : Files F) where
       ap (λ (page : Page). (ended page).text) (sym first.page) ∙ ended_behind first.text q
       ∙ ap (λ (page : Page). first.text ++ page.text) (sym is)
 
-  -- memory was wanting for the newline
-  pub line_wants : (a b : F) (p q : Page) (ts : List Token) → Prints f a b p q ts
-      → HasFailed f a b (ended (printed_onto p ts)).text writing.Memory
-  line_wants a b p q ts first =
-      wanted_behind f a b (ended (printed_onto p ts)).text first.text (ended q).text (line_text a b p q (ended q) ts first refl) first.put
-
-  -- it was wanting in front of it, or a put failed there
+  -- memory was wanting in front of the newline, or a put failed there
   pub line_breaks : (a b : F) (p : Page) (ts : List Token) (why : WriteAnswer) → HasFailed f a b (printed_onto p ts).text why
       → HasFailed f a b (ended (printed_onto p ts)).text why
   unfolding ended

@@ -1,5 +1,7 @@
 // Parameters, local variables, bodies and functions.
-ghost use Rattle.std.specs.Prelude.{◌≡◌, ◌++◌, Some, OnOk, IfErr, IsSome, map};
+ghost use Rattle.std.specs.Prelude.{◌≡◌, ◌∷◌, ◌++◌, Some, OnOk, IfErr, IsSome, map};
+ghost use Rattle.c_tree.specs.declared.token.Tok.TheVariants as tok;
+ghost use Rattle.c_tree.specs.Tokens.{Fixed};
 ghost use Rattle.c_tree.specs.Trees.{each, local_tokens, param_tokens, close_tokens, func_tokens, stmt_tokens};
 ghost use Rattle.c_tree.specs.View.{stmt_of, body_of, maybe_body_of, func_of};
 ghost use Rattle.c_print.specs.Page.{printed_onto};
@@ -60,9 +62,9 @@ fn put_close(page: &mut Page, body: &Option<Body>) -> Result<(), Memory>
     }
 }
 
-// What stands in front of the body, or of the sign in its place.
+/// What stands in front of the body, or of the sign in its place.
 #[tactic(auto, using(crate::proofs::Onto::onto_append))]
-fn put_head(page: &mut Page, func: &Func) -> Result<(), Memory>
+pub fn put_head(page: &mut Page, func: &Func) -> Result<(), Memory>
     ensures { OnOk result (page.new ≡ printed_onto page.old (func_head (func_of func.now))) }
 {
     if func.is_static {
@@ -82,6 +84,21 @@ pub fn put_function(page: &mut Page, func: &Func) -> Result<(), Memory>
     put_close(page, &func.body)
 }
 
+/// The left brace of a body, and its local variables.
+pub fn put_open_to<F: Files>(
+    alloc: Global,
+    page: &mut Page,
+    locals: &[(CType, Name, Num)],
+    files: &mut F,
+) -> Result<(), WriteAnswer>
+    requires current { IsSome (F.current files.old) }
+    ensures whole { OnOk result (Prints F.Files files.old files.new page.old page.new (Fixed tok.LeftBrace ∷ each local_tokens locals.now)) }
+    ensures part { IfErr result (λ why. PrintsPart F.Files files.old files.new page.old (Fixed tok.LeftBrace ∷ each local_tokens locals.now) why) }
+{
+    page.fixed(Tok::LeftBrace)?;
+    put_each_to(alloc, page, &[], locals, files)
+}
+
 // A body in its braces, of which the statements before the last ones are put to the file.
 fn put_body_to<F: Files>(
     alloc: Global,
@@ -93,8 +110,7 @@ fn put_body_to<F: Files>(
     ensures whole { OnOk result (Prints F.Files files.old files.new page.old page.new (close_tokens (Some (body_of body.now)))) }
     ensures part { IfErr result (λ why. PrintsPart F.Files files.old files.new page.old (close_tokens (Some (body_of body.now))) why) }
 {
-    page.fixed(Tok::LeftBrace)?;
-    put_each_to(alloc, page, &[], body.locals.as_slice(), files)?;
+    put_open_to(alloc, page, body.locals.as_slice(), files)?;
     put_each_to(alloc, page, &[], body.stmts.as_slice(), files)?;
     page.fixed(Tok::RightBrace)?;
     Ok(())

@@ -127,6 +127,16 @@ fn put_item_to<F: Files>(
     }
 }
 
+/// Ends a page's last line, and puts what is left of its text to the file.
+pub fn put_end_to<F: Files>(page: &mut Page, files: &mut F) -> Result<(), WriteAnswer>
+    requires current { IsSome (F.current files.old) }
+    ensures whole { OnOk result (HasPut F.Files files.old files.new (ended page.old).text) }
+    ensures part { IfErr result (λ why. HasFailed F.Files files.old files.new (ended page.old).text why) }
+{
+    page.end()?;
+    put_text(page.text.as_slice(), files)
+}
+
 // An item with its last line ended, of which all is put to the file.
 fn put_line_to<F: Files>(
     alloc: Global,
@@ -140,8 +150,7 @@ fn put_line_to<F: Files>(
         (ended (printed_onto page.old (item_tokens (item_of item.now)))).text why) }
 {
     put_item_to(alloc, page, item, files)?;
-    page.end()?;
-    put_text(page.text.as_slice(), files)
+    put_end_to(page, files)
 }
 
 /// Appends the text of one item of a unit to the current file. It spells the item; the unit's text is the include

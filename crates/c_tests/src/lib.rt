@@ -11,6 +11,8 @@ mod machine;
 #[cfg(test)]
 mod objects;
 #[cfg(test)]
+mod packing;
+#[cfg(test)]
 mod replaying;
 #[cfg(test)]
 mod sessions;

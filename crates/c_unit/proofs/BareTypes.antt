@@ -4,8 +4,8 @@ use Rattle.c_unit.proofs.Common.{if_found, FuncType, ValType, type_in, BodyEntry
 use Rattle.c_unit.proofs.Common.{c_type_of, func_name, body_of, defined_at, func_of, params_of, no_name, prototype, bare_params}
 use Rattle.c_unit.proofs.Common.{prototype_of}
 use Rattle.c_tree.specs.Tree as tree
-use Rattle.body_emitter.specs.Variables.{params_from}
-use Rattle.c_body.specs.Body.{no_func}
+use Rattle.body_forms.specs.Variables.{params_from}
+use Rattle.body_definition.specs.Body.{no_func}
 
 bare_from : (k : ℕ) (types : List ValType) → map no_name (params_from k types) ≡ bare_params (map c_type_of types)
 bare_from k [] = refl

@@ -10,16 +10,17 @@ use Rattle.w2c_base.proofs.Lists.{get_mapped}
 use Rattle.c_tree.specs.declared.tree.CType.TheVariants as c_type
 use Rattle.c_tree.specs.Tree as tree
 use Rattle.c_symbols.specs.Reached.{usable_symbol}
-use Rattle.c_unit.specs.Arrays.{array_of}
-use Rattle.c_unit.proofs.SectionLists.{tabs, mems, global_item, globals, memory_pointers, table_pointers, pointer_item, global_pointers}
-use Rattle.c_unit.proofs.SectionLists.{declarations, helpers, exports, parts}
+use Rattle.unit_definition.specs.Arrays.{array_of}
+use Rattle.unit_definition.proofs.SectionLists.{tabs, mems, global_item, globals, memory_pointers, table_pointers, pointer_item}
+use Rattle.unit_definition.proofs.SectionLists.{global_pointers}
+use Rattle.unit_definition.proofs.SectionLists.{declarations, helpers, exports, parts}
 use Rattle.c_init.specs.Init.{part_func, parts_of}
 use Rattle.c_init.specs.Portions.{IsOf, part_of}
 use Rattle.std.specs.List.{AllByRecursion}
 use Rattle.w2c_base.proofs.OfEach.{all_at}
 use Rattle.c_init.specs.declared.portion.Portion.{Portion}
 use Rattle.c_symbols.proofs.Made.{stands_there}
-use Rattle.c_unit.proofs.Parted.{in_second, numbered_at}
+use Rattle.unit_definition.proofs.Parted.{in_second, numbered_at}
 
 -- a section has an item for each element of a list, made of the element and its place
 pub record Lists {A : Type 0} (made : List A) (section : List tree.Item) (make : ℕ → A → tree.Item) : Type 0 where

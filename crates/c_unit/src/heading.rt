@@ -1,6 +1,6 @@
 // The header of a module.
 ghost use Rattle.std.specs.Prelude.{◌≡◌, ◌++◌, ◌∷◌, [], IfOk, OnOk};
-ghost use Rattle.c_unit.specs.Items.{header_of};
+ghost use Rattle.unit_definition.specs.Items.{header_of};
 ghost use Rattle.c_unit.specs.Lines.{line_of};
 ghost use Rattle.c_symbols.specs.Named.{named_of};
 

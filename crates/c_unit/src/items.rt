@@ -8,9 +8,9 @@ ghost use Rattle.c_tree.specs.Tree as tree;
 ghost use Rattle.c_tree.specs.View.{item_of};
 ghost use Rattle.c_tree.specs.TypesInC.{c_params_of, c_type_of};
 ghost use Rattle.c_tree.specs.DefinedNames.{memory_name, table_name};
-ghost use Rattle.c_body.specs.Body.{body_of, defined_at, no_func};
+ghost use Rattle.body_definition.specs.Body.{body_of, defined_at, no_func};
 ghost use Rattle.c_init.specs.Init.{data_name};
-ghost use Rattle.c_unit.specs.Items as of;
+ghost use Rattle.unit_definition.specs.Items as of;
 ghost use Rattle.c_symbols.specs.Named.{pair_of};
 ghost use Rattle.c_unit.specs.Prototypes.{prototype_of, bare_params as bare_params_of};
 

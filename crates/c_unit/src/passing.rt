@@ -4,7 +4,7 @@ ghost use Rattle.c_tree.specs.Tree as tree;
 ghost use Rattle.c_tree.specs.View.{arg_of, func_of, stmt_of};
 ghost use Rattle.c_tree.specs.Makers.{zero_number};
 ghost use Rattle.c_tree.specs.TypesInC.{c_type_of};
-ghost use Rattle.c_unit.specs.Exports as of;
+ghost use Rattle.unit_definition.specs.Exports as of;
 ghost use Rattle.c_symbols.specs.Typed.{type_of};
 
 use c_symbols::SymbolType;

@@ -2,17 +2,18 @@
 ghost use Rattle.std.specs.Prelude.{◌≡◌, ◌+◌, map, slice_get, option_map, IfOk, OnErr};
 ghost use Rattle.std.specs.List.{AllByRecursion};
 ghost use Rattle.c_tree.specs.View.{item_of};
+ghost use Rattle.packed_stmts.specs.PackedItems.{packed_item_of};
 ghost use Rattle.c_tree.specs.DefinedNames.{global_name, pointer_name as pointer_name_of};
 ghost use Rattle.c_helpers.specs.Needed.{helpers_of};
 ghost use Rattle.c_symbols.specs.Symbols.{declared_symbols, global_imports};
 ghost use Rattle.c_symbols.specs.Named.{pair_of};
-ghost use Rattle.c_unit.specs.Items as of;
+ghost use Rattle.unit_definition.specs.Items as of;
 ghost use Rattle.c_init.specs.Init.{parts_of};
 ghost use Rattle.c_init.specs.Portions.{part_of, IsOf};
 ghost use Rattle.c_init.specs.Sources.{module_of};
 ghost use Rattle.c_unit.specs.OneProof.{own_all-prop, same_parts-prop};
 ghost use Rattle.c_unit.specs.Pointers.{pointed};
-ghost use Rattle.c_unit.specs.Arrays.{bytes_of, byte_segments};
+ghost use Rattle.unit_definition.specs.Arrays.{bytes_of, byte_segments};
 
 use crate::bodies::{body, prototype};
 use crate::declarations::declared;
@@ -24,6 +25,7 @@ use c_helpers::{Helper, helper, helpers};
 use c_init::{Portion, Source, portions_of};
 use c_symbols::{MEMORY_NAME, Symbol, TABLE_NAME, pointer_name, pointer_to_global};
 use c_tree::{CType, Item};
+use packed_stmts::PackedItem;
 use std::alloc::Global;
 use w2c_base::Memory;
 use wasm_tree::SegmentEntry;
@@ -108,13 +110,14 @@ impl<'a> Listed<'a> {
 }
 
 impl<'a> UnitItems<'a> {
-    ghost use Rattle.c_unit.specs.Items.{items};
-    ghost use Rattle.c_unit.specs.Tails as tail;
+    ghost use Rattle.unit_definition.specs.Items.{items};
+    ghost use Rattle.unit_definition.specs.Tails as tail;
+    ghost use Rattle.c_unit.specs.Left as given;
 
     /// The items of the unit of a module under a name. What all of them are made of is looked up here, once.
     pub fn new(alloc: Global, m: &'a ValidModule, name: &'a [u8]) -> Result<UnitItems<'a>, Memory>
         ensures module { IfOk result (λ u. module_of u.source ≡ record { name = name.now; tree = m.now }) }
-        ensures left { IfOk result (λ u. tail.left_of u ≡ of.items_of m.now name.now) }
+        ensures left { IfOk result (λ u. given.left_of u ≡ of.items_of m.now name.now) }
     {
         let source = Source::new(alloc, m, name)?;
         let listed = Listed::new(&source)?;
@@ -125,165 +128,190 @@ impl<'a> UnitItems<'a> {
         })
     }
 
-    fn at_memories(&self, n: usize) -> Result<Option<Item>, Memory>
-        ensures { IfOk result (λ item. option_map item_of item ≡ slice_get (tail.from_memories (module_of self.now.source)) n) }
+    fn at_memories(&self, n: usize) -> Result<Option<PackedItem>, Memory>
+        ensures { IfOk result (λ item. option_map packed_item_of item ≡ slice_get (tail.from_memories (module_of self.now.source)) n) }
     {
         let memories = self.source.tree.memories.as_slice();
         match memories.get(n) {
-            Some(_) => Ok(Some(memory(self.source.alloc)?)),
+            Some(_) => Ok(Some(PackedItem::Whole(memory(self.source.alloc)?))),
             None => self.at_globals(n.saturating_sub(memories.len())),
         }
     }
 
-    fn at_globals(&self, n: usize) -> Result<Option<Item>, Memory>
-        ensures { IfOk result (λ item. option_map item_of item ≡ slice_get (tail.from_globals (module_of self.now.source)) n) }
+    fn at_globals(&self, n: usize) -> Result<Option<PackedItem>, Memory>
+        ensures { IfOk result (λ item. option_map packed_item_of item ≡ slice_get (tail.from_globals (module_of self.now.source)) n) }
     {
         let globals = self.source.tree.globals.as_slice();
         match globals.get(n) {
-            Some(global) => Ok(Some(global_item(&self.source, n, global)?)),
+            Some(global) => Ok(Some(PackedItem::Whole(global_item(&self.source, n, global)?))),
             None => self.at_pointers(n.saturating_sub(globals.len())),
         }
     }
 
-    fn at_pointers(&self, n: usize) -> Result<Option<Item>, Memory>
-        ensures { IfOk result (λ item. option_map item_of item ≡ slice_get (tail.from_pointers (module_of self.now.source)) n) }
+    fn at_pointers(&self, n: usize) -> Result<Option<PackedItem>, Memory>
+        ensures { IfOk result (λ item. option_map packed_item_of item ≡ slice_get (tail.from_pointers (module_of self.now.source)) n) }
     {
         let alloc = self.source.alloc;
         let imports = self.source.reached();
         let memories = imports.memories.as_slice();
         match memories.get(n) {
-            Some(_) => Ok(Some(pointer(alloc, CType::PtrMem, MEMORY_NAME)?)),
+            Some(_) => Ok(Some(PackedItem::Whole(pointer(alloc, CType::PtrMem, MEMORY_NAME)?))),
             None => self.at_table_pointers(n.saturating_sub(memories.len())),
         }
     }
 
-    fn at_table_pointers(&self, n: usize) -> Result<Option<Item>, Memory>
-        ensures { IfOk result (λ item. option_map item_of item ≡ slice_get (tail.from_table_pointers (module_of self.now.source)) n) }
+    fn at_table_pointers(&self, n: usize) -> Result<Option<PackedItem>, Memory>
+        ensures { IfOk result (λ item. option_map packed_item_of item ≡ slice_get (tail.from_table_pointers (module_of self.now.source)) n) }
     {
         let alloc = self.source.alloc;
         let imports = self.source.reached();
         let tables = imports.tables.as_slice();
         match tables.get(n) {
-            Some(_) => Ok(Some(pointer(alloc, CType::PtrTab, TABLE_NAME)?)),
+            Some(_) => Ok(Some(PackedItem::Whole(pointer(alloc, CType::PtrTab, TABLE_NAME)?))),
             None => self.at_global_pointers(n.saturating_sub(tables.len())),
         }
     }
 
-    fn at_global_pointers(&self, n: usize) -> Result<Option<Item>, Memory>
-        ensures { IfOk result (λ item. option_map item_of item ≡ slice_get (tail.from_global_pointers (module_of self.now.source)) n) }
+    fn at_global_pointers(&self, n: usize) -> Result<Option<PackedItem>, Memory>
+        ensures { IfOk result (λ item. option_map packed_item_of item ≡ slice_get (tail.from_global_pointers (module_of self.now.source)) n) }
     {
         let pointers = self.listed.pointers.as_slice();
         match pointers.get(n) {
-            Some(ty) => Ok(Some(global_pointer(self.source.alloc, *ty, n)?)),
+            Some(ty) => Ok(Some(PackedItem::Whole(global_pointer(self.source.alloc, *ty, n)?))),
             None => self.at_data(n.saturating_sub(pointers.len())),
         }
     }
 
-    fn at_data(&self, n: usize) -> Result<Option<Item>, Memory>
-        ensures { IfOk result (λ item. option_map item_of item ≡ slice_get (tail.from_data (module_of self.now.source)) n) }
+    fn at_data(&self, n: usize) -> Result<Option<PackedItem>, Memory>
+        ensures { IfOk result (λ item. option_map packed_item_of item ≡ slice_get (tail.from_data (module_of self.now.source)) n) }
     {
         let arrays = self.listed.arrays.as_slice();
         match arrays.get(n) {
-            Some(entry) => Ok(Some(array(self.source.alloc, entry.0, entry.1)?)),
+            Some(entry) => Ok(Some(PackedItem::Whole(array(self.source.alloc, entry.0, entry.1)?))),
             None => self.at_declared(n.saturating_sub(arrays.len())),
         }
     }
 
-    fn at_declared(&self, n: usize) -> Result<Option<Item>, Memory>
-        ensures { IfOk result (λ item. option_map item_of item ≡ slice_get (tail.from_declared (module_of self.now.source)) n) }
+    fn at_declared(&self, n: usize) -> Result<Option<PackedItem>, Memory>
+        ensures { IfOk result (λ item. option_map packed_item_of item ≡ slice_get (tail.from_declared (module_of self.now.source)) n) }
     {
         let declared = self.listed.declared.as_slice();
         match declared.get(n) {
-            Some(symbol) => Ok(Some(declared_item(self.source.alloc, symbol)?)),
+            Some(symbol) => Ok(Some(PackedItem::Whole(declared_item(self.source.alloc, symbol)?))),
             None => self.at_prototypes(n.saturating_sub(declared.len())),
         }
     }
 
-    fn at_prototypes(&self, n: usize) -> Result<Option<Item>, Memory>
-        ensures { IfOk result (λ item. option_map item_of item ≡ slice_get (tail.from_prototypes (module_of self.now.source)) n) }
+    fn at_prototypes(&self, n: usize) -> Result<Option<PackedItem>, Memory>
+        ensures { IfOk result (λ item. option_map packed_item_of item ≡ slice_get (tail.from_prototypes (module_of self.now.source)) n) }
     {
         let count = self.source.tree.funcs.len();
         if n < count {
-            Ok(Some(prototype(&self.source, n)?))
+            Ok(Some(PackedItem::Whole(prototype(&self.source, n)?)))
         } else {
             self.at_helpers(n.saturating_sub(count))
         }
     }
 
-    fn at_helpers(&self, n: usize) -> Result<Option<Item>, Memory>
-        ensures { IfOk result (λ item. option_map item_of item ≡ slice_get (tail.from_helpers (module_of self.now.source)) n) }
+    fn at_helpers(&self, n: usize) -> Result<Option<PackedItem>, Memory>
+        ensures { IfOk result (λ item. option_map packed_item_of item ≡ slice_get (tail.from_helpers (module_of self.now.source)) n) }
     {
         let helpers = self.listed.helpers.as_slice();
         match helpers.get(n) {
-            Some(which) => Ok(Some(Item::Func(helper(self.source.alloc, *which)?))),
+            Some(which) => Ok(Some(PackedItem::Whole(Item::Func(helper(
+                self.source.alloc,
+                *which,
+            )?)))),
             None => self.at_bodies(n.saturating_sub(helpers.len())),
         }
     }
 
-    fn at_bodies(&self, n: usize) -> Result<Option<Item>, Memory>
-        ensures { IfOk result (λ item. option_map item_of item ≡ slice_get (tail.from_bodies (module_of self.now.source)) n) }
+    fn at_bodies(&self, n: usize) -> Result<Option<PackedItem>, Memory>
+        ensures { IfOk result (λ item. option_map packed_item_of item ≡ slice_get (tail.from_bodies (module_of self.now.source)) n) }
     {
         let count = self.source.tree.funcs.len();
         if n < count {
-            Ok(Some(Item::Func(body(&self.source, n)?)))
+            Ok(Some(PackedItem::Func(body(&self.source, n)?)))
         } else {
             self.at_exports(n.saturating_sub(count))
         }
     }
 
-    fn at_exports(&self, n: usize) -> Result<Option<Item>, Memory>
-        ensures { IfOk result (λ item. option_map item_of item ≡ slice_get (tail.from_exports (module_of self.now.source)) n) }
+    fn at_exports(&self, n: usize) -> Result<Option<PackedItem>, Memory>
+        ensures { IfOk result (λ item. option_map packed_item_of item ≡ slice_get (tail.from_exports (module_of self.now.source)) n) }
     {
         let exports = self.source.tree.exports.as_slice();
         match exports.get(n) {
-            Some(export) => Ok(Some(Item::Func(export_func(&self.source, n, export)?))),
+            Some(export) => Ok(Some(PackedItem::Whole(Item::Func(export_func(
+                &self.source,
+                n,
+                export,
+            )?)))),
             None => self.at_parts(n.saturating_sub(exports.len())),
         }
     }
 
     #[tactic(auto, using(crate::proofs::Standing::own_at))]
-    fn at_parts(&self, n: usize) -> Result<Option<Item>, Memory>
-        ensures { IfOk result (λ item. option_map item_of item ≡ slice_get (tail.from_parts (module_of self.now.source)) n) }
+    fn at_parts(&self, n: usize) -> Result<Option<PackedItem>, Memory>
+        ensures { IfOk result (λ item. option_map packed_item_of item ≡ slice_get (tail.from_parts (module_of self.now.source)) n) }
     {
         let parts = self.listed.parts.as_slice();
         match parts.get(n) {
-            Some(portion) => Ok(Some(Item::Func(self.source.part_func(n, *portion)?))),
+            Some(portion) => Ok(Some(PackedItem::Whole(Item::Func(
+                self.source.part_func(n, *portion)?,
+            )))),
             None => self.at_init(n.saturating_sub(parts.len())),
         }
     }
 
     #[tactic(auto, using(crate::proofs::Standing::as_many))]
-    fn at_init(&self, n: usize) -> Result<Option<Item>, Memory>
-        ensures { IfOk result (λ item. option_map item_of item ≡ slice_get (tail.from_init (module_of self.now.source)) n) }
+    fn at_init(&self, n: usize) -> Result<Option<PackedItem>, Memory>
+        ensures { IfOk result (λ item. option_map packed_item_of item ≡ slice_get (tail.from_init (module_of self.now.source)) n) }
     {
         if n == 0 {
             let parts = self.listed.parts.len();
-            Ok(Some(Item::Func(self.source.init_func(parts)?)))
+            Ok(Some(PackedItem::Whole(Item::Func(self.source.init_func(parts)?))))
         } else {
             Ok(None)
         }
     }
 
     // The item with a number.
-    fn at(&self, n: usize) -> Result<Option<Item>, Memory>
-        ensures { IfOk result (λ item. option_map item_of item ≡ slice_get (items (module_of self.now.source)) n) }
+    fn at(&self, n: usize) -> Result<Option<PackedItem>, Memory>
+        ensures { IfOk result (λ item. option_map packed_item_of item ≡ slice_get (items (module_of self.now.source)) n) }
     {
         let tables = self.source.tree.tables.as_slice();
         match tables.get(n) {
-            Some(_) => Ok(Some(table(self.source.alloc)?)),
+            Some(_) => Ok(Some(PackedItem::Whole(table(self.source.alloc)?))),
             None => self.at_memories(n.saturating_sub(tables.len())),
+        }
+    }
+
+    /// The next item, its statements packed; None exactly where all were given. Where memory was wanting, it can be asked for again.
+    pub fn next_packed(&mut self) -> Result<Option<PackedItem>, Memory>
+        ensures given { IfOk result (λ item. given.Given (option_map packed_item_of item) (given.left_of self.old) (given.left_of self.new)) }
+        ensures module { module_of self.new.source ≡ module_of self.old.source }
+        ensures err { OnErr result (given.left_of self.new ≡ given.left_of self.old) }
+    {
+        match self.at(self.number)? {
+            None => Ok(None),
+            Some(item) => {
+                self.number += 1;
+                Ok(Some(item))
+            }
         }
     }
 
     /// The next item, None exactly where all were given. Where memory was wanting, it can be asked for again.
     pub fn next(&mut self, _alloc: Global) -> Result<Option<Item>, Memory>
-        ensures given { IfOk result (λ item. tail.Given (option_map item_of item) (tail.left_of self.old) (tail.left_of self.new)) }
+        ensures given { IfOk result (λ item. given.Given (option_map item_of item) (given.left_of self.old) (given.left_of self.new)) }
         ensures module { module_of self.new.source ≡ module_of self.old.source }
-        ensures err { OnErr result (tail.left_of self.new ≡ tail.left_of self.old) }
+        ensures err { OnErr result (given.left_of self.new ≡ given.left_of self.old) }
     {
         match self.at(self.number)? {
             None => Ok(None),
-            Some(item) => {
+            Some(packed) => {
+                let item = packed.whole()?;
                 self.number += 1;
                 Ok(Some(item))
             }

@@ -1,8 +1,8 @@
 // The unit of a module, whole.
 ghost use Rattle.std.specs.Prelude.{◌≡◌, IfOk};
 ghost use Rattle.c_tree.specs.View.{unit_of};
-ghost use Rattle.c_unit.specs.Items.{header_of, items_of};
-ghost use Rattle.c_unit.specs.Tails.{left_of};
+ghost use Rattle.unit_definition.specs.Items.{header_of, items_of};
+ghost use Rattle.c_unit.specs.Left.{left_of};
 
 use crate::heading::header;
 use crate::unit_items::UnitItems;

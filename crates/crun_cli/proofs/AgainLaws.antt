@@ -77,11 +77,7 @@ module _ {G : Type 0} (n : HostModule G) (gs : List G) (line : RunLine) (units :
       got (Some files) = get files name
 
   first_run : IsAnsweredRun n gs units calls line.steps played.run.asks
-  first_run = record {
-    after = played.run.after;
-    answered = played.run.answered;
-    told = played.run.told;
-  }
+  first_run = record { after = played.run.after; answered = played.run.answered; told = played.run.told }
 
   module _ (steps : ℕ) (same_steps : steps ≡ line.steps) (replays : List ReplayHost) (are : AreReplays journal replays) (asks : List Asked)
       (second_run : IsAnsweredRun replaying replays units calls steps asks) where
@@ -237,20 +233,12 @@ module _ {H : Type 0} (hm : HostModule H) (words' : List Name) (line again : Run
             of (Write output unit) job in cc)
         of_answer other (By_run run) =
             let s = second (λ K k ks l us cs. HasAnswer K k ks l us cs other) run in
-            of_run s.0 s.1 s.2.0 (record {
-              after = s.2.1;
-              answered = s.2.2;
-              told = s.2.3;
-            }) other s.2.4
+            of_run s.0 s.1 s.2.0 (record { after = s.2.1; answered = s.2.2; told = s.2.3 }) other s.2.4
 
         answered_run : (old' new' : Outside) (other : ℕ) (replays : List ReplayHost)
             → (p : HasPlayed replaying replays again units calls old' new' other)
             → IsAnsweredRun replaying replays units calls again.steps p.run.asks
-        answered_run old' new' other replays p = record {
-          after = p.run.after;
-          answered = p.run.answered;
-          told = p.run.told;
-        }
+        answered_run old' new' other replays p = record { after = p.run.after; answered = p.run.answered; told = p.run.told }
 
         of_played : (old' new' : Outside) (other : ℕ) (replays : List ReplayHost)
             → AreReplays (journal n gs line units calls old new status played) replays

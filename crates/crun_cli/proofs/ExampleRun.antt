@@ -163,8 +163,7 @@ module _ {H : Type 0} (m : HostModule H) (hosts : List H) (contents : Contents)
 
   -- a run of this line, these units and these calls
   abbrev Of : Outside → Outside → ℕ → RunLine → List (List tree.Item) → List SymbolCall → Type 0
-  Of old new status line units calls =
-      WithHosts m hosts line.replayed contents (λ G n gs. HasPlayed n gs line units calls old new status)
+  Of old new status line units calls = WithHosts m hosts line.replayed contents (λ G n gs. HasPlayed n gs line units calls old new status)
 
   by_run : (old new : Outside) (status : ℕ) → Ran m hosts two_words contents old new status → IsPrinted old new status
   by_run old new status (line, units, calls, is_line, job, played) =

@@ -79,8 +79,7 @@ call_lines hosts k told asks o count = by o
     lines = event_lines hosts 0 told
 
     front : event_lines hosts 0 (told ++ events_in asks) ≡ lines ++ asks_lines hosts asks
-    front = event_lines_append hosts 0 told (events_in asks)
-        ∙ ap (λ l. lines ++ l) (lines_of_asks hosts (0 + length (values_in told)) asks)
+    front = event_lines_append hosts 0 told (events_in asks) ∙ ap (λ l. lines ++ l) (lines_of_asks hosts (0 + length (values_in told)) asks)
 
     stopped : (last : List ℕ) → event_lines hosts 0 (told ++ events_in asks) ++ last ≡ lines ++ (asks_lines hosts asks ++ last)
     stopped last = ap (λ l. l ++ last) front ∙ append_assoc lines (asks_lines hosts asks) last

@@ -1,18 +1,17 @@
 -- What passes through the files in a call, from what its steps say.
 use Rattle.crun_cli.proofs.Common.{◌≡◌, ℕ, Bool, ◌⊎◌, List, [], ◌∷◌, ◌++◌, Some, None, string_bytes, Option, MatchOption, sym, refl, ap}
-use Rattle.crun_cli.proofs.Common.{subst, inl, inr, append_assoc, append-nil, Name, Told, BreaksOff, WritesFile, WriteAnswer, longer}
-use Rattle.crun_cli.proofs.Common.{ReadsInOrder, limited, SymbolCall, hosts_of, HostModule, Asked, hosts_same, replaying, Recorded}
-use Rattle.crun_cli.proofs.Common.{journal_text, AreDistinct, JournalFile, ReplayHost, inputs_in_order, journal_in_order, journal_read}
-use Rattle.crun_cli.proofs.Common.{Line, RunLine, line_of, merges, runs, trims, AllRead, Held, JournalReading, LongCalls, LongJournal}
-use Rattle.crun_cli.proofs.Common.{LongUnit, NoJournal, NotThere, Reading, most_calls_bytes, most_journal_bytes, most_unit_bytes}
-use Rattle.crun_cli.proofs.Common.{GivesInputs, GivesJournal, ReadsFile, TriesInputs, TriesJournal, InputStop, IsTextsJob, Job, Run, Stops}
-use Rattle.crun_cli.proofs.Common.{Write, CallsLine, CallsTooLong, JournalLine, JournalTooLong, Reason, Refused, Unread, Unwritten, Usage}
-use Rattle.crun_cli.proofs.Common.{WantOfMemory, error_line, status_of, reason_of, stop_for, StopsTexts, by_so, units_so, IsMerged}
-use Rattle.crun_cli.proofs.Common.{IsTrimmedText, reason_for, WithHostsBy, journal_of, IsJobBy, IsReplayJob, symbols_of, BreaksJournal}
-use Rattle.crun_cli.proofs.Common.{IsReadLast, IsRunJobOver, PassesLine, PassesRun, PassesWords, ReadsMore, StopsFor, StopsQuietly}
-use Rattle.crun_cli.proofs.Common.{WritesJournal, WritesOfRun, WritesRun, journal_to_read, run_reads, HasRecorded, IsBlankFor, IsFilled}
-use Rattle.crun_cli.proofs.Common.{IsText, IsWritten, HasPart, GivesReplays, PutsJournal, PutsJournalPart, TriesReplay, WritesOfTexts}
-use Rattle.crun_cli.proofs.Common.{WritesOfTextsJob}
+use Rattle.crun_cli.proofs.Common.{subst, inl, inr, append_assoc, append-nil, Name, Told, BreaksOff, WritesFile, WriteAnswer, longer, Asked}
+use Rattle.crun_cli.proofs.Common.{ReadsInOrder, limited, SymbolCall, hosts_of, HostModule, hosts_same, replaying, Recorded, journal_text}
+use Rattle.crun_cli.proofs.Common.{AreDistinct, JournalFile, ReplayHost, inputs_in_order, journal_in_order, journal_read, Line, RunLine}
+use Rattle.crun_cli.proofs.Common.{line_of, merges, runs, trims, AllRead, Held, JournalReading, LongCalls, LongJournal, LongUnit, NoJournal}
+use Rattle.crun_cli.proofs.Common.{NotThere, Reading, most_calls_bytes, most_journal_bytes, most_unit_bytes, GivesInputs, GivesJournal, Job}
+use Rattle.crun_cli.proofs.Common.{ReadsFile, TriesInputs, TriesJournal, InputStop, IsTextsJob, Run, Stops, Write, CallsLine, CallsTooLong}
+use Rattle.crun_cli.proofs.Common.{JournalLine, JournalTooLong, Reason, Refused, Unread, Unwritten, Usage, WantOfMemory, error_line, by_so}
+use Rattle.crun_cli.proofs.Common.{status_of, reason_of, stop_for, StopsTexts, units_so, IsMerged, IsTrimmedText, reason_for, WithHostsBy}
+use Rattle.crun_cli.proofs.Common.{journal_of, IsJobBy, IsReplayJob, symbols_of, BreaksJournal, IsReadLast, IsRunJobOver, PassesLine}
+use Rattle.crun_cli.proofs.Common.{PassesRun, PassesWords, ReadsMore, StopsFor, StopsQuietly, WritesJournal, WritesOfRun, WritesRun, IsText}
+use Rattle.crun_cli.proofs.Common.{journal_to_read, run_reads, HasRecorded, IsBlankFor, IsFilled, IsWritten, HasPart, GivesReplays}
+use Rattle.crun_cli.proofs.Common.{PutsJournal, PutsJournalPart, TriesReplay, WritesOfTexts, WritesOfTextsJob}
 use Rattle.w2c_io.specs.Events.{Event}
 use Rattle.c_tree.specs.Tree as tree
 use Rattle.crun_words.specs.declared.inputs.InputStop.TheVariants as input
@@ -127,11 +126,7 @@ module _ {H : Type 0} (m : HostModule H) (hosts : List H) (line : RunLine) (old 
     written = [];
     split = sym (append-nil events);
     reads = inputs_in_order line.units line.calls reading (journal_to_read line.replayed) events gave;
-    follows = inr (
-      Stops why,
-      (reading, events, [], sym (append-nil events), gave, no_more line.replayed reading, job),
-      (refl, stopped),
-    );
+    follows = inr (Stops why, (reading, events, [], sym (append-nil events), gave, no_more line.replayed reading, job), (refl, stopped));
   }
 
   -- the units and the calls file are not all read
@@ -178,15 +173,7 @@ module _ {H : Type 0} (m : HostModule H) (hosts : List H) (line : RunLine) (old 
         go (inl wanting) = inl wanting
         go (inr (job, is, of)) = inr (
           job,
-          (
-            AllRead texts text,
-            first,
-            [],
-            sym (append-nil first),
-            gave,
-            no_more line.replayed (AllRead texts text),
-            rw none is,
-          ),
+          (AllRead texts text, first, [], sym (append-nil first), gave, no_more line.replayed (AllRead texts text), rw none is),
           behind job of,
         )
 
@@ -360,12 +347,9 @@ module _ {H : Type 0} (m : HostModule H) (hosts : List H) (words : List Name) (o
     where
       go : (o : Option Line) → Of [] o
       go None = (refl, same, inr stopped)
-      go (Some (runs line)) =
-          record { given = []; written = []; split = refl; reads = tt; follows = inl (refl, (same, stopped)) }
-      go (Some (merges line)) =
-          (same, record { given = []; written = []; split = refl; reads = tt; follows = inl (refl, stopped) })
-      go (Some (trims line)) =
-          (same, record { given = []; written = []; split = refl; reads = tt; follows = inl (refl, stopped) })
+      go (Some (runs line)) = record { given = []; written = []; split = refl; reads = tt; follows = inl (refl, (same, stopped)) }
+      go (Some (merges line)) = (same, record { given = []; written = []; split = refl; reads = tt; follows = inl (refl, stopped) })
+      go (Some (trims line)) = (same, record { given = []; written = []; split = refl; reads = tt; follows = inl (refl, stopped) })
 
 -- the status and the line of a reason
 pub stopped_for : (status : ℕ) (Said : List ℕ → Type 0) (why : Reason) → (status ≡ status_of why) ⊎ (status ≡ 5)

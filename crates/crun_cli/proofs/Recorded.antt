@@ -22,8 +22,7 @@ module _ {H : Type 0} (m : HostModule H) (hosts : List H) (units : List (List tr
     (shown : Bool) (old new : Option (List ℕ)) (status : ℕ) where
   -- what was asked fits the hosts' functions
   pub asks_fit : (run : HasRun m hosts units calls steps shown old new status) → list_all (fits (hosts_of m hosts)) run.asks ≡ true
-  asks_fit run = answered_fit m hosts units calls steps run.asks
-      (record { after = run.after; answered = run.answered; told = run.told })
+  asks_fit run = answered_fit m hosts units calls steps run.asks (record { after = run.after; answered = run.answered; told = run.told })
 
   -- a whole run is a part of it, and leaves the same hosts
   pub part_leaving : (run : HasRun m hosts units calls steps shown old new status) (left : List H) → run.after ≡ left

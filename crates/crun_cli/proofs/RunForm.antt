@@ -26,10 +26,7 @@ module _ {G : Type 0} (n : HostModule G) (gs : List G) (line : RunLine) (start m
 
   pub played_from : (units : List (List tree.Item)) (calls : List SymbolCall) (status : ℕ) → HasPlayed n gs line units calls Mid new status
       → HasPlayed n gs line units calls Old new status
-  played_from units calls status played = record {
-    run = played.run;
-    written = rw told at played.written;
-  }
+  played_from units calls status played = record { run = played.run; written = rw told at played.written }
 
   pub part_from : (units : List (List tree.Item)) (calls : List SymbolCall) → HasPlayedPart n gs line units calls Mid new
       → HasPlayedPart n gs line units calls Old new
@@ -167,10 +164,7 @@ module _ {H : Type 0} (hm : HostModule H) (hosts : List H) (line : RunLine) (wor
         untouched,
       )
       replay_stop name named old new same untouched JournalTooLong long = (
-        (
-          has_reading,
-          λ m tells. replay_job name named m (sym same ∙ tells) LongJournal (long m tells) (Stops JournalTooLong) refl,
-        ),
+        (has_reading, λ m tells. replay_job name named m (sym same ∙ tells) LongJournal (long m tells) (Stops JournalTooLong) refl),
         untouched,
       )
       replay_stop name named old new same untouched (JournalLine number) line_is = (

@@ -40,14 +40,7 @@ module _ {H : Type 0} (hm : HostModule H) (hosts : List H) (words : List Name) (
       × (new.told ≡ holding start.told output (print_of unit)) → Finished hm hosts words m Old New 0
   unit_done m (unit, asks, spells, written) = inr (
     refl,
-    record {
-      output = output;
-      unit = unit;
-      job = there m (Write output unit) asks;
-      spells = spells;
-      written = written;
-      nothing = refl;
-    },
+    record { output = output; unit = unit; job = there m (Write output unit) asks; spells = spells; written = written; nothing = refl },
   )
 
   unit_stop : (why : Reason) → StopsWrite Asks units output start new why → StopsWork hm hosts words Old New why

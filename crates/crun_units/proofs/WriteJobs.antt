@@ -1,8 +1,7 @@
 -- A line that has a unit written asks for at most one job.
-use Rattle.crun_units.proofs.Common.{◌≡◌, ℕ, List, [], ◌∷◌, slice_get, Some, Option, sym, ap, ◌∙◌, subst, inl, inr, Contents, Name}
-use Rattle.crun_units.proofs.Common.{IsTrimmed, MergeLine, TrimLine, UnitsRead, UnitsReading, one_first, Job, Stops, Write, Refused}
-use Rattle.crun_units.proofs.Common.{Symbols, IsRefusedText, IsUnitText, IsBehindUnits, IsMergeJob, IsMerged, IsTrimJob, IsTrimmedText}
-use Rattle.crun_units.proofs.Common.{IsUnitsJob}
+use Rattle.crun_units.proofs.Common.{◌≡◌, ℕ, List, [], ◌∷◌, slice_get, Some, Option, sym, ap, ◌∙◌, subst, inl, inr, Contents, Name, Job}
+use Rattle.crun_units.proofs.Common.{IsTrimmed, MergeLine, TrimLine, UnitsRead, UnitsReading, one_first, Stops, Write, Refused, Symbols}
+use Rattle.crun_units.proofs.Common.{IsRefusedText, IsUnitText, IsBehindUnits, IsMergeJob, IsMerged, IsTrimJob, IsTrimmedText, IsUnitsJob}
 use Rattle.c_tree.specs.Tree as tree
 use Rattle.c_merge.specs.Merge.{merged}
 use Rattle.c_trim.proofs.Needed.{one_trimmed}
@@ -64,5 +63,4 @@ one_trimmed_text line texts a b (inr (k, why, refused, is)) (inr (n, other, refu
     (one_first IsUnitText IsRefusedText text_apart one_cause texts k n why other refused refused').1 ∙ sym is'
 
 pub one_trim_job : (m : Contents) (line : TrimLine) (a b : Job) → IsTrimJob line m a → IsTrimJob line m b → a ≡ b
-one_trim_job m line a b first second =
-    one_units_job (IsTrimmedText line) (one_trimmed_text line) m (line.unit ∷ []) a b first second
+one_trim_job m line a b first second = one_units_job (IsTrimmedText line) (one_trimmed_text line) m (line.unit ∷ []) a b first second

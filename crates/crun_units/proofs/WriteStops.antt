@@ -30,8 +30,7 @@ module _ (IsOf : List (List ℕ) → Job → Type 0) (units : List Name) (output
   reading_stops (input.Unread name) (one, inl faulted) = (one, inl faulted, untouched)
   reading_stops (input.Unread name) (one, inr (m, tells, missing)) =
       (one, inr (m, tells, (NoUnit (string_bytes name), missing, refl)), untouched)
-  reading_stops (input.UnitTooLong name) (one, long) =
-      (one, (λ m tells. (UnitTooLong (string_bytes name), long m tells, refl)), untouched)
+  reading_stops (input.UnitTooLong name) (one, long) = (one, (λ m tells. (UnitTooLong (string_bytes name), long m tells, refl)), untouched)
   reading_stops input.Memory stops = λ m tells. inl untouched
   reading_stops _ stops = absurd stops
 

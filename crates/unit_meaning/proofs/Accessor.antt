@@ -8,7 +8,7 @@ use Rattle.c_tree.specs.Tree as tree
 use Rattle.c_meaning.specs.State.{Name}
 use Rattle.c_meaning.specs.Step as step
 use Rattle.c_meaning.proofs.Ways as ways
-use Rattle.c_unit.proofs.PointerTypes.{IsPointer, of_table}
+use Rattle.unit_definition.proofs.PointerTypes.{IsPointer, of_table}
 
 -- they may be returned where the type is a pointer's
 pointer_returned : {pointer : CType} → IsPointer pointer → (to : Option ObjectAddress)

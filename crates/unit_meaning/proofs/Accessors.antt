@@ -2,31 +2,29 @@
 -- through as many units as pass it on.
 use Rattle.unit_meaning.proofs.Common.{export_of, length, memory_imports, table_imports, ◌≡◌, ℕ, zero, suc, ◌+◌, ◌*◌, ◌<◌, Bool, true, List}
 use Rattle.unit_meaning.proofs.Common.{[], ◌∷◌, if◌then◌else◌, slice_get, Some, None, Option, option_map, sym, refl, ap, ◌∙◌, subst, arith}
-use Rattle.unit_meaning.proofs.Common.{at_index, ValType, export_symbol_of, SymbolKind, global_type_in, imported_globals, Export}
-use Rattle.unit_meaning.proofs.Common.{ExportKind, ExportFunc, ExportGlobal, ExportMemory, ExportTable, Import, ImportKind, ImportFunc}
-use Rattle.unit_meaning.proofs.Common.{ImportGlobal, ImportMemory, ImportTable, Module, Name, func_type_of, CType, Plain, External}
-use Rattle.unit_meaning.proofs.Common.{GlobalAddress, IndexSpaces, IsFunc, IsGlobal, IsMemory, IsTable, LinkedSet, NamedModule, global_type}
-use Rattle.unit_meaning.proofs.Common.{import_at, instances, Program, definition_at, external_func, func_named, func_type, primitive}
-use Rattle.unit_meaning.proofs.Common.{FuncAddress, ObjectAddress, UnitFunc, first_global, global_name, memory_name, table_name}
-use Rattle.unit_meaning.proofs.Common.{accessor_type, export_symbol, export_type, global_accessor_type, import_symbol, import_type}
-use Rattle.unit_meaning.proofs.Common.{is_usable, ResolvesAs, accessor, export_func, external, passes_on, result_name, usable_symbol}
-use Rattle.unit_meaning.proofs.Common.{IsAcceptedSet, program_of}
+use Rattle.unit_meaning.proofs.Common.{at_index, ValType, export_symbol_of, SymbolKind, global_type_in, imported_globals, Export, Import}
+use Rattle.unit_meaning.proofs.Common.{ExportKind, ExportFunc, ExportGlobal, ExportMemory, ExportTable, ImportKind, ImportFunc, ImportTable}
+use Rattle.unit_meaning.proofs.Common.{ImportGlobal, ImportMemory, Module, Name, func_type_of, CType, Plain, External, GlobalAddress}
+use Rattle.unit_meaning.proofs.Common.{IndexSpaces, IsFunc, IsGlobal, IsMemory, IsTable, LinkedSet, NamedModule, global_type, import_at}
+use Rattle.unit_meaning.proofs.Common.{instances, Program, definition_at, external_func, func_named, func_type, primitive, FuncAddress}
+use Rattle.unit_meaning.proofs.Common.{ObjectAddress, UnitFunc, first_global, global_name, memory_name, table_name, accessor_type, accessor}
+use Rattle.unit_meaning.proofs.Common.{export_symbol, export_type, global_accessor_type, import_symbol, import_type, is_usable, ResolvesAs}
+use Rattle.unit_meaning.proofs.Common.{export_func, external, passes_on, result_name, usable_symbol, IsAcceptedSet, program_of}
 use Rattle.w2c_base.specs.declared.value.ValType.TheVariants as val
 use Rattle.w2c_mangle.specs.declared.symbol.SymbolKind.TheVariants as symbol
 use Rattle.wasm_meaning.specs.LinkedSet as link
 use Rattle.c_tree.specs.declared.tree.CType.TheVariants as c_type
 use Rattle.c_tree.specs.Tree as tree
-use Rattle.c_unit.proofs.Defined.{IsExternal, export_external, export_is_no_primitive, kind_of, kind_of_global, symbol_is}
+use Rattle.unit_definition.proofs.Defined.{IsExternal, export_external, export_is_no_primitive, kind_of, kind_of_global, symbol_is}
 use Rattle.unit_meaning.proofs.Pointers.{ObjectCase, target_of, ByImport, table_case, memory_case, GlobalCase, ImportedGlobal, OwnGlobal}
-use Rattle.unit_meaning.proofs.Pointers.{global_case}
-use Rattle.unit_meaning.proofs.Pointers.{ImportedObject, OwnObject}
+use Rattle.unit_meaning.proofs.Pointers.{global_case, ImportedObject, OwnObject}
 use Rattle.unit_meaning.proofs.Instances.{IsPlaced, spaces_at}
 use Rattle.unit_meaning.proofs.Linked.{ExportedBy}
 use Rattle.unit_meaning.proofs.External.{SymbolFound, symbol_found, external_found, named_external}
 use Rattle.unit_meaning.proofs.Usable.{Origin, FromModule, FromHost, origin, origin_bytes, origin_differs, import_kind, import_symbol_is}
 use Rattle.unit_meaning.proofs.Usable.{import_resolves, type_as, type_is, usable}
 use Rattle.unit_meaning.proofs.Stands.{type_by, func_by}
-use Rattle.c_unit.proofs.PointerTypes.{IsPointer, of_table, of_memory, of_u32, of_u64}
+use Rattle.unit_definition.proofs.PointerTypes.{IsPointer, of_table, of_memory, of_u32, of_u64}
 use Rattle.unit_meaning.proofs.Accessor.{GivesPointer, own_stmts, passed_stmts, own_gives, passed_gives}
 use Rattle.unit_meaning.proofs.Globals.{GlobalTyped, global_typed}
 use Rattle.c_init.proofs.Small.{some_same}

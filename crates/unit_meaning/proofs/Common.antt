@@ -1,9 +1,8 @@
 -- What proofs of this crate cite of std, of the crates below and of specs/, passed on from one place. Declares nothing.
 pub use Rattle.std.proofs.Common.{◌≡◌, ℕ, zero, suc, ◌+◌, ◌-◌, ◌*◌, ◌/◌, ◌%◌, ◌^◌, ◌<◌, ◌≤◌, Bool, true, false, cond, not, ◌&&◌, ◌||◌, ◌≢◌}
 pub use Rattle.std.proofs.Common.{◌⊎◌, List, [], ◌∷◌, ◌++◌, map, reverse, length, take, drop, replicate, is_some, is_none, if◌then◌else◌}
-pub use Rattle.std.proofs.Common.{IsSome, slice_get, slice_set, Some, None, codes, All, Contains, filter, Option, option_map, find}
-pub use Rattle.std.proofs.Common.{zip, flat_map, filter_map, bytes_eq, sym, refl, ap, ◌∙◌, subst, inl, inr, append_assoc, arith}
-pub use Rattle.std.proofs.Common.{length-append}
+pub use Rattle.std.proofs.Common.{IsSome, slice_get, slice_set, Some, None, codes, All, Contains, filter, Option, option_map, find, zip}
+pub use Rattle.std.proofs.Common.{flat_map, filter_map, bytes_eq, sym, refl, ap, ◌∙◌, subst, inl, inr, append_assoc, arith, length-append}
 pub use Rattle.std.proofs.lemmas.Bool.Decides.{nat_tests}
 pub use Rattle.std.proofs.lemmas.Fmt.{decimal_injective}
 pub use Rattle.std.proofs.lemmas.List.{length-map}
@@ -14,16 +13,14 @@ pub use Rattle.std.proofs.lemmas.Slice.Eq.{bytes_eq-Decides}
 pub use Rattle.std.specs.List.{AllByRecursion, cons_option, list_any, position_from, range_with_len}
 pub use Rattle.std.specs.Option.{option_or}
 pub use Rattle.std.specs.Prelude.{⊤}
-pub use Rattle.w2c_base.proofs.Lists.{filter_few, get_behind, get_mapped}
-pub use Rattle.w2c_base.proofs.Lists.{get_numbered, get_unmapped}
+pub use Rattle.w2c_base.proofs.Lists.{filter_few, get_behind, get_mapped, get_numbered, get_unmapped}
 pub use Rattle.w2c_base.proofs.Nothing.{append_none, none_at}
 pub use Rattle.w2c_base.proofs.OfEach.{all_append, all_at}
 pub use Rattle.w2c_base.proofs.Places.{get_within, some_first, right_behind, take_front, get_front}
 pub use Rattle.w2c_base.specs.Lookup.{AreDistinct, at_index, if_found, named, numbered, with_named}
 pub use Rattle.w2c_base.specs.Run.{Ask, Call, Event, Gave, Host, HostFunction, HostTrapped, Init, Phase, Reply, Trail, asks_in}
 pub use Rattle.w2c_base.specs.Run.{call_ended, values_in}
-pub use Rattle.w2c_base.specs.Values.{IsNumber, bits, equal_func_types, equal_types, is_result, type_of, types_of}
-pub use Rattle.w2c_base.specs.Values.{value, zeros}
+pub use Rattle.w2c_base.specs.Values.{IsNumber, bits, equal_func_types, equal_types, is_result, type_of, types_of, value, zeros}
 pub use Rattle.w2c_base.specs.declared.signature.FuncType.{FuncType}
 pub use Rattle.w2c_base.specs.declared.trap.TrapKind.{TrapKind}
 pub use Rattle.w2c_base.specs.declared.value.ValType.{ValType}
@@ -102,14 +99,13 @@ pub use Rattle.c_helpers.specs.Needed.{helpers_of}
 pub use Rattle.c_helpers.specs.declared.operation.Helper.{Helper}
 pub use Rattle.c_symbols.specs.Objects.{callee, function_name, pointers_of}
 pub use Rattle.c_symbols.specs.Symbols.{Typed, accessor_type, c_func_type, c_func_type_if, declared_symbols, export_symbol, export_type}
-pub use Rattle.c_symbols.specs.Symbols.{firsts, func_imports, global_accessor_type, global_imports, global_kind}
-pub use Rattle.c_symbols.specs.Symbols.{import_symbol, import_type, imported_symbols, is_usable, memory_imports, pointer_type, symbol_type}
-pub use Rattle.c_symbols.specs.Symbols.{table_imports}
-pub use Rattle.body_emitter.specs.Variables.{params_of}
-pub use Rattle.c_body.proofs.Bounds.{within_of}
-pub use Rattle.c_body.specs.Body.{body_of, defined_at, func_of}
-pub use Rattle.c_body.specs.Limits.{HasLimits}
-pub use Rattle.c_body.specs.Needs.{needs_of}
+pub use Rattle.c_symbols.specs.Symbols.{firsts, func_imports, global_accessor_type, global_imports, global_kind, import_symbol, import_type}
+pub use Rattle.c_symbols.specs.Symbols.{imported_symbols, is_usable, memory_imports, pointer_type, symbol_type, table_imports}
+pub use Rattle.body_forms.specs.Variables.{params_of}
+pub use Rattle.body_definition.proofs.Bounds.{within_of}
+pub use Rattle.body_definition.specs.Body.{body_of, defined_at, func_of}
+pub use Rattle.body_definition.specs.Limits.{HasLimits}
+pub use Rattle.body_definition.specs.Needs.{needs_of}
 pub use Rattle.c_prelude.proofs.Functions.{made_static}
 pub use Rattle.c_tree.specs.DeclaredNames.{vars_in}
 pub use Rattle.body_meaning.proofs.Spaces.{ResolvesAs, behind_is, callable_later}
@@ -117,14 +113,14 @@ pub use Rattle.alike.specs.Objects.{global_object, memory_object, table_object}
 pub use Rattle.body_meaning.specs.Bodies.{BodiesFollow}
 pub use Rattle.body_meaning.specs.Serves.{AreServed, Reached}
 pub use Rattle.alike.specs.Defines.{Defines}
-pub use Rattle.c_unit.specs.Exports.{accessor, args_from, export_func, external, named_params, param_name, params_from, passes_on}
-pub use Rattle.c_unit.specs.Exports.{result_name, usable_symbol}
+pub use Rattle.unit_definition.specs.Exports.{accessor, args_from, export_func, external, named_params, param_name, params_from, passes_on}
+pub use Rattle.unit_definition.specs.Exports.{result_name, usable_symbol}
 pub use Rattle.c_init.specs.Init.{data_name, init_func}
 pub use Rattle.init_meaning.specs.InitFollows.{InitFollows}
 pub use Rattle.unit_meaning.specs.Instantiation.{IsUntouched, UnitsAreInstantiatedAlike, object_types}
 pub use Rattle.init_meaning.specs.Tasks.{and_then, do_tasks}
 pub use Rattle.init_meaning.specs.Zeros.{zero_like, zeroed}
-pub use Rattle.c_unit.specs.Items.{bodies, data_of, declaration, items, objects_of, prototype}
+pub use Rattle.unit_definition.specs.Items.{bodies, data_of, declaration, items, objects_of, prototype}
 pub use Rattle.unit_meaning.specs.Sets.{Forward, IsAcceptedSet, IsListing, NeverStops, Paired, Pairing, UnitsArePaired, UnitsDoTheSame}
 pub use Rattle.unit_meaning.specs.Sets.{UnitsLink, UnitsServe, c_run_of, program_of, symbol_call}
-pub use Rattle.c_unit.specs.Accepted.{IsAccepted}
+pub use Rattle.unit_definition.specs.Accepted.{IsAccepted}

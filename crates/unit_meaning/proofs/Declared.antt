@@ -1,14 +1,13 @@
 -- The variables that a unit declares for its module, and its arrays of data, are found by their names (C11, 6.9.2).
 use Rattle.unit_meaning.proofs.Common.{◌≡◌, ℕ, zero, suc, ◌+◌, ◌^◌, ◌<◌, Bool, true, false, ◌≢◌, List, [], ◌∷◌, ◌++◌, map, length, is_some}
 use Rattle.unit_meaning.proofs.Common.{if◌then◌else◌, slice_get, Some, None, Option, option_map, zip, flat_map, filter_map, bytes_eq, refl}
-use Rattle.unit_meaning.proofs.Common.{ap, ◌∙◌, append_assoc, arith, decimal_injective, none-some, same_Some, slice_get_within}
-use Rattle.unit_meaning.proofs.Common.{AllByRecursion, cons_option, range_with_len, ⊤, all_append, get_within, some_first, if_found, named}
-use Rattle.unit_meaning.proofs.Common.{numbered, value, ValType, global_space, imported_global_space, imported_globals, GlobalEntry}
-use Rattle.unit_meaning.proofs.Common.{LimitsEntry, SegmentEntry, Module, Name, CType, LinkedSet, NamedModule, bytes_differ, bytes_equal}
-use Rattle.unit_meaning.proofs.Common.{array_bytes, array_named, c_type_of, global_name, memory_name, table_name, global_imports}
-use Rattle.unit_meaning.proofs.Common.{memory_imports, pointer_type, table_imports, vars_in, get_behind, get_front, get_mapped}
-use Rattle.unit_meaning.proofs.Common.{global_count, pointer_name, pointers_of, data_name, zero_like, data_of, items, objects_of}
-use Rattle.unit_meaning.proofs.Common.{IsAccepted, program_of}
+use Rattle.unit_meaning.proofs.Common.{ap, ◌∙◌, append_assoc, arith, decimal_injective, none-some, same_Some, slice_get_within, cons_option}
+use Rattle.unit_meaning.proofs.Common.{AllByRecursion, range_with_len, ⊤, all_append, get_within, some_first, if_found, named, numbered}
+use Rattle.unit_meaning.proofs.Common.{value, ValType, global_space, imported_global_space, imported_globals, GlobalEntry, LimitsEntry}
+use Rattle.unit_meaning.proofs.Common.{SegmentEntry, Module, Name, CType, LinkedSet, NamedModule, bytes_differ, bytes_equal, array_bytes}
+use Rattle.unit_meaning.proofs.Common.{array_named, c_type_of, global_name, memory_name, table_name, global_imports, memory_imports, items}
+use Rattle.unit_meaning.proofs.Common.{pointer_type, table_imports, vars_in, get_behind, get_front, get_mapped, global_count, pointer_name}
+use Rattle.unit_meaning.proofs.Common.{pointers_of, data_name, zero_like, data_of, objects_of, IsAccepted, program_of}
 use Rattle.w2c_base.specs.declared.value.ValType.TheVariants as type
 use Rattle.c_tree.specs.declared.tree.CType.TheVariants as c_type
 use Rattle.c_tree.specs.Tree as c
@@ -16,8 +15,8 @@ use Rattle.c_meaning.specs.State as state
 use Rattle.c_meaning.specs.Machine as machine
 use Rattle.init_meaning.specs.Zeros.{held}
 use Rattle.init_meaning.specs.Declared.{IsDeclared}
-use Rattle.c_unit.proofs.KnownNames.{imported_global}
-use Rattle.c_unit.proofs.Knowledge.{own_global, imported_global_is, imported_memory_is, imported_table_is}
+use Rattle.unit_definition.proofs.KnownNames.{imported_global}
+use Rattle.unit_definition.proofs.Knowledge.{own_global, imported_global_is, imported_memory_is, imported_table_is}
 use Rattle.c_init.proofs.Small.{behind_letter, all_images}
 
 -- ---- what is found of lists of items

@@ -1,17 +1,16 @@
 -- What symbols reach: the one unit that defines them, or a host's function.
-use Rattle.unit_meaning.proofs.Common.{None, primitive, ◌≡◌, ℕ, ◌<◌, false, ◌≢◌, List, map, is_some, slice_get, Some, All, Option}
-use Rattle.unit_meaning.proofs.Common.{option_map, sym, refl, ap, ◌∙◌, arith, position_from, option_or, if_found}
-use Rattle.unit_meaning.proofs.Common.{export_symbol_of-injective, export_symbol_of, SymbolKind, Export, func_type_of, External, LinkedSet}
-use Rattle.unit_meaning.proofs.Common.{NamedModule, Definition, defined, defined_for_all, definition_at, external_func, func_named}
-use Rattle.unit_meaning.proofs.Common.{func_type, UnitFunc, export_symbol, get_mapped, get_unmapped, export_func, items, IsAcceptedSet}
-use Rattle.unit_meaning.proofs.Common.{program_of}
+use Rattle.unit_meaning.proofs.Common.{None, primitive, ◌≡◌, ℕ, ◌<◌, false, ◌≢◌, List, map, is_some, slice_get, Some, All, Option, sym, ap}
+use Rattle.unit_meaning.proofs.Common.{option_map, refl, ◌∙◌, arith, position_from, option_or, if_found, export_symbol_of-injective, Export}
+use Rattle.unit_meaning.proofs.Common.{export_symbol_of, SymbolKind, func_type_of, External, LinkedSet, NamedModule, Definition, defined}
+use Rattle.unit_meaning.proofs.Common.{defined_for_all, definition_at, external_func, func_named, func_type, UnitFunc, export_symbol, items}
+use Rattle.unit_meaning.proofs.Common.{get_mapped, get_unmapped, export_func, IsAcceptedSet, program_of}
 use Rattle.alike.specs.Defines.{Defines}
 use Rattle.c_tree.specs.Tree as tree
 use Rattle.c_meaning.specs.State.{Name}
 use Rattle.c_meaning.specs.Linking.{typed}
-use Rattle.c_unit.proofs.Found.{position_at}
-use Rattle.c_unit.proofs.Defined.{FirstExport, IsDefinition, kind_of, symbol_is, export_external, export_defined, other_export_undefined}
-use Rattle.c_unit.proofs.Defined.{typed_outside, head}
+use Rattle.unit_definition.proofs.Found.{position_at}
+use Rattle.unit_definition.proofs.Defined.{FirstExport, IsDefinition, kind_of, symbol_is, export_external, export_defined}
+use Rattle.unit_definition.proofs.Defined.{other_export_undefined, typed_outside, head}
 use Rattle.unit_meaning.proofs.Linked.{ExportedBy, modules_differ, accepted_at}
 
 -- ---- a symbol of an export
@@ -77,10 +76,7 @@ pub record SymbolFound (s : LinkedSet) (owner : ℕ) (m : NamedModule) (e : Expo
 pub symbol_at : (s : LinkedSet) → IsAcceptedSet s → (v : ℕ) (n : NamedModule) → slice_get s.modules v ≡ Some n → (e : Export)
     → FirstExport n (export_symbol n e) e → SymbolFound s v n e
 symbol_at s accepted v n is e first = record {
-  definition = (
-    both.0.0,
-    ap (λ (u : Option (List tree.Item)). if_found u (λ unit. defined unit symbol)) (unit_at s v n is) ∙ both.0.1,
-  );
+  definition = (both.0.0, ap (λ (u : Option (List tree.Item)). if_found u (λ unit. defined unit symbol)) (unit_at s v n is) ∙ both.0.1);
   first_unit = position_at (λ unit. is_some (defined_for_all unit symbol)) 0 (units_of s) v (items n) (unit_at s v n is)
       (ap is_some both.1.1)
       (λ i unit less at. rw (symbol_is n e) (others_undefined s accepted n.name small (kind_of n e) e.name i unit at

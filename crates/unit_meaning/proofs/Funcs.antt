@@ -1,10 +1,10 @@
 -- A function's index: an import's, or that of a function which the module defines, with the type of each.
-use Rattle.c_body.proofs.Zipped.{zip_at}
+use Rattle.body_definition.proofs.Zipped.{zip_at}
 use Rattle.wasm_tree.proofs.ImportCounts.{func_count}
 use Rattle.w2c_base.proofs.Places.{get_before}
 use Rattle.wasm_meaning.specs.LinkedSet.{FuncAddress, func_type}
-use Rattle.c_unit.proofs.Defined.{in_range}
-use Rattle.c_unit.proofs.AcceptedLimits.{accepted_limits}
+use Rattle.unit_definition.proofs.Defined.{in_range}
+use Rattle.unit_definition.proofs.AcceptedLimits.{accepted_limits}
 use Rattle.wasm_typing.specs.declared.fault.ValidCause.TheVariants.{UnknownType}
 use Rattle.c_init.proofs.NoFaults.{rows_of}
 use Rattle.unit_meaning.proofs.Common.{◌≡◌, ℕ, zero, suc, ◌+◌, ◌-◌, ◌<◌, ◌≤◌, Bool, true, false, ◌⊎◌, List, [], ◌∷◌, ◌++◌, map, length}
@@ -48,8 +48,7 @@ imported_func (x ∷ imports) k i at = go x.kind refl k at (λ j at. imported_fu
     later kind none j h = (
       h.ty_index,
       h.kind_is,
-      ap (λ (ts : List ℕ). slice_get (ts ++ flat_map func_of_import imports) j) none
-          ∙ h.in_space,
+      ap (λ (ts : List ℕ). slice_get (ts ++ flat_map func_of_import imports) j) none ∙ h.in_space,
       (suc h.place, h.is),
     )
 
@@ -143,8 +142,7 @@ func_case s u m is k f at = elim (less_or_not k (imported_funcs m.tree)) [
         let less : j < length m.tree.funcs = omega (
           arith,
           slice_get_within (range_with_len (imported_funcs m.tree) (length m.tree.funcs)) j q.0 q.1,
-          length-range_with_len
-              (imported_funcs m.tree) (length m.tree.funcs),
+          length-range_with_len (imported_funcs m.tree) (length m.tree.funcs),
         ) in
         let number : q.0 ≡ imported_funcs m.tree + j = some_same
         (sym q.1 ∙ get_numbered (imported_funcs m.tree) (length m.tree.funcs) j less) in
@@ -192,8 +190,7 @@ own_func s accepted u m is k there =
     record {
       entry = (f.0, b.0);
       ty = t.0;
-      entry_is = defined_behind_imports m.tree (bodies_of m.tree) k j place
-          ∙ zip_at m.tree.funcs m.tree.bodies j f.0 b.0 f.1 b.1;
+      entry_is = defined_behind_imports m.tree (bodies_of m.tree) k j place ∙ zip_at m.tree.funcs m.tree.bodies j f.0 b.0 f.1 b.1;
       typed = t.1;
       in_module = ap (λ (x : Option ℕ). if_found x (type_in m.tree)) in_space ∙ t.1;
       in_set = ap (λ (x : Option Module). if_found x

@@ -8,7 +8,7 @@ use Rattle.unit_meaning.proofs.Common.{c_params_of, c_result_of, defined_for_all
 use Rattle.unit_meaning.proofs.Common.{get_unmapped, IsAcceptedSet, program_of}
 use Rattle.wasm_meaning.specs.LinkedSet as link
 use Rattle.c_meaning.specs.State.{Name}
-use Rattle.c_unit.proofs.Found.{find_join, position_none, find_none, none_before}
+use Rattle.unit_definition.proofs.Found.{find_join, position_none, find_none, none_before}
 use Rattle.unit_meaning.proofs.Linked.{module_is_no_host}
 use Rattle.unit_meaning.proofs.External.{units_of, others_undefined}
 

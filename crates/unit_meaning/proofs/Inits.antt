@@ -11,9 +11,9 @@ use Rattle.w2c_mangle.proofs.EscapedNames.{escaped_byte-cases, escaped-cons, sta
 use Rattle.c_tree.specs.Tree as tree
 use Rattle.c_meaning.proofs.InitSymbols.{init_symbols_found, found_are_init_symbols}
 use Rattle.unit_meaning.proofs.Listed.{InitsAreInOrder}
-use Rattle.c_unit.proofs.Found.{Test, Misses, from_number, find_none, none_among}
-use Rattle.c_unit.proofs.Defined.{NoHelper, NoBody, NoExport, objects_miss, data_miss, declared_miss, prototypes_miss, no_body, body_is}
-use Rattle.c_unit.proofs.Defined.{export_external, init_defined, kind_of, no_part, symbol_is}
+use Rattle.unit_definition.proofs.Found.{Test, Misses, from_number, find_none, none_among}
+use Rattle.unit_definition.proofs.Defined.{NoHelper, NoBody, NoExport, objects_miss, data_miss, declared_miss, prototypes_miss, no_body}
+use Rattle.unit_definition.proofs.Defined.{body_is, export_external, init_defined, kind_of, no_part, symbol_is}
 use Rattle.c_init.specs.Init.{part_func, parts_of}
 use Rattle.w2c_base.specs.Lookup.{numbered}
 

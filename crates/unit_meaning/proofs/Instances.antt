@@ -78,8 +78,7 @@ export_named spaces (e ∷ exports) name o found = go (bytes_eq e.name name) ref
       one = e;
       is = refl;
       name_is = (bytes_eq-Decides e.name name).0 same;
-      stands = let i :
-          (export_of spaces e).1 ≡ o = cc in i;
+      stands = let i : (export_of spaces e).1 ≡ o = cc in i;
       before = λ i b less is. absurd (omega (arith, less));
     }
     go false differ found others = behind (others found)

@@ -4,7 +4,7 @@ use Rattle.unit_meaning.proofs.Common.{UnitsAreInstantiatedAlike, items, IsAccep
 use Rattle.c_meaning.specs.Machine.{objects_of}
 use Rattle.init_meaning.specs.Declared.{IsDeclared}
 use Rattle.init_meaning.specs.InitFollows.{IsKnown, InitsFollow}
-use Rattle.c_unit.proofs.Instantiable.{modules_are_instantiable}
+use Rattle.unit_definition.proofs.Instantiable.{modules_are_instantiable}
 use Rattle.unit_meaning.proofs.StillDeclared.{still_declared}
 
 -- what other parts show of a module of the set and of its unit: of its functions, and of its variables

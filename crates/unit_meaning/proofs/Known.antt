@@ -2,9 +2,9 @@
 -- is defined, that functions are reached by their names, and that imports' symbols give pointers.
 use Rattle.wasm_tree.proofs.ImportCounts.{memory_count, table_count}
 use Rattle.c_meaning.specs.State as state
-use Rattle.c_unit.proofs.Instantiable.{modules_are_instantiable}
+use Rattle.unit_definition.proofs.Instantiable.{modules_are_instantiable}
 use Rattle.c_init.specs.Instantiable.{IsInstantiable}
-use Rattle.c_unit.proofs.AcceptedLimits.{accepted_limits}
+use Rattle.unit_definition.proofs.AcceptedLimits.{accepted_limits}
 use Rattle.unit_meaning.proofs.Common.{◌≡◌, ℕ, suc, ◌+◌, ◌^◌, ◌<◌, ◌≤◌, Bool, true, false, cond, not, List, [], ◌∷◌, ◌++◌, map, length}
 use Rattle.unit_meaning.proofs.Common.{if◌then◌else◌, slice_get, Some, filter, flat_map, sym, refl, ap, ◌∙◌, subst, arith, slice_get_within}
 use Rattle.unit_meaning.proofs.Common.{all_at, func_space, is_func_import, is_global_import, is_memory_import, is_table_import}

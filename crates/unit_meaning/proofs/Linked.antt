@@ -1,7 +1,7 @@
 -- In a linked set names tell modules and hosts apart, and an export that is found is the first of its name
 -- of the one module of that name.
 use Rattle.w2c_base.proofs.Places.{get_before}
-use Rattle.c_unit.proofs.Found.{FirstAt, found_first}
+use Rattle.unit_definition.proofs.Found.{FirstAt, found_first}
 use Rattle.unit_meaning.proofs.Common.{◌≡◌, ℕ, zero, suc, ◌+◌, ◌<◌, ◌≢◌, ◌⊎◌, List, [], ◌∷◌, ◌++◌, map, length, take, slice_get, Some, None}
 use Rattle.unit_meaning.proofs.Common.{Option, find, bytes_eq, sym, refl, ap, ◌∙◌, inl, inr, arith, length-append, slice_get_within}
 use Rattle.unit_meaning.proofs.Common.{bytes_eq-Decides, all_at, get_within, AreDistinct, if_found, named, Host, External, Instance}
@@ -71,8 +71,7 @@ count_instances hosts earlier [] = omega arith
 count_instances hosts earlier (m ∷ modules) = omega (
   arith,
   count_instances hosts (earlier ++ instance_of hosts earlier m ∷ []) modules,
-  length-append earlier
-      (instance_of hosts earlier m ∷ []),
+  length-append earlier (instance_of hosts earlier m ∷ []),
 )
 
 -- the module that exports something under a name

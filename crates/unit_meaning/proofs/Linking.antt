@@ -5,24 +5,24 @@ use Rattle.w2c_base.proofs.Places.{get_front}
 use Rattle.w2c_mangle.specs.declared.symbol.SymbolKind.TheVariants as symbol
 use Rattle.c_tree.specs.Tree as tree
 use Rattle.c_meaning.proofs.Links.{program_twice, program_unresolved, refusal_stands, all_flat}
-use Rattle.c_unit.proofs.Found.{position_at, find_none, find_join}
-use Rattle.c_unit.proofs.Defined.{FirstExport, body_is, export_external, init_defined, symbol_undefined, typed_outside, kind_of, symbol_is}
+use Rattle.unit_definition.proofs.Found.{position_at, find_none, find_join}
+use Rattle.unit_definition.proofs.Defined.{FirstExport, body_is, export_external, init_defined, symbol_undefined, typed_outside, kind_of}
+use Rattle.unit_definition.proofs.Defined.{symbol_is}
 use Rattle.c_init.proofs.NoFaults.{rows_of}
 use Rattle.c_init.specs.Init.{part_func, parts_of}
-use Rattle.unit_meaning.proofs.Common.{if_found, same_func_type, NotDefined, TypeDiffers, ◌≡◌, ℕ, zero, suc, ◌+◌, ◌<◌, Bool, true, false}
-use Rattle.unit_meaning.proofs.Common.{◌&&◌, ◌||◌, ◌≢◌, List, [], ◌∷◌, ◌++◌, map, length, take, is_some, if◌then◌else◌, slice_get, Some}
-use Rattle.unit_meaning.proofs.Common.{None, All, Option, find, zip, flat_map, filter_map, bytes_eq, sym, refl, ap, ◌∙◌, arith}
-use Rattle.unit_meaning.proofs.Common.{bytes_eq-Decides, AllByRecursion, cons_option, list_any, position_from, range_with_len, option_or, ⊤}
-use Rattle.unit_meaning.proofs.Common.{append_none, all_append, all_at, numbered, Host, export_symbol_of-injective}
-use Rattle.unit_meaning.proofs.Common.{init_symbol_of-injective, init_symbol_of-not_export, export_symbol_of, init_symbol_of, type_in}
-use Rattle.unit_meaning.proofs.Common.{Export, Import, ImportKind, ImportFunc, ImportGlobal, ImportMemory, ImportTable, SegmentEntry}
-use Rattle.unit_meaning.proofs.Common.{Module, duplicate_exports, IsValid, Name, func_type_of, is_among, CType, External, IsFunc, IsGlobal}
-use Rattle.unit_meaning.proofs.Common.{IsMemory, IsTable, LinkedSet, NamedModule, import_at, bytes_differ, LinkRefusal, Program, Twice}
-use Rattle.unit_meaning.proofs.Common.{defined_for_all, external_func, external_functions, func_type, host_symbol, host_symbols}
-use Rattle.unit_meaning.proofs.Common.{FuncAddress, UnitFunc, made_static, helper_of, Typed, c_func_type_if, declared_symbols}
-use Rattle.unit_meaning.proofs.Common.{export_symbol, firsts, import_symbol, import_type, symbol_type, same_c_func_type, get_unmapped}
-use Rattle.unit_meaning.proofs.Common.{ResolvesAs, body_of, needs_of, export_func, data_name, init_func, bodies, data_of, declaration}
-use Rattle.unit_meaning.proofs.Common.{items, objects_of, prototype, IsAcceptedSet, UnitsLink, program_of, right_behind}
+use Rattle.unit_meaning.proofs.Common.{if_found, same_func_type, NotDefined, TypeDiffers, ◌≡◌, ℕ, zero, suc, ◌+◌, ◌<◌, Bool, true, false, ⊤}
+use Rattle.unit_meaning.proofs.Common.{◌&&◌, ◌||◌, ◌≢◌, List, [], ◌∷◌, ◌++◌, map, length, take, is_some, if◌then◌else◌, slice_get, Some, ap}
+use Rattle.unit_meaning.proofs.Common.{None, All, Option, find, zip, flat_map, filter_map, bytes_eq, sym, refl, ◌∙◌, arith, AllByRecursion}
+use Rattle.unit_meaning.proofs.Common.{bytes_eq-Decides, cons_option, list_any, position_from, range_with_len, option_or, append_none, Host}
+use Rattle.unit_meaning.proofs.Common.{all_append, all_at, numbered, export_symbol_of-injective, init_symbol_of-injective, export_symbol_of}
+use Rattle.unit_meaning.proofs.Common.{init_symbol_of-not_export, init_symbol_of, type_in, Export, Import, ImportKind, ImportFunc, Module}
+use Rattle.unit_meaning.proofs.Common.{ImportGlobal, ImportMemory, ImportTable, SegmentEntry, duplicate_exports, IsValid, Name, is_among}
+use Rattle.unit_meaning.proofs.Common.{func_type_of, CType, External, IsFunc, IsGlobal, IsMemory, IsTable, LinkedSet, NamedModule, Program}
+use Rattle.unit_meaning.proofs.Common.{import_at, bytes_differ, LinkRefusal, Twice, defined_for_all, external_func, external_functions}
+use Rattle.unit_meaning.proofs.Common.{func_type, host_symbol, host_symbols, FuncAddress, UnitFunc, made_static, helper_of, Typed, firsts}
+use Rattle.unit_meaning.proofs.Common.{c_func_type_if, declared_symbols, export_symbol, import_symbol, import_type, symbol_type, ResolvesAs}
+use Rattle.unit_meaning.proofs.Common.{same_c_func_type, get_unmapped, body_of, needs_of, export_func, data_name, init_func, bodies, items}
+use Rattle.unit_meaning.proofs.Common.{data_of, declaration, objects_of, prototype, IsAcceptedSet, UnitsLink, program_of, right_behind}
 use Rattle.unit_meaning.proofs.Linked.{modules_differ, module_is_no_host, accepted_at}
 use Rattle.unit_meaning.proofs.External.{SymbolFound, units_of, unit_at, type_found, symbol_at, external_found, others_undefined}
 use Rattle.unit_meaning.proofs.HostSymbols.{symbols_of, asks_for, first_is_found}
@@ -118,8 +118,7 @@ names_apart earlier (x ∷ exports) none zero e at =
     let same : x ≡ e = cc in
     let first = no_fault _ x.name_place _ (append_none _ _ none).0 in (
       λ i b there wrong. any_is x.name earlier i b first there (wrong ∙ ap (λ (y : Export). y.name) (sym same)),
-      λ i b less. absurd
-          (omega (arith, less)),
+      λ i b less. absurd (omega (arith, less)),
     )
 names_apart earlier (x ∷ exports) none (suc j) e at =
     let h = names_apart (earlier ++ x ∷ []) exports (append_none _ _ none).1 j e at in
@@ -333,8 +332,7 @@ prototype_func f = record {
   is_static = f.is_static;
   result = f.result;
   name = f.name;
-  params = map
-      (λ (q : tree.Param). (q.0, None)) f.params;
+  params = map (λ (q : tree.Param). (q.0, None)) f.params;
   body = None;
 }
 

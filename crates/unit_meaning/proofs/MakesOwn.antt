@@ -205,8 +205,7 @@ module _ (v : ℕ) where
   ended_kept jump under _ kept h = kept
 
   leave_kept : (t : Option ValType) (under : List Value) (r : Result) → ResultKept r → ResultKept (exec.leave t under r)
-  leave_kept t under r kept =
-      ended_kept _ under r kept (λ n stack state kept. onto_kept n (exec.top t stack) under state kept)
+  leave_kept t under r kept = ended_kept _ under r kept (λ n stack state kept. onto_kept n (exec.top t stack) under state kept)
 
   turns_kept : (k : ℕ) (body : ℕ → store.State → Result)
       → ((n : ℕ) (state : store.State) → Kept state.store → ResultKept (body n state)) → (under : List Value) (n : ℕ) (state : store.State)

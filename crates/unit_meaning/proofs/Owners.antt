@@ -180,8 +180,7 @@ module _ (s : LinkedSet) (u : ℕ) (m : NamedModule) (module_is : slice_get s.mo
       inner tree (Some entry) is e = (
         entry,
         is,
-        ap (λ (x : ValType × Bool). x.0)
-            (same_Some {A = ValType × Bool} (entry.ty, entry.mutable) (t, mutable) e),
+        ap (λ (x : ValType × Bool). x.0) (same_Some {A = ValType × Bool} (entry.ty, entry.mutable) (t, mutable) e),
       )
 
       go : (found : Option Module) → module_at s g.owner ≡ found

@@ -91,8 +91,7 @@ behind p s from to n left k w way least most (inr o) = inr (o.0, later p from to
 
 -- a stop
 abbrev stopped_run : Pending → exec.Stop → store.Store → Trail → wasm.WasmRun
-stopped_run pending why made trail = record
-    { phase = pending.phase; events = trail.events; store = made; outcome = wasm.Stopped why }
+stopped_run pending why made trail = record { phase = pending.phase; events = trail.events; store = made; outcome = wasm.Stopped why }
 
 ends_alike : (p : Program) (s : link.LinkedSet) (pending : Pending) (spare : ℕ) (start from : Progress) (steps n k : ℕ) (why : exec.Stop)
     (made : store.Store) (trail : Trail)
@@ -171,10 +170,7 @@ told_together : (p : Program) (s : link.LinkedSet) (count : ℕ) (m : state.Mach
     (value : Option Value)
     → Together p s count 0 m made trail → Together p s count 0 (told_end m value) made (call_ended trail value)
 told_together p s count m made trail value h = record {
-  agrees = record {
-    objects = h.agrees.objects;
-    same_trail = ap (λ (t : Trail). call_ended t value) h.agrees.same_trail;
-  };
+  agrees = record { objects = h.agrees.objects; same_trail = ap (λ (t : Trail). call_ended t value) h.agrees.same_trail };
   ready = record {
     pointers = λ u tree less is. let r = h.ready.pointers u tree less is in
         record { memory = r.memory; table = r.table; globals = r.globals };
@@ -281,9 +277,7 @@ same_at f (x' ∷ xs) (y ∷ ys) zero x e found =
     let is : x' ≡ x = cc in
     let head : f y ≡ f x' = cc in
     (y, refl, head ∙ ap f is)
-same_at f (x' ∷ xs) (y ∷ ys) (suc i) x e found =
-    let tail : map f ys ≡ map f xs = cc in
-    same_at f xs ys i x tail found
+same_at f (x' ∷ xs) (y ∷ ys) (suc i) x e found = let tail : map f ys ≡ map f xs = cc in same_at f xs ys i x tail found
 
 -- modules from number u on, of which nothing is made
 abbrev pub AreUntouched : link.LinkedSet → ℕ → state.Machine → store.Store → Type 0

@@ -2,7 +2,8 @@
 use Rattle.w2c_base.proofs.Places.{get_before}
 use Rattle.wasm_meaning.specs.LinkedSet as link
 use Rattle.c_tree.specs.Tree as tree
-use Rattle.c_unit.proofs.Defined.{helper_defined, helper_typed, helper_is_no_primitive, func_is_no_primitive, export_is_no_primitive}
+use Rattle.unit_definition.proofs.Defined.{helper_defined, helper_typed, helper_is_no_primitive, func_is_no_primitive}
+use Rattle.unit_definition.proofs.Defined.{export_is_no_primitive}
 use Rattle.unit_meaning.proofs.Common.{◌≡◌, ℕ, suc, ◌*◌, ◌≤◌, List, map, length, slice_get, Some, Contains, Option, option_map, sym, refl}
 use Rattle.unit_meaning.proofs.Common.{ap, ◌∙◌, subst, arith, slice_get_within, if_found, types_of, FuncType, export_symbol_of, Func}
 use Rattle.unit_meaning.proofs.Common.{Import, ImportFunc, External, Instance, IsFunc, LinkedSet, NamedModule, as_func, exported, func_at}

@@ -3,7 +3,7 @@
 use Rattle.wasm_tree.proofs.ImportCounts.{func_count}
 use Rattle.wasm_meaning.specs.LinkedSet.{FuncAddress}
 use Rattle.c_tree.specs.Tree as tree
-use Rattle.c_unit.proofs.Defined.{init_defined, part_body, part_defined, part_typed, typed_outside}
+use Rattle.unit_definition.proofs.Defined.{init_defined, part_body, part_defined, part_typed, typed_outside}
 use Rattle.c_init.specs.Init.{Part, part_func, parts_of}
 use Rattle.c_init.proofs.FewParts.{few_parts}
 use Rattle.wasm_tree.specs.declared.tree.Module.{Module}
@@ -114,8 +114,7 @@ func_found_at s accepted u m is index within = elim (less_or_not index (imported
           more,
           within,
           func_count m.tree.imports,
-          length-append (flat_map func_of_import m.tree.imports)
-              (map (λ f. f.type_index) m.tree.funcs),
+          length-append (flat_map func_of_import m.tree.imports) (map (λ f. f.type_index) m.tree.funcs),
           length-map m.tree.funcs (λ f. f.type_index),
         ) in
         let there = get_mapped (λ k. Some (ModuleFunc (length h.earlier) k))

@@ -6,11 +6,11 @@ use Rattle.w2c_mangle.specs.declared.symbol.SymbolKind.TheVariants as symbol
 use Rattle.wasm_meaning.specs.LinkedSet as link
 use Rattle.c_tree.specs.Tree as tree
 use Rattle.c_tree.specs.TypesInC.{c_func_type_of}
-use Rattle.c_unit.proofs.Found.{find_join}
-use Rattle.c_unit.proofs.Defined.{IsDefinition, IsExternal, export_external, body_with, body_defined, func_typed, func_is_no_primitive}
-use Rattle.c_unit.proofs.Defined.{export_is_no_primitive}
-use Rattle.c_unit.proofs.BodiesAt.{few_params}
-use Rattle.c_unit.proofs.AcceptedLimits.{accepted_limits}
+use Rattle.unit_definition.proofs.Found.{find_join}
+use Rattle.unit_definition.proofs.Defined.{IsDefinition, IsExternal, export_external, body_with, body_defined, func_typed}
+use Rattle.unit_definition.proofs.Defined.{func_is_no_primitive, export_is_no_primitive}
+use Rattle.unit_definition.proofs.BodiesAt.{few_params}
+use Rattle.unit_definition.proofs.AcceptedLimits.{accepted_limits}
 use Rattle.unit_meaning.proofs.Common.{◌≡◌, ℕ, zero, suc, ◌+◌, ◌*◌, ◌^◌, ◌<◌, ◌≤◌, Bool, true, List, [], ◌∷◌, ◌++◌, map, length, take}
 use Rattle.unit_meaning.proofs.Common.{if◌then◌else◌, slice_get, Some, None, Option, option_map, find, flat_map, bytes_eq, sym, refl, ap}
 use Rattle.unit_meaning.proofs.Common.{◌∙◌, subst, inl, inr, append_assoc, arith, slice_get_within, option_or, at_index, if_found, named}
@@ -25,7 +25,7 @@ use Rattle.unit_meaning.proofs.Common.{c_func_type, c_func_type_if, export_symbo
 use Rattle.unit_meaning.proofs.Common.{memory_imports, table_imports, filter_few, ResolvesAs, callable_later, IsCallable, IsDefined}
 use Rattle.unit_meaning.proofs.Common.{body_of, func_of, params_of, HasLimits, callee, PassesOn, StandsFor, called, core, given, accessor}
 use Rattle.unit_meaning.proofs.Common.{export_func, passes_on, IsAccepted, IsAcceptedSet, program_of}
-use Rattle.body_emitter.specs.Variables.{params_from}
+use Rattle.body_forms.specs.Variables.{params_from}
 use Rattle.unit_meaning.proofs.Instances.{IsPlaced, spaces_at, placed, earlier_is}
 use Rattle.unit_meaning.proofs.Linked.{ExportedBy, accepted_at}
 use Rattle.unit_meaning.proofs.External.{SymbolFound, unit_at, type_found, symbol_found, external_found, named_external}
@@ -154,8 +154,7 @@ own_definition s accepted u m is k there =
           (own_types own.ty.params),
       (
         definition.0,
-        ap (λ (unit : Option (List tree.Item)). if_found unit (λ items. defined items (func_name k))) (unit_at s u m is)
-            ∙ definition.1,
+        ap (λ (unit : Option (List tree.Item)). if_found unit (λ items. defined items (func_name k))) (unit_at s u m is) ∙ definition.1,
       ),
       type_found s u m is (func_name k) (body_of m.tree m.name k) _ (func_typed m k (body_of m.tree m.name k) _ definition),
     )

@@ -1,18 +1,17 @@
 -- In a linked set each import may be used: imports with one symbol stand for one thing, so they have one type.
-use Rattle.unit_meaning.proofs.Common.{◌≡◌, ℕ, zero, suc, ◌<◌, Bool, true, false, ◌≢◌, List, [], ◌∷◌, ◌++◌, map, take, if◌then◌else◌}
-use Rattle.unit_meaning.proofs.Common.{slice_get, Some, None, All, Option, option_map, bytes_eq, sym, refl, ap, ◌∙◌, subst, arith}
-use Rattle.unit_meaning.proofs.Common.{bytes_eq-Decides, option_or, all_at, if_found, named, ValType, export_symbol_of-injective}
-use Rattle.unit_meaning.proofs.Common.{export_symbol_of, SymbolKind, type_in, Export, Import, ImportKind, ImportFunc, ImportGlobal}
-use Rattle.unit_meaning.proofs.Common.{ImportMemory, ImportTable, Module, same_func_type, Name, External, IsFunc, IsGlobal, IsMemory}
-use Rattle.unit_meaning.proofs.Common.{IsTable, LinkedSet, NamedModule, Resolves, exported, global_type, import_at, instances, offered}
-use Rattle.unit_meaning.proofs.Common.{type_at, bytes_differ, bytes_equal, accessor_type, c_func_type_if, export_symbol, export_type}
-use Rattle.unit_meaning.proofs.Common.{global_kind, import_symbol, import_type, imported_symbols, is_usable, pointer_type, symbol_type}
-use Rattle.unit_meaning.proofs.Common.{same_c_func_type, ResolvesAs, IsAcceptedSet}
+use Rattle.unit_meaning.proofs.Common.{◌≡◌, ℕ, zero, suc, ◌<◌, Bool, true, false, ◌≢◌, List, [], ◌∷◌, ◌++◌, map, take, if◌then◌else◌, Some}
+use Rattle.unit_meaning.proofs.Common.{slice_get, None, All, Option, option_map, bytes_eq, sym, refl, ap, ◌∙◌, subst, arith, option_or}
+use Rattle.unit_meaning.proofs.Common.{bytes_eq-Decides, all_at, if_found, named, ValType, export_symbol_of-injective, export_symbol_of}
+use Rattle.unit_meaning.proofs.Common.{SymbolKind, type_in, Export, Import, ImportKind, ImportFunc, ImportGlobal, ImportMemory, ImportTable}
+use Rattle.unit_meaning.proofs.Common.{Module, same_func_type, Name, External, IsFunc, IsGlobal, IsMemory, IsTable, LinkedSet, NamedModule}
+use Rattle.unit_meaning.proofs.Common.{Resolves, exported, global_type, import_at, instances, offered, type_at, bytes_differ, bytes_equal}
+use Rattle.unit_meaning.proofs.Common.{accessor_type, c_func_type_if, export_symbol, export_type, global_kind, import_symbol, import_type}
+use Rattle.unit_meaning.proofs.Common.{imported_symbols, is_usable, pointer_type, symbol_type, same_c_func_type, ResolvesAs, IsAcceptedSet}
 use Rattle.w2c_mangle.specs.declared.symbol.SymbolKind.TheVariants as symbol
 use Rattle.wasm_meaning.specs.LinkedSet.{func_type}
 use Rattle.c_tree.specs.declared.tree.CType.TheVariants as c_type
 use Rattle.c_tree.specs.Tree as tree
-use Rattle.c_unit.proofs.Defined.{kind_of, symbol_is}
+use Rattle.unit_definition.proofs.Defined.{kind_of, symbol_is}
 use Rattle.unit_meaning.proofs.Linked.{ExportedBy, exported_before, modules_differ, module_is_no_host, accepted_at}
 use Rattle.unit_meaning.proofs.HostSymbols.{OfferedBy, offered_by}
 use Rattle.c_init.proofs.Small.{some_same}

@@ -1,13 +1,12 @@
 -- A function that passes a call on: its first statement is the call, and its second gives the value back.
-use Rattle.unit_meaning.proofs.Common.{◌≡◌, ℕ, zero, suc, ◌+◌, ◌^◌, ◌<◌, true, false, List, [], ◌∷◌, ◌++◌, map, length, is_some}
-use Rattle.unit_meaning.proofs.Common.{if◌then◌else◌, slice_get, Some, None, Option, option_map, bytes_eq, sym, refl, ap, ◌∙◌, subst, arith}
-use Rattle.unit_meaning.proofs.Common.{decimal_injective, same_Some, slice_get_within, if_found, named, with_named, is_result, type_of}
-use Rattle.unit_meaning.proofs.Common.{types_of, value, FuncType, ValType, Value, I32, I64, proper_types, func_type_of, CType, bytes_differ}
-use Rattle.unit_meaning.proofs.Common.{bytes_equal, named-with_named, Definition, Program, c_params_of, c_result_of, c_type_of}
-use Rattle.unit_meaning.proofs.Common.{definition_at, func_named, initial_of, primitive, Reaches, Going, Pending, Progress, go_on, CValue}
-use Rattle.unit_meaning.proofs.Common.{Frame, FuncAddress, Is, Machine, Number, Running, State, Stuck, UnitFunc, Vars, c_func_type, called}
-use Rattle.unit_meaning.proofs.Common.{given, args_from, zero_number, named_params, param_name, params_from, passes_on, result_name}
-use Rattle.unit_meaning.proofs.Common.{zero_like}
+use Rattle.unit_meaning.proofs.Common.{◌≡◌, ℕ, zero, suc, ◌+◌, ◌^◌, ◌<◌, true, false, List, [], ◌∷◌, ◌++◌, map, length, is_some, slice_get}
+use Rattle.unit_meaning.proofs.Common.{if◌then◌else◌, Some, None, Option, option_map, bytes_eq, sym, refl, ap, ◌∙◌, subst, arith, same_Some}
+use Rattle.unit_meaning.proofs.Common.{decimal_injective, slice_get_within, if_found, named, with_named, is_result, type_of, types_of, I32}
+use Rattle.unit_meaning.proofs.Common.{value, FuncType, ValType, Value, I64, proper_types, func_type_of, CType, bytes_differ, bytes_equal}
+use Rattle.unit_meaning.proofs.Common.{named-with_named, Definition, Program, c_params_of, c_result_of, c_type_of, definition_at, primitive}
+use Rattle.unit_meaning.proofs.Common.{func_named, initial_of, Reaches, Going, Pending, Progress, go_on, CValue, Frame, FuncAddress, Is}
+use Rattle.unit_meaning.proofs.Common.{Machine, Number, Running, State, Stuck, UnitFunc, Vars, c_func_type, called, given, args_from}
+use Rattle.unit_meaning.proofs.Common.{zero_number, named_params, param_name, params_from, passes_on, result_name, zero_like}
 use Rattle.w2c_base.proofs.Numbers.{result_is_typed}
 use Rattle.w2c_base.specs.declared.value.ValType.TheVariants as type
 use Rattle.c_tree.specs.declared.tree.CType.TheVariants as c_type
@@ -72,8 +71,7 @@ arg_named k (w ∷ args) others (suc j) v few is =
     = bytes_differ (param_name k) (param_name (suc k + j))
     (λ same. absurd (omega (
       arith,
-      decimal_injective k (suc k + j) (omega (arith, few)) (omega (arith, few, slice_get_within args j v is))
-          (ap tail same),
+      decimal_injective k (suc k + j) (omega (arith, few)) (omega (arith, few, slice_get_within args j v is)) (ap tail same),
     ))) in
     ap (λ (i : ℕ). named (param_name i) (arg_vars k (w ∷ args) ++ others)) e ∙ rw differ (arg_named (suc k) args others j v few' is)
 

@@ -11,7 +11,7 @@ use Rattle.c_meaning.specs.Machine.{objects_of}
 use Rattle.c_meaning.specs.Run.{Pending}
 use Rattle.alike.specs.Passing.{called}
 use Rattle.alike.specs.CallsFollow.{Together}
-use Rattle.c_unit.specs.Items.{items}
+use Rattle.unit_definition.specs.Items.{items}
 use Rattle.unit_meaning.specs.Sets.{IsAcceptedSet, program_of}
 use Rattle.init_meaning.specs.Tasks.{do_tasks}
 use Rattle.init_meaning.specs.Zeros.{zeroed}

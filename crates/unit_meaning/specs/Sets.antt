@@ -15,8 +15,8 @@ use Rattle.c_meaning.specs.Run.{CRun, c_run}
 use Rattle.c_meaning.specs.Run as c
 use Rattle.alike.specs.Alike.{Alike}
 use Rattle.body_meaning.specs.Serves.{AreServed}
-use Rattle.c_unit.specs.Items.{items}
-use Rattle.c_unit.specs.Accepted.{IsAccepted}
+use Rattle.unit_definition.specs.Items.{items}
+use Rattle.unit_definition.specs.Accepted.{IsAccepted}
 
 -- the units of the modules in their order, and the hosts
 abbrev pub program_of : LinkedSet → Program

@@ -9,8 +9,8 @@ use Rattle.body_rules.proofs.RulesOfFunctions.{all_at as all_around}
 use Rattle.c_tree.specs.Tree as tree
 use Rattle.c_tree.specs.Rules.{are_alike}
 use Rattle.c_tree.proofs.SameTypes.{func_types_same}
-use Rattle.c_unit.proofs.Pairs.{AllPairs}
-use Rattle.c_unit.proofs.Sections.{AllClass}
+use Rattle.unit_definition.proofs.Pairs.{AllPairs}
+use Rattle.unit_definition.proofs.Sections.{AllClass}
 
 -- ---- what is so of the names of items
 
@@ -159,8 +159,7 @@ found_behind (tree.Function g) (tree.Function f) items h found = by (bytes_eq g.
 found_at : (items : List tree.Item) (i : ℕ) (x : tree.Item) → AllPairs MayFollow items → slice_get items i ≡ Some x → IsFound items x
 found_at [] i x apart at = absurd cc
 found_at (y ∷ items) zero x apart at = let same : y ≡ x = cc in subst (IsFound (y ∷ items)) same (found_first y items)
-found_at (y ∷ items) (suc i) x apart at =
-    found_behind y x items (all_at (MayFollow y) items i x apart.0 at) (found_at items i x apart.1 at)
+found_at (y ∷ items) (suc i) x apart at = found_behind y x items (all_at (MayFollow y) items i x apart.0 at) (found_at items i x apart.1 at)
 
 pub all_found : (items : List tree.Item) → AllPairs MayFollow items → AllByRecursion (IsFound items) items
 all_found items apart = all_from (IsFound items) items (λ i x at. found_at items i x apart at)

@@ -59,10 +59,8 @@ pub use Rattle.wasm_tree.specs.declared.operators.LoadOp.{LoadOp}
 pub use Rattle.wasm_tree.specs.declared.operators.StoreOp.{StoreOp}
 pub use Rattle.wasm_tree.specs.declared.tree.Module.{Module}
 pub use Rattle.wasm_typing.specs.Context.{context_of}
-pub use Rattle.wasm_typing.specs.ModuleFaults.{duplicate_exports, fault_if}
-pub use Rattle.wasm_typing.specs.ModuleFaults.{is_other_than_start}
-pub use Rattle.wasm_typing.specs.ModuleFaults.{module_faults, shape_of, shape_of_global, start_faults}
-pub use Rattle.wasm_typing.specs.ModuleFaults.{unknown_export, unknown_import_type}
+pub use Rattle.wasm_typing.specs.ModuleFaults.{duplicate_exports, fault_if, is_other_than_start, module_faults, shape_of, shape_of_global}
+pub use Rattle.wasm_typing.specs.ModuleFaults.{start_faults, unknown_export, unknown_import_type}
 pub use Rattle.c_tree.proofs.SameTypes.{same_c_func_type}
 pub use Rattle.c_tree.specs.DefinedNames.{func_name, global_name, memory_name, table_name, label_name, pointer_name}
 pub use Rattle.c_tree.specs.FirstBroken.{KeepsRules, broken_in_body, broken_in_item}
@@ -71,9 +69,8 @@ pub use Rattle.c_tree.specs.Rules.{AsArray, AsFunction, AsVariable, Use, are_dis
 pub use Rattle.c_tree.specs.Rules.{arg_uses, args_suit, callee_type, callee_uses, case_value, cases_are_distinct, cases_suit, defines}
 pub use Rattle.c_tree.specs.Rules.{expr_uses, has_same_type, hides_none, if_any, is_declared_once, is_known, is_own_name, is_result_type}
 pub use Rattle.c_tree.specs.Rules.{is_runtime_name, is_symbol, is_value_type, is_void, item_rules, label_is_free, labels_named, labels_of}
-pub use Rattle.c_tree.specs.Rules.{local_names, may_be_assigned, may_be_called, may_both_stand, number_suits, points_to_number}
-pub use Rattle.c_tree.specs.Rules.{proper_params, proper_types, stmt_is_typed, stmt_suits, stmt_uses, target_suits, target_uses}
-pub use Rattle.c_tree.specs.Rules.{written_type_is_proper}
+pub use Rattle.c_tree.specs.Rules.{local_names, may_be_assigned, may_be_called, may_both_stand, number_suits, points_to_number, stmt_suits}
+pub use Rattle.c_tree.specs.Rules.{proper_params, proper_types, stmt_is_typed, stmt_uses, target_suits, target_uses, written_type_is_proper}
 pub use Rattle.c_tree.specs.Runtime.{primitives, same_func_type, same_type}
 pub use Rattle.c_tree.specs.Scope.{HasType, Name, Scope, array_of, arrays, func_type_of, function_of, functions, is_among, is_object_type}
 pub use Rattle.c_tree.specs.Scope.{local_variables, name_of, param_variables, pointed_by, variable_of, variables}
@@ -96,8 +93,8 @@ pub use Rattle.c_symbols.specs.Symbols.{Typed, accessor_type, c_func_type, c_fun
 pub use Rattle.c_symbols.specs.Symbols.{exported_symbols, firsts, func_imports, global_accessor_type, global_imports, global_kind}
 pub use Rattle.c_symbols.specs.Symbols.{global_symbol, import_symbol, import_type, imported_symbols, is_usable, memory_imports}
 pub use Rattle.c_symbols.specs.Symbols.{pointer_type, symbol_type, table_imports}
-pub use Rattle.body_emitter.specs.Variables.{params_of}
-pub use Rattle.c_body.specs.Body.{body_of, func_of, stmts_of}
+pub use Rattle.body_forms.specs.Variables.{params_of}
+pub use Rattle.body_definition.specs.Body.{body_of, func_of, stmts_of}
 pub use Rattle.c_prelude.proofs.Functions.{listed, made_static}
 pub use Rattle.c_prelude.specs.Functions.{helper_type}
 pub use Rattle.body_rules.proofs.BodyRules.{all_true, pointer_points}
@@ -116,14 +113,13 @@ pub use Rattle.c_tree.proofs.NumberedLabels.{all_differ}
 pub use Rattle.body_rules.specs.Declared.{FileKnows, NamedItems}
 pub use Rattle.c_tree.specs.DeclaredNames.{funcs_in, vars_in, Variables}
 pub use Rattle.c_tree.specs.NameClasses.{NoneOf, class}
-pub use Rattle.c_unit.specs.Exports.{accessor, args_from, call_if, export_func, external, named_params, param_name, params_from, passes_on}
-pub use Rattle.c_unit.specs.Exports.{result_name, usable_symbol}
+pub use Rattle.unit_definition.specs.Exports.{accessor, args_from, call_if, export_func, external, named_params, param_name, params_from}
+pub use Rattle.unit_definition.specs.Exports.{passes_on, result_name, usable_symbol}
 pub use Rattle.c_init.specs.Init.{bounds_label, byte_name, call_start, constant_expr, data_name, has_bytes, has_test, init_func, init_stmts}
-pub use Rattle.c_init.specs.Init.{limits_label, local_if, loop_label, make_global, make_memory, make_table, max_number, n32, n64}
-pub use Rattle.c_init.specs.Init.{place_expr, set_pointer, signature, size_name, start_stmts, take_stmts, takes_from, test_bounds}
-pub use Rattle.c_init.specs.Init.{test_data, test_elements, test_max, test_min, tests_bounds, tests_limits, trap_if}
-pub use Rattle.c_init.specs.Init.{write_data, write_element, write_elements}
-pub use Rattle.c_unit.specs.Items.{bodies, data_of, declaration, items, prototype}
-pub use Rattle.c_unit.specs.Accepted.{IsAccepted}
+pub use Rattle.c_init.specs.Init.{limits_label, local_if, loop_label, make_global, make_memory, make_table, max_number, n32, n64, signature}
+pub use Rattle.c_init.specs.Init.{place_expr, set_pointer, size_name, start_stmts, take_stmts, takes_from, test_bounds, test_data, test_max}
+pub use Rattle.c_init.specs.Init.{test_elements, test_min, tests_bounds, tests_limits, trap_if, write_data, write_element, write_elements}
+pub use Rattle.unit_definition.specs.Items.{bodies, data_of, declaration, items, prototype}
+pub use Rattle.unit_definition.specs.Accepted.{IsAccepted}
 pub use Rattle.unit_rules.specs.Shape.{DefinesExternal, GivesExport, GivesObject, HasShape, HaveSame, UnitsAreProper, declared_names}
 pub use Rattle.unit_rules.specs.Shape.{defined_names, module_objects, own_symbols, unit_objects}

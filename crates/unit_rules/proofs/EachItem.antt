@@ -1,18 +1,17 @@
 -- What holds of an object, of a segment's bytes and of a declaration holds of all in their section of an accepted module's unit.
 use Rattle.unit_rules.proofs.Common.{◌≡◌, ℕ, suc, ◌+◌, ◌^◌, ◌<◌, true, List, [], ◌∷◌, map, length, slice_get, Some, None, zip, flat_map}
-use Rattle.unit_rules.proofs.Common.{sym, refl, subst, arith, slice_get_within, AllByRecursion, range_with_len, all_behind, all_front}
-use Rattle.unit_rules.proofs.Common.{all_weaker, all_append, all_at, all_flat, all_map, numbered, ValType, imported_globals}
-use Rattle.unit_rules.proofs.Common.{is_global_import, NamedModule, Import, ImportKind, ImportGlobal, SegmentEntry, Module, global_name}
-use Rattle.unit_rules.proofs.Common.{memory_name, table_name, pointer_name, Name, c_type_of, CType, declared_symbols, firsts}
-use Rattle.unit_rules.proofs.Common.{global_imports, import_symbol, memory_imports, pointer_type, symbol_type, table_imports, data_name}
-use Rattle.unit_rules.proofs.Common.{data_of, declaration, IsAccepted}
+use Rattle.unit_rules.proofs.Common.{sym, refl, subst, arith, slice_get_within, AllByRecursion, range_with_len, all_behind, all_front, Name}
+use Rattle.unit_rules.proofs.Common.{all_weaker, all_append, all_at, all_flat, all_map, numbered, ValType, imported_globals, NamedModule}
+use Rattle.unit_rules.proofs.Common.{is_global_import, Import, ImportKind, ImportGlobal, SegmentEntry, Module, global_name, memory_name}
+use Rattle.unit_rules.proofs.Common.{table_name, pointer_name, c_type_of, CType, declared_symbols, firsts, global_imports, import_symbol}
+use Rattle.unit_rules.proofs.Common.{memory_imports, pointer_type, symbol_type, table_imports, data_name, data_of, declaration, IsAccepted}
 use Rattle.c_symbols.specs.Symbols.{declared_type}
 use Rattle.c_tree.specs.declared.tree.CType.TheVariants as type
 use Rattle.c_tree.specs.Tree as tree
 use Rattle.c_init.proofs.Small.{all_images, all_pass}
-use Rattle.c_unit.proofs.SectionLists.{declarations, global_item, globals, mems, objects, pointer_item, pointers, tabs}
-use Rattle.c_unit.proofs.Sections.{few_globals, few_imports, pointers_are}
-use Rattle.c_unit.specs.Items.{data_item}
+use Rattle.unit_definition.proofs.SectionLists.{declarations, global_item, globals, mems, objects, pointer_item, pointers, tabs}
+use Rattle.unit_definition.proofs.Sections.{few_globals, few_imports, pointers_are}
+use Rattle.unit_definition.specs.Items.{data_item}
 
 -- ---- lists
 

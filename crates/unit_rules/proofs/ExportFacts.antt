@@ -12,7 +12,7 @@ use Rattle.w2c_mangle.specs.declared.symbol.SymbolKind.TheVariants as symbol
 use Rattle.wasm_typing.specs.declared.fault.ValidCause.TheVariants as cause
 use Rattle.wasm_typing.specs.ModuleFaults.{module_faults}
 use Rattle.c_tree.specs.Tree as tree
-use Rattle.c_unit.proofs.Pairs.{AllPairs}
+use Rattle.unit_definition.proofs.Pairs.{AllPairs}
 use Rattle.c_init.proofs.NoFaults.{rows_of}
 use Rattle.c_init.proofs.Small.{each_none, no_fault, no_left, no_right, there_is}
 use Rattle.std.proofs.lemmas.Bool.{or_parts}

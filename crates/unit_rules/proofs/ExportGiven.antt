@@ -17,10 +17,10 @@ use Rattle.c_tree.specs.Scope.{pointer_to}
 use Rattle.c_init.proofs.Countable.{few_memories, few_tables}
 use Rattle.c_init.proofs.NoFaults.{rows_of}
 use Rattle.c_init.proofs.Small.{each_none, no_fault, some_same}
-use Rattle.c_unit.proofs.KnownNames.{imported_global}
-use Rattle.c_unit.proofs.Knowledge.{own_global, own_memory_is, own_table_is}
-use Rattle.c_unit.proofs.SectionLists.{objects}
-use Rattle.c_unit.proofs.Sections.{few_globals}
+use Rattle.unit_definition.proofs.KnownNames.{imported_global}
+use Rattle.unit_definition.proofs.Knowledge.{own_global, own_memory_is, own_table_is}
+use Rattle.unit_definition.proofs.SectionLists.{objects}
+use Rattle.unit_definition.proofs.Sections.{few_globals}
 use Rattle.unit_rules.proofs.ExportTypes.{HasShape, accessor_is, accessor_shape, object_import_type, passes_shape, pointer_is}
 use Rattle.unit_rules.proofs.ExportTypes.{wrapper_types}
 use Rattle.unit_rules.proofs.KnownFuncs.{kept_among}

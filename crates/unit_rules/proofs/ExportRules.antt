@@ -12,7 +12,7 @@ use Rattle.unit_rules.proofs.Common.{value_arg, ends_well, no_object, no_void, a
 use Rattle.unit_rules.proofs.Common.{call_if, external, named_params, param_name, params_from, passes_on, result_name}
 use Rattle.c_tree.specs.declared.tree.CType.TheVariants as type
 use Rattle.c_tree.specs.Tree as tree
-use Rattle.c_unit.proofs.Pairs.{all_range}
+use Rattle.unit_definition.proofs.Pairs.{all_range}
 use Rattle.unit_rules.proofs.ItemRules.{IsFunction, own_of, names_of_vars}
 use Rattle.std.proofs.Math.Nat.{zero-add}
 use Rattle.body_rules.proofs.Rules.{TakesResult}
@@ -267,6 +267,5 @@ address_is declared pointer u object symbol s found p no_void no_object = record
     here = record {
       declared = declared;
       func = external (accessor_type pointer) symbol [] (tree.Return (tree.Address object) ∷ []);
-      body =
-          record { locals = []; stmts = tree.Return (tree.Address object) ∷ [] };
+      body = record { locals = []; stmts = tree.Return (tree.Address object) ∷ [] };
     }

@@ -8,10 +8,10 @@ use Rattle.unit_rules.proofs.ExportGiven.{IsGiven, each_export, few_types, valid
 use Rattle.c_tree.specs.declared.tree.CType.TheVariants as type
 use Rattle.c_tree.specs.Tree as tree
 use Rattle.c_init.proofs.Small.{some_same}
-use Rattle.c_unit.proofs.AcceptedLimits.{accepted_limits}
-use Rattle.c_unit.proofs.BodiesAt.{few_found}
-use Rattle.c_unit.proofs.SectionLists.{exports}
-use Rattle.c_unit.proofs.Sections.{of_export, symbol_is}
+use Rattle.unit_definition.proofs.AcceptedLimits.{accepted_limits}
+use Rattle.unit_definition.proofs.BodiesAt.{few_found}
+use Rattle.unit_definition.proofs.SectionLists.{exports}
+use Rattle.unit_definition.proofs.Sections.{of_export, symbol_is}
 use Rattle.unit_rules.proofs.ExportFacts.{func_typed}
 use Rattle.unit_rules.proofs.ExportRules.{IsExternal, address_is, passes_on_is}
 use Rattle.unit_rules.proofs.ItemRules.{KeepsBehind, function_keeps}

@@ -20,11 +20,11 @@ use Rattle.c_init.proofs.FewParts.{few_parts}
 use Rattle.c_init.proofs.Small.{all_images, there_is}
 use Rattle.c_init.specs.Init.{part_func, parts_of}
 use Rattle.c_tree.specs.DefinedNames.{part_name}
-use Rattle.c_unit.proofs.AcceptedLimits.{accepted_limits}
-use Rattle.c_unit.proofs.BodiesAt.{few_found, few_params}
-use Rattle.c_unit.proofs.Pairs.{firsts_all}
-use Rattle.c_unit.proofs.SectionLists.{declarations, exports, functions_of, helpers, objects, prototypes}
-use Rattle.c_unit.proofs.Sections.{export_name, few_funcs}
+use Rattle.unit_definition.proofs.AcceptedLimits.{accepted_limits}
+use Rattle.unit_definition.proofs.BodiesAt.{few_found, few_params}
+use Rattle.unit_definition.proofs.Pairs.{firsts_all}
+use Rattle.unit_definition.proofs.SectionLists.{declarations, exports, functions_of, helpers, objects, prototypes}
+use Rattle.unit_definition.proofs.Sections.{export_name, few_funcs}
 use Rattle.unit_rules.proofs.EachItem.{IsObject, each_data, each_declared, each_numbered, each_object, global_pointer, memory_pointer}
 use Rattle.unit_rules.proofs.EachItem.{own_global, own_memory, own_table, table_pointer}
 use Rattle.unit_rules.proofs.ExportFacts.{each_of}
@@ -192,11 +192,7 @@ module _ (m : NamedModule) (a : IsAccepted m) where
 
   pub declarations_formed : AllByRecursion IsFormed (declarations m)
   declarations_formed = each_declared m a IsFormed IsName symbols_named (λ n h. (
-    (
-      h,
-      all_images (λ (p : tree.Param). IsNamedIfAny p.1) (λ t. (t, None)) (declared_type (symbol_type m n)).params (λ t. tt),
-      tt,
-    ),
+    (h, all_images (λ (p : tree.Param). IsNamedIfAny p.1) (λ t. (t, None)) (declared_type (symbol_type m n)).params (λ t. tt), tt),
     (
       mapped_has (λ t. (t, None)) (declared_type (symbol_type m n)).params
           (symbol_has m HasParams func_has (λ pointer plain. omega arith) n),

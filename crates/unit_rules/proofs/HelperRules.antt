@@ -75,8 +75,7 @@ module _ (s l : Scope) (g : Grows s l) where
       none : (o : Option CType) → o ≡ None → arg_suits s t (tree.Address n) ≡ true → ⊥
       none o e f = absurd (false≢true (rw (no_file_var n, arg_suits) at f))
   arg_kept t (tree.OfFunction n) k = (
-    λ f. absurd
-        (not_both (is_some (named n (file_functions s))) (no_file_func n) (both_hold (is_some (named n (file_functions s))) _ f).0),
+    λ f. absurd (not_both (is_some (named n (file_functions s))) (no_file_func n) (both_hold (is_some (named n (file_functions s))) _ f).0),
     refl,
   )
 

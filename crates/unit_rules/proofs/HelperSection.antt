@@ -11,8 +11,8 @@ use Rattle.c_tree.specs.declared.tree.CType.TheVariants as type
 use Rattle.c_tree.specs.Tree as tree
 use Rattle.wasm_tree.specs.declared.operators.LoadOp.TheVariants as load
 use Rattle.wasm_tree.specs.declared.operators.StoreOp.TheVariants as store
-use Rattle.c_unit.proofs.SectionLists.{helpers}
-use Rattle.c_unit.proofs.Pairs.{AllPairs}
+use Rattle.unit_definition.proofs.SectionLists.{helpers}
+use Rattle.unit_definition.proofs.Pairs.{AllPairs}
 use Rattle.c_helpers.specs.declared.operation.Helper.TheVariants as helper
 use Rattle.c_helpers.specs.declared.operation.NumOp.TheVariants as num
 use Rattle.c_init.proofs.Small.{all_images}
@@ -86,8 +86,7 @@ differ_all : {A : Type 0} (f : A → Name) (xs : List A) → are_distinct (map f
 differ_all f [] e = tt
 differ_all {A = A} f (x ∷ xs) e =
     let both = both_hold (not (is_among (f x) (map f xs))) _ e in (
-      apart xs (not-true (is_among (f x)
-          (map f xs)) both.0),
+      apart xs (not-true (is_among (f x) (map f xs)) both.0),
       differ_all f xs both.1,
     )
   where

@@ -1,24 +1,23 @@
 -- The statements of the init function keep the rules in a scope that knows what they name, and their numbers fit: those that take
 -- imports and make what the module defines.
 use Rattle.unit_rules.proofs.Common.{◌≡◌, ℕ, zero, suc, ◌+◌, ◌^◌, ◌<◌, Bool, true, false, not, ◌||◌, List, [], ◌∷◌, map, length, is_some}
-use Rattle.unit_rules.proofs.Common.{is_none, if◌then◌else◌, IsSome, nat_lt, slice_get, Some, None, codes, filter, Option, flat_map}
-use Rattle.unit_rules.proofs.Common.{bytes_eq, sym, refl, ap, ◌∙◌, subst, arith, zero-add, or_left, or_right, slice_get_within}
-use Rattle.unit_rules.proofs.Common.{AllByRecursion, list_any, all_behind, all_front, get_mapped, all_append, all_at, all_from, all_map}
-use Rattle.unit_rules.proofs.Common.{get_front, at_index, named, FuncType, ValType, global_count, func_space, global_space}
-use Rattle.unit_rules.proofs.Common.{imported_global_space, imported_globals, is_func_import, is_global_import, is_memory_import}
-use Rattle.unit_rules.proofs.Common.{is_table_import, memory_of_import, memory_space, table_of_import, table_space, type_in, Code}
-use Rattle.unit_rules.proofs.Common.{GlobalGet, I32Const, I64Const, end_code, then_code, NamedModule, IsMaximum, GlobalEntry, Import}
-use Rattle.unit_rules.proofs.Common.{ImportKind, ImportFunc, ImportGlobal, ImportMemory, ImportTable, Limits, LimitsEntry, SegmentEntry}
-use Rattle.unit_rules.proofs.Common.{Module, shape_of, shape_of_global, global_name, memory_name, table_name, label_name, pointer_name}
-use Rattle.unit_rules.proofs.Common.{is_runtime_name, is_void, labels_of, proper_types, primitives, HasType, Name, Scope, arrays, functions}
-use Rattle.unit_rules.proofs.Common.{is_among, is_object_type, variables, FitsStmt, depth_limit, c_type_of, CType, bytes_equal, callee}
-use Rattle.unit_rules.proofs.Common.{function_name, global_value, memory_arg, table_arg, accessor_type, c_func_type, global_imports}
-use Rattle.unit_rules.proofs.Common.{import_symbol, import_type, is_usable, memory_imports, pointer_type, table_imports, pointer_points}
-use Rattle.unit_rules.proofs.Common.{IsArg, IsTyped, Passes, at, call_passes, call_passes_as, if_passes, n32_typed, n64_typed, name_typed}
-use Rattle.unit_rules.proofs.Common.{null_passes, op_typed, set_passes, star_typed, value_arg, wide_typed, no_object, byte_name}
-use Rattle.unit_rules.proofs.Common.{constant_expr, data_name, has_bytes, has_test, limits_label, make_global, make_memory, make_table}
-use Rattle.unit_rules.proofs.Common.{max_number, n32, n64, place_expr, set_pointer, size_name, take_stmts, takes_from, test_max, test_min}
-use Rattle.unit_rules.proofs.Common.{tests_bounds, tests_limits, IsAccepted}
+use Rattle.unit_rules.proofs.Common.{is_none, if◌then◌else◌, IsSome, nat_lt, slice_get, Some, None, codes, filter, Option, flat_map, sym}
+use Rattle.unit_rules.proofs.Common.{bytes_eq, refl, ap, ◌∙◌, subst, arith, zero-add, or_left, or_right, slice_get_within, AllByRecursion}
+use Rattle.unit_rules.proofs.Common.{list_any, all_behind, all_front, get_mapped, all_append, all_at, all_from, all_map, get_front, named}
+use Rattle.unit_rules.proofs.Common.{at_index, FuncType, ValType, global_count, func_space, global_space, imported_global_space, type_in}
+use Rattle.unit_rules.proofs.Common.{imported_globals, is_func_import, is_global_import, is_memory_import, is_table_import, memory_space}
+use Rattle.unit_rules.proofs.Common.{memory_of_import, table_of_import, table_space, Code, GlobalGet, I32Const, I64Const, end_code, Import}
+use Rattle.unit_rules.proofs.Common.{then_code, NamedModule, IsMaximum, GlobalEntry, ImportKind, ImportFunc, ImportGlobal, ImportMemory, at}
+use Rattle.unit_rules.proofs.Common.{ImportTable, Limits, LimitsEntry, SegmentEntry, Module, shape_of, shape_of_global, global_name, Name}
+use Rattle.unit_rules.proofs.Common.{memory_name, table_name, label_name, pointer_name, is_runtime_name, is_void, labels_of, proper_types}
+use Rattle.unit_rules.proofs.Common.{primitives, HasType, Scope, arrays, functions, is_among, is_object_type, variables, FitsStmt, CType}
+use Rattle.unit_rules.proofs.Common.{depth_limit, c_type_of, bytes_equal, callee, function_name, global_value, memory_arg, table_arg, IsArg}
+use Rattle.unit_rules.proofs.Common.{accessor_type, c_func_type, global_imports, import_symbol, import_type, is_usable, memory_imports, n32}
+use Rattle.unit_rules.proofs.Common.{pointer_type, table_imports, pointer_points, IsTyped, Passes, call_passes, call_passes_as, if_passes}
+use Rattle.unit_rules.proofs.Common.{n32_typed, n64_typed, name_typed, null_passes, op_typed, set_passes, star_typed, value_arg, wide_typed}
+use Rattle.unit_rules.proofs.Common.{no_object, byte_name, constant_expr, data_name, has_bytes, has_test, limits_label, make_global, n64}
+use Rattle.unit_rules.proofs.Common.{make_memory, make_table, max_number, place_expr, set_pointer, size_name, take_stmts, takes_from}
+use Rattle.unit_rules.proofs.Common.{test_max, test_min, tests_bounds, tests_limits, IsAccepted}
 use Rattle.w2c_base.specs.declared.value.ValType.TheVariants.{I32}
 use Rattle.w2c_base.proofs.Lists.{all_unmapped, contains_kept, get_behind}
 use Rattle.w2c_base.proofs.Numbers.{one_moves}
@@ -27,7 +26,7 @@ use Rattle.std.proofs.lemmas.Option.{slice_get_past}
 use Rattle.c_tree.specs.declared.tree.CType.TheVariants as type
 use Rattle.c_tree.specs.declared.tree.COp.TheVariants as op
 use Rattle.c_tree.specs.Tree as tree
-use Rattle.c_unit.proofs.KnownNames.{imported_global}
+use Rattle.unit_definition.proofs.KnownNames.{imported_global}
 use Rattle.c_init.specs.Fitting.{ShapeFits}
 use Rattle.c_init.specs.Init.{asks_something, primitive, test_limits}
 use Rattle.unit_rules.proofs.EachItem.{all_unflat}

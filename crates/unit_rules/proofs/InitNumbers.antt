@@ -9,8 +9,8 @@ use Rattle.unit_rules.proofs.Common.{signature, IsAccepted}
 use Rattle.c_tree.specs.Tree as tree
 use Rattle.w2c_base.specs.declared.trap.TrapKind.TheVariants as trap
 use Rattle.body_rules.proofs.FormedCode.{signature_below}
-use Rattle.c_unit.proofs.AcceptedLimits.{accepted_limits}
-use Rattle.c_unit.proofs.BodiesAt.{few_params}
+use Rattle.unit_definition.proofs.AcceptedLimits.{accepted_limits}
+use Rattle.unit_definition.proofs.BodiesAt.{few_params}
 
 pattern_32 : (z : ℤ) → pattern_of 32 z < 2 ^ 32
 pattern_32 (pos a) = omega arith

@@ -27,12 +27,13 @@ use Rattle.c_init.specs.Fitting.{ShapeFits}
 use Rattle.c_init.specs.Instantiable.{DataIsValid, ElementIsValid, IsInstantiable}
 use Rattle.c_init.proofs.NoFaults.{rows_of, used_by_elements, used_by_segments}
 use Rattle.c_init.proofs.PartsOf.{Kind, parts_are}
-use Rattle.c_unit.proofs.AcceptedLimits.{accepted_limits}
-use Rattle.c_unit.proofs.Instantiable.{modules_are_instantiable}
-use Rattle.c_unit.proofs.KnownNames.{in_vars, no_var, past_vars}
-use Rattle.c_unit.proofs.Knowledge.{own_global, imported_global_is, own_memory_is, own_table_is, imported_memory_is, imported_table_is}
-use Rattle.c_unit.proofs.SectionLists.{exports, functions_of, mems, objects, parts, tabs}
-use Rattle.c_unit.proofs.Sections.{tabs_class}
+use Rattle.unit_definition.proofs.AcceptedLimits.{accepted_limits}
+use Rattle.unit_definition.proofs.Instantiable.{modules_are_instantiable}
+use Rattle.unit_definition.proofs.KnownNames.{in_vars, no_var, past_vars}
+use Rattle.unit_definition.proofs.Knowledge.{own_global, imported_global_is, own_memory_is, own_table_is, imported_memory_is}
+use Rattle.unit_definition.proofs.Knowledge.{imported_table_is}
+use Rattle.unit_definition.proofs.SectionLists.{exports, functions_of, mems, objects, parts, tabs}
+use Rattle.unit_definition.proofs.Sections.{tabs_class}
 use Rattle.unit_rules.proofs.Clashes.{IsFound, all_found}
 use Rattle.unit_rules.proofs.EachItem.{each_numbered}
 use Rattle.unit_rules.proofs.ExportFacts.{func_typed}
@@ -313,8 +314,7 @@ module _ (m : NamedModule) (a : IsAccepted m) (declared : List tree.Item) (d : I
   abbrev pub PartsKnown : ℕ → Type 0
   PartsKnown parts = (k : ℕ) → k < parts → named (part_name k) (funcs_in declared) ≡ Some (record {
     params = type.Void ∷ [];
-    result =
-        type.Void;
+    result = type.Void;
   })
 
   calls_good : (stmts : List tree.Stmt) (parts k n : ℕ) → PartsKnown parts → k + n ≤ parts

@@ -3,15 +3,14 @@
 use Rattle.unit_rules.proofs.Common.{◌≡◌, ℕ, suc, ◌^◌, ◌<◌, Bool, true, false, not, ◌&&◌, List, [], ◌∷◌, map, length, is_none, IsSome, ◌==◌}
 use Rattle.unit_rules.proofs.Common.{slice_get, Some, None, codes, Option, flat_map, refl, subst, arith, or_right, AllByRecursion, list_any}
 use Rattle.unit_rules.proofs.Common.{all_weaker, all_append, all_flat, at_index, named, code_of, FuncType, TrapKind, ValType, func_space}
-use Rattle.unit_rules.proofs.Common.{func_type_in, global_space, memory_space, type_in, Code, NamedModule, ElementEntry, SegmentEntry}
-use Rattle.unit_rules.proofs.Common.{Start, Module, is_other_than_start, module_faults, shape_of, start_faults, label_name, labels_of}
-use Rattle.unit_rules.proofs.Common.{proper_types, HasType, Name, Scope, arrays, functions, is_among, variables, FitsArg, FitsExpr}
-use Rattle.unit_rules.proofs.Common.{c_params_of, CType, N32, callee, function_name, memory_arg, table_arg, c_func_type, IsArg, IsTyped}
-use Rattle.unit_rules.proofs.Common.{call_passes, call_passes_as, element_typed, if_passes, label_passes, n32_typed, n64_typed, name_typed}
-use Rattle.unit_rules.proofs.Common.{null_passes, op_typed, set_passes, value_arg, Present, first_present, left_present, right_present}
-use Rattle.unit_rules.proofs.Common.{bounds_label, byte_name, call_start, data_name, has_bytes, loop_label, n64, place_expr, signature}
-use Rattle.unit_rules.proofs.Common.{size_name, start_stmts, test_bounds, test_data, test_elements, tests_bounds, tests_limits, trap_if}
-use Rattle.unit_rules.proofs.Common.{write_data, IsAccepted}
+use Rattle.unit_rules.proofs.Common.{func_type_in, global_space, memory_space, type_in, Code, NamedModule, ElementEntry, SegmentEntry, Name}
+use Rattle.unit_rules.proofs.Common.{Start, Module, is_other_than_start, module_faults, shape_of, start_faults, label_name, labels_of, N32}
+use Rattle.unit_rules.proofs.Common.{proper_types, HasType, Scope, arrays, functions, is_among, variables, FitsArg, FitsExpr, c_params_of}
+use Rattle.unit_rules.proofs.Common.{CType, callee, function_name, memory_arg, table_arg, c_func_type, IsArg, IsTyped, call_passes, Present}
+use Rattle.unit_rules.proofs.Common.{call_passes_as, element_typed, if_passes, label_passes, n32_typed, n64_typed, name_typed, null_passes}
+use Rattle.unit_rules.proofs.Common.{op_typed, set_passes, value_arg, first_present, left_present, right_present, bounds_label, byte_name}
+use Rattle.unit_rules.proofs.Common.{call_start, data_name, has_bytes, loop_label, n64, place_expr, signature, size_name, start_stmts}
+use Rattle.unit_rules.proofs.Common.{test_bounds, test_data, test_elements, tests_bounds, tests_limits, trap_if, write_data, IsAccepted}
 use Rattle.w2c_base.specs.declared.value.ValType.TheVariants.{I32}
 use Rattle.wasm_typing.specs.declared.fault.ValidCause.TheVariants as cause
 use Rattle.c_tree.specs.declared.tree.CType.TheVariants as type
@@ -114,16 +113,10 @@ module _ (m : NamedModule) (a : IsAccepted m) (s : Scope) (k : InitKnows m s) wh
           k.table h.valid.there,
           (
             value_arg s _ type.U64 (place_typed m a s k x.0.offset (n64 x.1.0) h.valid.offset (n64_typed s x.1.0)),
-            (
-              k.elements x.1.1.index h.known,
-              (value_arg s _ type.U64 (n64_typed s (signature (func_type_in t x.1.1.index))), tt),
-            ),
+            (k.elements x.1.1.index h.known, (value_arg s _ type.U64 (n64_typed s (signature (func_type_in t x.1.1.index))), tt)),
           ),
         ) tt,
-    (
-      tt,
-      (table_fits m a 99, (place_fits m a 97 x.0.offset (n64 x.1.0) (wider x.1.0 h.small), (tt, (signature_fits m a x.1.1.index, tt)))),
-    ),
+    (tt, (table_fits m a 99, (place_fits m a 97 x.0.offset (n64 x.1.0) (wider x.1.0 h.small), (tt, (signature_fits m a x.1.1.index, tt))))),
   )
 
   -- the loop over a segment's bytes
@@ -140,10 +133,7 @@ module _ (m : NamedModule) (a : IsAccepted m) (s : Scope) (k : InitKnows m s) wh
       ∷ [])
   loop_good n offset count fits has few known there label =
       let byte : IsTyped s (tree.Name byte_name) (HasType type.U64) = name_typed s byte_name type.U64 known refl in (
-        (
-          set_passes s byte_name (tree.Value (n64 0)) type.U64 known refl (value_arg s _ type.U64 (n64_typed s 0)),
-          zero_fits,
-        ),
+        (set_passes s byte_name (tree.Value (n64 0)) type.U64 known refl (value_arg s _ type.U64 (n64_typed s 0)), zero_fits),
         (
           (label_passes s (label_name (loop_label n)) refl, tt),
           (

@@ -11,7 +11,7 @@ use Rattle.unit_rules.proofs.Common.{bytes_equal, all_true, not_there, Passes, a
 use Rattle.unit_rules.proofs.Common.{none_of_all, take_before, same_number, NoneOf, class}
 use Rattle.c_tree.specs.Tree as tree
 use Rattle.c_tree.specs.Rules.{Place}
-use Rattle.c_unit.proofs.Pairs.{AllPairs}
+use Rattle.unit_definition.proofs.Pairs.{AllPairs}
 use Rattle.body_rules.proofs.RulesOfFunctions.{all_at as all_around}
 use Rattle.unit_rules.proofs.Clashes.{MayFollow, NoClass, NoRuntime, pairs_at}
 

@@ -6,7 +6,7 @@ use Rattle.unit_rules.proofs.Common.{is_func_import, Import, ImportKind, ImportF
 use Rattle.unit_rules.proofs.Common.{CType, bytes_equal, Typed, firsts, params_of, at}
 use Rattle.std.proofs.lemmas.Map.Views.{Contains-from_any}
 use Rattle.c_tree.specs.Tree as tree
-use Rattle.body_emitter.specs.Variables.{params_from}
+use Rattle.body_forms.specs.Variables.{params_from}
 use Rattle.w2c_base.proofs.Lists.{get_kept}
 use Rattle.c_init.proofs.Small.{all_pass, some_same}
 
@@ -70,8 +70,7 @@ firsts_have q seen (n ∷ names) e f = by (bytes_eq q n) refl (is_among n seen) 
         → (is_among q names ≡ true → is_among q (firsts seen names) ≡ true)
         → (is_among q names ≡ true → is_among q (n ∷ seen) ≡ false → is_among q (firsts (n ∷ seen) names) ≡ true)
         → is_among q (if was then firsts seen names else n ∷ firsts (n ∷ seen) names) ≡ true
-    by true s true w g rest more =
-        absurd (false≢true (sym (subst (λ z. is_among z seen ≡ false) ((bytes_eq-Decides q n).0 s) f) ∙ w))
+    by true s true w g rest more = absurd (false≢true (sym (subst (λ z. is_among z seen ≡ false) ((bytes_eq-Decides q n).0 s) f) ∙ w))
     by true s false w g rest more = or_left (bytes_eq q n) (is_among q (firsts (n ∷ seen) names)) s
     by false s true w g rest more = rest g
     by false s false w g rest more = or_right (bytes_eq q n) (is_among q (firsts (n ∷ seen) names)) (more g (rw (s, f) refl))

@@ -13,14 +13,15 @@ use Rattle.c_symbols.specs.Symbols.{declared_type}
 use Rattle.w2c_base.proofs.Lists.{all_unmapped, contains_kept, get_numbered}
 use Rattle.w2c_base.proofs.NumberedLists.{numbered_at}
 use Rattle.c_tree.specs.Tree as tree
-use Rattle.c_unit.specs.Items.{data_item}
+use Rattle.unit_definition.specs.Items.{data_item}
 use Rattle.unit_rules.proofs.EachItem.{all_unflat}
 use Rattle.c_tree.proofs.SameTypes.{func_types_same}
 use Rattle.c_init.proofs.Small.{some_same, there_in}
-use Rattle.c_unit.proofs.BodiesAt.{BodyAt}
-use Rattle.c_unit.proofs.KnownNames.{in_vars, get_late, get_past}
-use Rattle.c_unit.proofs.Knowledge.{own_global, imported_global_is, own_memory_is, own_table_is, imported_memory_is, imported_table_is}
-use Rattle.c_unit.proofs.SectionLists.{declarations, helpers, objects, prototypes}
+use Rattle.unit_definition.proofs.BodiesAt.{BodyAt}
+use Rattle.unit_definition.proofs.KnownNames.{in_vars, get_late, get_past}
+use Rattle.unit_definition.proofs.Knowledge.{own_global, imported_global_is, own_memory_is, own_table_is, imported_memory_is}
+use Rattle.unit_definition.proofs.Knowledge.{imported_table_is}
+use Rattle.unit_definition.proofs.SectionLists.{declarations, helpers, objects, prototypes}
 use Rattle.unit_rules.proofs.Clashes.{IsFound, all_found}
 use Rattle.unit_rules.proofs.KnownFuncs.{among_contained, declared_typed, firsts_have, imported_func, kept_among, param_types}
 use Rattle.unit_rules.proofs.KnownFuncs.{without_names}

@@ -8,7 +8,7 @@ use Rattle.unit_rules.proofs.Common.{result_name, usable_symbol, GivesExport, Gi
 use Rattle.w2c_base.specs.declared.value.ValType.TheVariants as val
 use Rattle.c_tree.specs.declared.tree.CType.TheVariants as type
 use Rattle.c_tree.specs.Tree as tree
-use Rattle.c_unit.proofs.PointerTypes.{IsPointer, of_table, of_memory, of_u32, of_u64}
+use Rattle.unit_definition.proofs.PointerTypes.{IsPointer, of_table, of_memory, of_u32, of_u64}
 
 -- what a call of a symbol gives
 abbrev PassesOn : Name → tree.Func → Type 0

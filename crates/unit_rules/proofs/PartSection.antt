@@ -17,9 +17,9 @@ use Rattle.c_init.specs.Portions.{numbered_from}
 use Rattle.c_init.proofs.FewParts.{few_parts}
 use Rattle.c_init.proofs.InitLabelsDiffer.{bytes_within, init_within, none_flat, none_map, plain_within}
 use Rattle.c_init.proofs.PartsOf.{Consecutive}
-use Rattle.c_unit.proofs.AcceptedLimits.{accepted_limits}
-use Rattle.c_unit.proofs.SectionLists.{init, parts}
-use Rattle.c_unit.proofs.Sections.{init_is}
+use Rattle.unit_definition.proofs.AcceptedLimits.{accepted_limits}
+use Rattle.unit_definition.proofs.SectionLists.{init, parts}
+use Rattle.unit_definition.proofs.Sections.{init_is}
 use Rattle.unit_rules.proofs.EachItem.{each_from, each_numbered}
 use Rattle.unit_rules.proofs.ExportFacts.{each_of}
 use Rattle.unit_rules.proofs.FormedSections.{IsFormed}

@@ -9,11 +9,11 @@ use Rattle.c_symbols.specs.Symbols.{declared_type}
 use Rattle.w2c_base.specs.declared.value.ValType.TheVariants.{I32, I64}
 use Rattle.c_tree.specs.declared.tree.CType.TheVariants as type
 use Rattle.c_tree.specs.Tree as tree
-use Rattle.body_emitter.specs.Variables.{params_from}
+use Rattle.body_forms.specs.Variables.{params_from}
 use Rattle.c_init.proofs.Small.{all_images}
-use Rattle.c_unit.proofs.Pairs.{firsts_all}
-use Rattle.c_unit.proofs.SectionLists.{declarations, objects, prototypes}
-use Rattle.c_unit.proofs.Sections.{of_import, symbol_is}
+use Rattle.unit_definition.proofs.Pairs.{firsts_all}
+use Rattle.unit_definition.proofs.SectionLists.{declarations, objects, prototypes}
+use Rattle.unit_definition.proofs.Sections.{of_import, symbol_is}
 use Rattle.unit_rules.proofs.EachItem.{IsObject, each_data, each_declared, each_object, global_pointer, memory_pointer, own_global}
 use Rattle.unit_rules.proofs.EachItem.{own_memory, own_table, table_pointer}
 use Rattle.unit_rules.proofs.ItemRules.{KeepsBehind, array_keeps, declaration_keeps, declared_func, variable_keeps}

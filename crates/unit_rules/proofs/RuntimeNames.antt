@@ -4,7 +4,7 @@ use Rattle.unit_rules.proofs.Common.{bytes_eq-Decides, both_hold, all_weaker, na
 use Rattle.unit_rules.proofs.Common.{is_runtime_name, Name, name_of, funcs_in, vars_in, class}
 use Rattle.w2c_base.proofs.Tests.{by_test}
 use Rattle.c_tree.specs.Tree as tree
-use Rattle.c_unit.proofs.Sections.{AllClass}
+use Rattle.unit_definition.proofs.Sections.{AllClass}
 use Rattle.unit_rules.proofs.Clashes.{NoRuntime, other_class}
 
 -- a name of the runtime has the class of symbols

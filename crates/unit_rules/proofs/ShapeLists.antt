@@ -13,14 +13,14 @@ use Rattle.c_symbols.specs.Symbols.{declared_type}
 use Rattle.w2c_base.specs.declared.value.ValType.TheVariants.{I32, I64}
 use Rattle.c_tree.specs.declared.tree.CType.TheVariants as type
 use Rattle.c_tree.specs.Tree as tree
-use Rattle.c_unit.proofs.SectionLists.{declarations, exports, functions_of, helpers, init, objects, parts, prototypes, globals, mems}
-use Rattle.c_unit.proofs.SectionLists.{pointers, tabs}
+use Rattle.unit_definition.proofs.SectionLists.{declarations, exports, functions_of, helpers, init, objects, parts, prototypes, globals}
+use Rattle.unit_definition.proofs.SectionLists.{mems, pointers, tabs}
 use Rattle.c_init.specs.Init.{part_func, parts_of}
-use Rattle.c_unit.proofs.Defined.{body_is, export_external}
-use Rattle.c_unit.proofs.Pairs.{firsts_all}
+use Rattle.unit_definition.proofs.Defined.{body_is, export_external}
+use Rattle.unit_definition.proofs.Pairs.{firsts_all}
 use Rattle.c_init.proofs.Small.{all_images}
 use Rattle.w2c_base.proofs.Tests.{by_test}
-use Rattle.c_unit.proofs.Sections.{pointers_class}
+use Rattle.unit_definition.proofs.Sections.{pointers_class}
 use Rattle.unit_rules.proofs.EachItem.{IsObject, each_data, each_object, global_pointer, own_global, own_memory, own_table}
 use Rattle.unit_rules.proofs.ExportFacts.{symbol_types}
 use Rattle.unit_rules.proofs.ExportGiven.{each_shape}

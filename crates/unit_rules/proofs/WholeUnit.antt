@@ -1,26 +1,26 @@
 -- What is so of all items of an accepted module's unit together.
 use Rattle.unit_rules.proofs.Common.{◌≡◌, ℕ, ◌+◌, ◌-◌, ◌<◌, ◌≤◌, true, false, not, ◌≢◌, ◌⊎◌, List, [], ◌∷◌, ◌++◌, map, length, Some, All}
-use Rattle.unit_rules.proofs.Common.{bytes_eq, sym, refl, ap, ◌∙◌, subst, inl, inr, append_assoc, arith, or_right, All-from_recursion}
-use Rattle.unit_rules.proofs.Common.{bytes_eq-Decides, AllByRecursion, list_any, range_with_len, all_front, all_weaker, get_mapped}
-use Rattle.unit_rules.proofs.Common.{all_append, all_at, all_from, all_map, get_front, init_symbol_of-not_export, init_symbol_of-parts}
-use Rattle.unit_rules.proofs.Common.{export_symbol_of, init_symbol_of, SymbolKind, imported_funcs, NamedModule, Export, Module}
-use Rattle.unit_rules.proofs.Common.{same_c_func_type, func_name, defines, is_runtime_name, may_both_stand, same_func_type, Name}
-use Rattle.unit_rules.proofs.Common.{func_type_of, bytes_equal, Typed, declared_symbols, export_symbol, export_type, firsts, import_symbol}
-use Rattle.unit_rules.proofs.Common.{symbol_type, body_of, lettered, export_func, init_func, bodies, data_of, declaration}
-use Rattle.unit_rules.proofs.Common.{items, prototype, IsAccepted}
+use Rattle.unit_rules.proofs.Common.{bytes_eq, sym, refl, ap, ◌∙◌, subst, inl, inr, append_assoc, arith, or_right, All-from_recursion, Name}
+use Rattle.unit_rules.proofs.Common.{bytes_eq-Decides, AllByRecursion, list_any, range_with_len, all_front, all_weaker, get_mapped, all_at}
+use Rattle.unit_rules.proofs.Common.{all_append, all_from, all_map, get_front, init_symbol_of-not_export, init_symbol_of-parts, SymbolKind}
+use Rattle.unit_rules.proofs.Common.{export_symbol_of, init_symbol_of, imported_funcs, NamedModule, Export, Module, same_c_func_type, Typed}
+use Rattle.unit_rules.proofs.Common.{func_name, defines, is_runtime_name, may_both_stand, same_func_type, func_type_of, bytes_equal, firsts}
+use Rattle.unit_rules.proofs.Common.{declared_symbols, export_symbol, export_type, import_symbol, symbol_type, body_of, lettered, init_func}
+use Rattle.unit_rules.proofs.Common.{export_func, bodies, data_of, declaration, items, prototype, IsAccepted}
 use Rattle.c_symbols.specs.Symbols.{declared_type}
 use Rattle.w2c_base.proofs.Lists.{get_behind, get_numbered}
 use Rattle.c_tree.specs.Tree as tree
 use Rattle.c_init.proofs.Small.{all_images}
-use Rattle.c_unit.proofs.AcceptedLimits.{accepted_limits}
-use Rattle.c_unit.proofs.BodiesAt.{BodyAt, body_at}
-use Rattle.c_unit.proofs.Defined.{body_is}
-use Rattle.c_unit.proofs.Pairs.{AllPairs, all_range, firsts_all, firsts_differ, pairs_range}
-use Rattle.c_unit.proofs.SectionLists.{declarations, exports, functions_of, globals, helpers, init, mems, objects, parts, pointers}
-use Rattle.c_unit.proofs.SectionLists.{prototypes, tabs}
-use Rattle.c_unit.proofs.Sections.{bodies_class, data_class, data_pairs, declared_class, export_name, exports_class, few_funcs}
-use Rattle.c_unit.proofs.Sections.{globals_class, globals_pairs, helpers_class, init_class, mems_class, mems_pairs, of_export, of_import}
-use Rattle.c_unit.proofs.Sections.{parts_class, parts_pairs, pointers_class, pointers_pairs, prototypes_class, tabs_class, tabs_pairs}
+use Rattle.unit_definition.proofs.AcceptedLimits.{accepted_limits}
+use Rattle.unit_definition.proofs.BodiesAt.{BodyAt, body_at}
+use Rattle.unit_definition.proofs.Defined.{body_is}
+use Rattle.unit_definition.proofs.Pairs.{AllPairs, all_range, firsts_all, firsts_differ, pairs_range}
+use Rattle.unit_definition.proofs.SectionLists.{declarations, exports, functions_of, globals, helpers, init, mems, objects, parts, pointers}
+use Rattle.unit_definition.proofs.SectionLists.{prototypes, tabs}
+use Rattle.unit_definition.proofs.Sections.{bodies_class, data_class, data_pairs, declared_class, export_name, exports_class, few_funcs}
+use Rattle.unit_definition.proofs.Sections.{globals_class, globals_pairs, helpers_class, init_class, mems_class, mems_pairs, of_export}
+use Rattle.unit_definition.proofs.Sections.{of_import, parts_class, parts_pairs, pointers_class, pointers_pairs, prototypes_class}
+use Rattle.unit_definition.proofs.Sections.{tabs_class, tabs_pairs}
 use Rattle.unit_rules.proofs.Clashes.{Apart, AreApart, MayFollow, NoRuntime, NotSame, Section, in_row, next_apart, next_other, no_class}
 use Rattle.unit_rules.proofs.Clashes.{not_same, pairs_front, pairs_mapped, pairs_weaker, NoClass}
 use Rattle.unit_rules.proofs.ExportFacts.{symbol_types, symbols_differ, import_kind}
@@ -274,9 +274,4 @@ module _ (m : NamedModule) (a : IsAccepted m) where
 
   -- what the whole unit declares
   pub all_declared : IsDeclared m (items m)
-  all_declared = record {
-    rest = later m ++ init m;
-    is = sym (items_are m);
-    apart = unit_whole.apart;
-    no_runtime = no_runtime;
-  }
+  all_declared = record { rest = later m ++ init m; is = sym (items_are m); apart = unit_whole.apart; no_runtime = no_runtime }

@@ -9,7 +9,7 @@ use Rattle.c_tree.specs.declared.tree.CType.TheVariants as c_type
 use Rattle.c_tree.specs.Tree as tree
 use Rattle.c_tree.specs.Scope.{Name}
 use Rattle.c_tree.specs.DefinedNames.{func_name}
-use Rattle.c_unit.specs.Samples.{limits, export, import, call}
+use Rattle.unit_definition.specs.Samples.{limits, export, import, call}
 
 -- it takes a function, has one of its own, a table and a memory, and exports its function and its memory
 abbrev pub shaped : NamedModule

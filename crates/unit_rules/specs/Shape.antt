@@ -23,8 +23,8 @@ use Rattle.c_tree.specs.DefinedNames.{memory_name, table_name, func_name, global
 use Rattle.c_meaning.specs.Linking.{Definition, defined, defined_for_all, external_functions}
 use Rattle.w2c_base.specs.Lookup.{numbered}
 use Rattle.c_symbols.specs.Symbols.{c_func_type_if, import_symbol, import_type, symbol_type, export_symbol, export_type}
-use Rattle.c_unit.specs.Items.{items_of}
-use Rattle.c_unit.specs.Accepted.{IsAccepted}
+use Rattle.unit_definition.specs.Items.{items_of}
+use Rattle.unit_definition.specs.Accepted.{IsAccepted}
 
 -- the symbols of its init function and of its exports
 abbrev pub own_symbols : NamedModule → List Name

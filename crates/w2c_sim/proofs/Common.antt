@@ -17,14 +17,14 @@ pub use Rattle.wasm_valid.proofs.Verdicts.{accepted, valid}
 pub use Rattle.wasm_valid.specs.FileVerdict.{FileVerdict, IsVerdictOn, Read, Unread}
 pub use Rattle.c_tree.specs.Spelled.{CSpells, Formed}
 pub use Rattle.c_tree.specs.TypesInC.{c_func_type_of, c_params_of, c_result_of}
-pub use Rattle.c_tree.specs.View.{item_of, unit_of}
+pub use Rattle.c_tree.specs.View.{unit_of}
 pub use Rattle.c_print.proofs.ItemsWritten.{ArePut, IsWritten, all_written, begun, fails_at_include, fails_between, fails_in, is_contained}
 pub use Rattle.c_print.proofs.ItemsWritten.{one_more, put_all, put_include, put_more, stops_at_include, stops_between, stops_in}
 pub use Rattle.c_print.specs.Print.{print_item_of, print_of}
 pub use Rattle.wasm_meaning.specs.LinkedSet.{IsFunc, LinkedSet, exported, instances}
 pub use Rattle.c_meaning.specs.Linking.{Program, called_func, defined_for_all, fits, func_type}
-pub use Rattle.c_unit.specs.Items.{items}
-pub use Rattle.c_unit.specs.Accepted.{IsAccepted}
+pub use Rattle.unit_definition.specs.Items.{items}
+pub use Rattle.unit_definition.specs.Accepted.{IsAccepted}
 pub use Rattle.unit_meaning.specs.Sets.{IsAcceptedSet, UnitsDoTheSame, program_of, symbol_call}
-pub use Rattle.c_unit.specs.Tails.{Given, left_of}
+pub use Rattle.c_unit.specs.Left.{Given, left_of}
 pub use Rattle.w2c_sim.specs.Translation.{AreTextsOf, IsModuleOf, SpellsUnit, header_text_of, text_of}

@@ -11,7 +11,7 @@ use Rattle.c_print.specs.Print.{print_of}
 use Rattle.c_print.specs.Header.{header_text}
 use Rattle.wasm_tree.specs.Bytes.{AreBytes}
 use Rattle.wasm_tree.specs.NamedModule.{NamedModule}
-use Rattle.c_unit.specs.Items.{items_of, header_of}
+use Rattle.unit_definition.specs.Items.{items_of, header_of}
 use Rattle.unit_rules.specs.Shape.{HasShape}
 use Rattle.w2c_sim.specs.declared.translation.Texts.{Texts}
 

@@ -10,7 +10,7 @@ ghost use Rattle.c_tree.specs.Spelled.{Formed};
 ghost use Rattle.c_tree.specs.View.{unit_of};
 ghost use Rattle.c_print.specs.Print.{print_of};
 ghost use Rattle.c_print.specs.Header.{header_text};
-ghost use Rattle.c_unit.specs.Accepted.{IsAccepted};
+ghost use Rattle.unit_definition.specs.Accepted.{IsAccepted};
 ghost use Rattle.w2c_sim.specs.Translation.{AreTextsOf, IsTranslation};
 
 use crate::file_verdict::accept;

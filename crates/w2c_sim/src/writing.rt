@@ -5,10 +5,10 @@ ghost use Rattle.w2c_io.specs.Causes.{WriteCause, name_after_write};
 ghost use Rattle.w2c_io.specs.Passed.{Passes, PutsText, PutsPart};
 ghost use Rattle.c_tree.specs.Spelled.{Formed};
 ghost use Rattle.c_print.specs.Print.{print_of};
-ghost use Rattle.c_unit.specs.Tails.{left_of};
+ghost use Rattle.c_unit.specs.Left.{left_of};
 ghost use Rattle.w2c_sim.specs.Translation.{text_of, header_text_of};
 
-use c_print::{print_header, print_item_to};
+use c_print::{print_header, print_packed_to};
 use c_tree::Tok;
 use c_unit::{UnitItems, header};
 use std::alloc::Global;
@@ -18,7 +18,7 @@ use w2c_io::{Files, WriteAnswer};
 use wasm_typing::ValidModule;
 
 /// Appends the text of a module's unit under a name to the current file: the include line, then an item at a time, so
-/// that one function's tree and a piece of its text are held at most. It is the text that `translate` gives.
+/// that one function's statements, packed, and a piece of its text are held at most. It is the text that `translate` gives.
 ///
 /// # Errors
 ///
@@ -71,10 +71,8 @@ fn write_items<F: Files>(
     ensures tried { IfErr result (λ why. Passes (F.trace files.old) (F.trace files.new) (PutsPart (print_of (left_of items.old)) why)) }
 {
     files.put(Tok::Include.text())?;
-    'more: while let Some(item) = items.next(alloc)? {
-        let written = print_item_to(alloc, &item, files);
-        drop(item);
-        written?;
+    'more: while let Some(item) = items.next_packed()? {
+        print_packed_to(alloc, item, files)?;
     }
     Ok(())
 }

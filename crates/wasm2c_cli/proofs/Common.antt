@@ -1,9 +1,8 @@
 -- What proofs of this crate cite of std, of the crates below and of specs/, passed on from one place. Declares nothing.
-pub use Rattle.std.proofs.Common.{◌≡◌, ℕ, zero, suc, ◌+◌, ◌-◌, ◌*◌, ◌≤◌, Bool, true, false, ◌&&◌, ◌≢◌, ◌⊎◌, List, [], ◌∷◌, ◌++◌}
-pub use Rattle.std.proofs.Common.{map, length, get_or, take, drop, replicate, IfOk, IfErr, if◌then◌else◌, OnOk, OnErr, IsTrue, nat_le}
-pub use Rattle.std.proofs.Common.{slice_get, Some, None, Ok, Err, string_bytes, codes, Option, Result, MatchOption, zip}
-pub use Rattle.std.proofs.Common.{option_and_then, bytes_eq, unwrap_or, sym, refl, ap, ◌∙◌, subst, inl, inr, append_assoc, append-nil}
-pub use Rattle.std.proofs.Common.{arith, rules, leb-true}
+pub use Rattle.std.proofs.Common.{◌≡◌, ℕ, zero, suc, ◌+◌, ◌-◌, ◌*◌, ◌≤◌, Bool, true, false, ◌&&◌, ◌≢◌, ◌⊎◌, List, [], ◌∷◌, ◌++◌, map}
+pub use Rattle.std.proofs.Common.{length, get_or, take, drop, replicate, IfOk, IfErr, if◌then◌else◌, OnOk, OnErr, IsTrue, nat_le, slice_get}
+pub use Rattle.std.proofs.Common.{Some, None, Ok, Err, string_bytes, codes, Option, Result, MatchOption, zip, option_and_then, bytes_eq}
+pub use Rattle.std.proofs.Common.{unwrap_or, sym, refl, ap, ◌∙◌, subst, inl, inr, append_assoc, append-nil, arith, rules, leb-true}
 pub use Rattle.std.proofs.lemmas.List.{append_cancel_left, length-map}
 pub use Rattle.std.proofs.lemmas.Option.{same_Some}
 pub use Rattle.std.proofs.lemmas.Result.{IfErr-weaker, IfOk-weaker, on_ok_weaker}

@@ -8,7 +8,7 @@ use Rattle.std.specs.FinMap.{get}
 use Rattle.clap.proofs.OnLiterals.{clap_on_literals}
 use Rattle.wasm_valid.proofs.Verdicts as verdicts
 use Rattle.c_print.specs.Print.{print_of}
-use Rattle.c_unit.specs.Items.{items_of}
+use Rattle.unit_definition.specs.Items.{items_of}
 use Rattle.program_words.specs.Command.{rows_read}
 use Rattle.wasm2c_words.specs.Command.{values_of}
 use Rattle.wasm_spelling.proofs.WorkedModule.{two_spelled, two_tree}

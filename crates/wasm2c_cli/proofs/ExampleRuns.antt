@@ -1,7 +1,6 @@
 -- Runs of README's unit: two.c spells it and no other, and each call of its export is nine statements and gives 42.
-use Rattle.wasm2c_cli.proofs.Common.{◌≡◌, ℕ, zero, suc, ◌+◌, ◌*◌, ◌≤◌, ◌≢◌, List, [], ◌∷◌, ◌++◌, map, length, replicate, Some, zip, sym}
-use Rattle.wasm2c_cli.proofs.Common.{refl, ap, ◌∙◌, subst, inl, inr, append_assoc, append-nil, arith, range_with_len, two_c, two_call}
-use Rattle.wasm2c_cli.proofs.Common.{two_run}
+use Rattle.wasm2c_cli.proofs.Common.{◌≡◌, ℕ, zero, suc, ◌+◌, ◌*◌, ◌≤◌, ◌≢◌, List, [], ◌∷◌, ◌++◌, map, length, replicate, Some, zip, sym, ap}
+use Rattle.wasm2c_cli.proofs.Common.{refl, ◌∙◌, subst, inl, inr, append_assoc, append-nil, arith, range_with_len, two_c, two_call, two_run}
 use Rattle.std.proofs.lemmas.Bool.{cases_lt}
 use Rattle.w2c_base.specs.declared.value.Value.TheVariants.{I32}
 use Rattle.w2c_base.specs.Run.{Call, CallEnded, Event, Host, Init, Phase, Reply, values_in}

@@ -81,12 +81,7 @@ module _ (line : Line) (m : Contents) (given put : List Event) (new : Told) (cur
       let (middle, other, first, last) = honest_both at.first (Read file most_module_bytes at.answer ∷ []) (Some m) told current name
       (subst (λ (es : List Event). AreHonest es (Some m) current told name) at.calls before) in
       let (held, kept, fit) = reads_are most_module_bytes at.front at.all at.first m (Some m) middle current other refl at.read first in (
-        (
-          last.0,
-          other,
-          last.1,
-          subst (λ (t : Told). Does (Read file most_module_bytes at.answer) t other last.0 last.1) kept last.2,
-        ),
+        (last.0, other, last.1, subst (λ (t : Told). Does (Read file most_module_bytes at.answer) t other last.0 last.1) kept last.2),
         record { held = held; fit = fit; together = at.together },
       )
 
@@ -114,8 +109,7 @@ module _ (line : Line) (m : Contents) (given put : List Event) (new : Told) (cur
       by told here now (Err reading.Absent) NotThere stops calls does = inl does.0
       by told here now (Err reading.Failed) NotThere stops calls does = inr (refl, (at.first, most_module_bytes, calls))
       by told here now (Err reading.TooLong) TooLong stops calls does = inl does.0
-      by told here now (Ok bytes) (Past place) (long, is) calls does =
-          inl (bytes, does.0, does.3, omega (arith, long, at.together), is)
+      by told here now (Ok bytes) (Past place) (long, is) calls does = inl (bytes, does.0, does.3, omega (arith, long, at.together), is)
       by told here now _ _ stops calls does = absurd stops
 
   missing_job : (file : Name) → StopsAfter (inputs_of line) given file NotThere → IsJobOf line m (Missing file) ⊎ FailsLast file given
@@ -165,8 +159,7 @@ module _ (words : List Name) (status : ℕ) (says : List ℕ → Type 0) (m : Co
       of_words job of_line = is_job words line m job found of_line
 
       writes : (files : List (Name × List ℕ)) → IsJobOver line p.given (Write files) → IsJob words m (Write files)
-      writes files job =
-          of_words (Write files) (written_job line _ _ _ _ _ _ p.reads honest files job)
+      writes files job = of_words (Write files) (written_job line _ _ _ _ _ _ p.reads honest files job)
 
       on_job : (job : Job) → IsJobOver line p.given job → Follows job status says p.put → Comes status
       on_job Usage job follows = absurd follows
@@ -180,21 +173,14 @@ module _ (words : List Name) (status : ℕ) (says : List ℕ → Type 0) (m : Co
             | inr (front, limit, calls) ↦ inr (
               front,
               limit,
-              p.split ∙ (λ i. calls i ++ none i)
-                  ∙ append-nil (front ++ Read file limit (Err reading.Failed) ∷ []),
+              p.split ∙ (λ i. calls i ++ none i) ∙ append-nil (front ++ Read file limit (Err reading.Failed) ∷ []),
             )
           ],
         ),
       )
       on_job (Refused file reason) job (is, none, said) = subst Comes (sym is) (
         same none,
-        (
-          file,
-          reason,
-          said,
-          of_words (Refused file reason)
-              (refused_job line _ _ _ _ _ _ p.reads honest file reason job),
-        ),
+        (file, reason, said, of_words (Refused file reason) (refused_job line _ _ _ _ _ _ p.reads honest file reason job)),
       )
       on_job (Write files) job (inl (is, wrote)) = subst Comes (sym is) (
         files,

@@ -57,8 +57,7 @@ module _ (line : Line) (S : Name → Unreadable → Type 0) (R : List (List ℕ)
 
   limit_not_written : (file : Name) (reason : Reason) (files : List (Name × List ℕ)) → PassesLimitBy (S file) reason
       → WritesBy R line files → ⊥
-  limit_not_written file reason files limit w =
-      let (why, s, for) = over (S file) reason limit in stop_not_written file why files s w
+  limit_not_written file reason files limit w = let (why, s, for) = over (S file) reason limit in stop_not_written file why files s w
 
   refused_not_written : (sources : List (List ℕ)) (file : Name) (reason : Reason) (files : List (Name × List ℕ))
       → AreSourcesBy R line sources → IsFirstRefused (inputs_of line) sources file reason → WritesBy R line files → ⊥
@@ -88,8 +87,7 @@ module _ (line : Line) (S : Name → Unreadable → Type 0) (R : List (List ℕ)
 
   same_refusal : (file other : Name) (reason r : Reason) → Refuses file reason → Refuses other r → (file ≡ other) × (reason ≡ r)
   same_refusal file other reason r (inl limit) (inl limit') = one_limit S ends.one_stops file other reason r limit limit'
-  same_refusal file other reason r (inl limit) (inr (sources, read, first)) =
-      absurd (limit_not_sources file reason sources limit read)
+  same_refusal file other reason r (inl limit) (inr (sources, read, first)) = absurd (limit_not_sources file reason sources limit read)
   same_refusal file other reason r (inr (sources, read, first)) (inl limit) = absurd (limit_not_sources other r sources limit read)
   same_refusal file other reason r (inr (sources, read, first)) (inr (others, read', first')) =
       one_first_refused (inputs_of line) sources file other reason r first

@@ -24,8 +24,7 @@ given false x y e = absurd (cc)
 -- ---- names of modules
 
 fit_name : (name : List ℕ) → is_module_name name ≡ true → (1 ≤ length name) × (length name ≤ 1024)
-fit_name name fits =
-    let parts = both_hold _ _ fits in (leb-true 1 (length name) parts.0, leb-true (length name) 1024 parts.1)
+fit_name name fits = let parts = both_hold _ _ fits in (leb-true 1 (length name) parts.0, leb-true (length name) 1024 parts.1)
 
 fit_names : (dir : Name) (inputs : List Name) → list_all is_module_name (map module_name_of inputs) ≡ true
     → AllByRecursion HasName (map (target_in dir) inputs)

@@ -119,8 +119,7 @@ pub not_finished : (old begun middle new : List Event) (name : Name) (text : Lis
     → begun ≡ old ++ Begin name (Ok tt) ∷ [] → Passes begun middle (PutsText text) → new ≡ middle ++ Finish result ∷ []
     → IfErr result (λ why. Passes old new (BreaksOff name text why))
 not_finished old begun middle new name text (Ok x) begins put ends = tt
-not_finished old begun middle new name text (Err why) begins put ends =
-    finished_in_vain old begun middle new name text why begins put ends
+not_finished old begun middle new name text (Err why) begins put ends = finished_in_vain old begun middle new name text why begins put ends
 
 -- ---- where writing stops
 

@@ -194,5 +194,4 @@ module _ {A : Type 0} (old new : List Event) (words : List Name) (line : Line) (
       (λ stop. passed_so old new (TriesLine line stop) (TriesWork words stop) (λ events tried. inr (inr (line, is, tried))))
 
   pub work_passed : HasPassed line → OnOk result (Passes old new (PassesWhole line)) → OnOk result (Passes old new (PassesWork words))
-  work_passed has =
-      on_ok_weaker result (passed_so old new (PassesWhole line) (PassesWork words) (λ events whole. (line, is, has, whole)))
+  work_passed has = on_ok_weaker result (passed_so old new (PassesWhole line) (PassesWork words) (λ events whole. (line, is, has, whole)))

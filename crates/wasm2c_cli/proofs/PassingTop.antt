@@ -9,8 +9,7 @@ use Rattle.w2c_io.specs.declared.answers.WriteAnswer.TheVariants as writing
 use Rattle.wasm2c_cli.specs.declared.stop.Stop.TheVariants as stops
 use Rattle.wasm2c_cli.proofs.Passing.{all_read_first, many_read, none_read}
 use Rattle.wasm2c_cli.proofs.TopLaws.{Made, all_translated, files_made, generated_made, translated_by, hold_units, hold_weaker, no_runtime}
-use Rattle.wasm2c_cli.proofs.TopLaws.{TextsSpellUnits}
-use Rattle.wasm2c_cli.proofs.TopLaws.{targets_have}
+use Rattle.wasm2c_cli.proofs.TopLaws.{TextsSpellUnits, targets_have}
 
 -- ---- work that was finished
 

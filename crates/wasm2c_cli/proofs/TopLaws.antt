@@ -122,8 +122,7 @@ module _ (words : List Name) (old new : Told) (f : Finished) (fin : FinishesWork
       let (made, job, whole) = finish_done contents told in inr (Write made, job, ok)
 
   pub finish_stands : (contents : Contents) → old ≡ Some contents → StandsOfJob words contents old new
-  finish_stands contents told =
-      let (made, job, whole) = finish_done contents told in inr (made, job, all_stand old new made whole)
+  finish_stands contents told = let (made, job, whole) = finish_done contents told in inr (made, job, all_stand old new made whole)
 
   -- ---- the summary
 
@@ -158,8 +157,7 @@ module _ (words : List Name) (old new : Told) (f : Finished) (fin : FinishesWork
 -- where memory was wanting for the summary
 pub finish_part : (f : Finished) (said said' : Option (List ℕ)) → SumsUpPart said said' f
     → (line : List ℕ) × IsLine line × SaysPart said said' line
-finish_part finished.Written said said' same =
-    (memory_line, inl (stops.Memory, refl), ([], (memory_line, refl), same ∙ none_written said))
+finish_part finished.Written said said' same = (memory_line, inl (stops.Memory, refl), ([], (memory_line, refl), same ∙ none_written said))
 finish_part (finished.Generated count bytes) said said' part = (summary_line count bytes, inr (count, bytes, refl), part)
 
 -- work that was finished has no status of a stop
@@ -202,8 +200,7 @@ hold_units spell new (t ∷ targets) (bytes ∷ sources) (m ∷ modules) ((some,
       unit = spell bytes t.module_name m is_module;
     } in (
       here,
-      hold_units spell new targets sources modules has named taken (omega (arith, many))
-          (λ name text one. there name text (inr (inr one))),
+      hold_units spell new targets sources modules has named taken (omega (arith, many)) (λ name text one. there name text (inr (inr one))),
     )
 hold_units spell new _ _ _ has named taken many there = absurd taken
 
@@ -271,8 +268,7 @@ texts_stand new line contents stand = record {
   sources = stand.sources;
   modules = stand.modules;
   read = stand.read;
-  all = hold_weaker (HoldsUnit new) (HoldsText new) (λ t bytes m held. held.text) (targets_of line) stand.sources stand.modules
-      stand.all;
+  all = hold_weaker (HoldsUnit new) (HoldsText new) (λ t bytes m held. held.text) (targets_of line) stand.sources stand.modules stand.all;
 }
 
 pub are_linked : TranslationTheorem → (words : List Name) (old new : Told) → WritesUnits words old new → WritesLinkedUnits words old new
@@ -326,8 +322,7 @@ module _ (words : List Name) (old new : Told) (r r' w w' : ℕ) (named : Option 
     is_job words line contents (Refused (string_bytes file) reason) found (job contents told),
     is,
   )
-  line_answers line (stops.Unread file) found (one, inl faulted, same) is contents told no_reads no_writes =
-      absurd (no_reads faulted.rose)
+  line_answers line (stops.Unread file) found (one, inl faulted, same) is contents told no_reads no_writes = absurd (no_reads faulted.rose)
   line_answers line (stops.Unread file) found (one, inr (m, tells, job), same) is contents told no_reads no_writes = inr (
     Missing (string_bytes file),
     is_job words line contents (Missing (string_bytes file)) found
@@ -448,8 +443,7 @@ module _ (words : List Name) (old new : Told) (r r' w w' : ℕ) (named : Option 
           string_bytes file,
           subst (IsOutput (string_bytes file)) (sym found) output,
           faulted,
-          λ contents told.
-              let (made, job, at) = stands contents told in (made, is_job words line contents (Write made) found job, at),
+          λ contents told. let (made, job, at) = stands contents told in (made, is_job words line contents (Write made) found job, at),
           said,
         )
         by stops.Usage (line, found, why, is, said) = absurd why

@@ -91,8 +91,7 @@ count_is (call ∷ kept) last = ap suc (count_is kept last)
 pub ran_by_set : (s : LinkedSet) (p : Program) → p ≡ program_of s → (kept : List (Bor Call)) (last : Call) (steps : ℕ) (r : Ran)
     → HasRan (c_run p (symbols_of kept last) steps []) (length kept) r
     → HasRan (units_run s (listed_calls kept ++ listed_call last ∷ []) steps) (length kept) r
-ran_by_set s p is kept last steps r =
-    subst (λ run. HasRan run (length kept) r) (λ i. c_run (is i) (symbols_are kept last i) steps [])
+ran_by_set s p is kept last steps r = subst (λ run. HasRan run (length kept) r) (λ i. c_run (is i) (symbols_are kept last i) steps [])
 
 -- ---- what a run comes to
 

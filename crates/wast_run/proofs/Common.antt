@@ -36,8 +36,8 @@ pub use Rattle.wasm_set.specs.declared.set_module.SetModule.{SetModule}
 pub use Rattle.c_meaning.specs.Linking.{Program, SymbolCall, fits, link_refusal}
 pub use Rattle.c_meaning.specs.Run.{CRun, c_run}
 pub use Rattle.c_sound.specs.NeverStuck.{AllFit}
-pub use Rattle.c_unit.specs.Items.{items}
-pub use Rattle.c_unit.specs.Accepted.{IsAccepted}
+pub use Rattle.unit_definition.specs.Items.{items}
+pub use Rattle.unit_definition.specs.Accepted.{IsAccepted}
 pub use Rattle.unit_meaning.specs.Sets.{IsAcceptedSet, IsListing, NeverStops, UnitsDoTheSame, UnitsLink, program_of, symbol_call}
 pub use Rattle.program_words.proofs.Written.{extended_twice, line_cause, none_written, prefix_behind, prefix_in_front, prefix_of_itself}
 pub use Rattle.program_words.proofs.Written.{whole_behind}

@@ -69,11 +69,7 @@ unfolding module_faults
 two_is_valid = record {
   no_faults = refl;
   bodies = (
-    (
-      type.I32 ∷ [],
-      ([], refl, refl),
-      (type.I32 ∷ type.I32 ∷ [], (type.I32 ∷ [], refl, refl), (type.I32 ∷ [], ([], refl, refl), refl)),
-    ),
+    (type.I32 ∷ [], ([], refl, refl), (type.I32 ∷ type.I32 ∷ [], (type.I32 ∷ [], refl, refl), (type.I32 ∷ [], ([], refl, refl), refl))),
     tt,
   );
 }
@@ -137,13 +133,7 @@ five_report = refl
 first_holds : (contents : Contents) → Comes contents 100 alone (script.AssertReturn two_call (Some (I32 42))) word.Ok alone
 first_holds contents = (
   refl,
-  inl (
-    two_fits,
-    inr (
-      not_spent (units_run (set_at alone) (listed two_call ∷ []) 100).outcome one_ends,
-      inl (one_gives, refl),
-    ),
-  ),
+  inl (two_fits, inr (not_spent (units_run (set_at alone) (listed two_call ∷ []) 100).outcome one_ends, inl (one_gives, refl))),
 )
 
 call_kept : (contents : Contents) → Comes contents 100 alone (script.Invoke two_call) word.Ok called
@@ -154,10 +144,7 @@ second_holds contents = (
   refl,
   inl (
     two_fits,
-    inr (
-      not_spent (units_run (set_at alone) (listed two_call ∷ listed two_call ∷ []) 100).outcome both_end,
-      inl (both_give, refl),
-    ),
+    inr (not_spent (units_run (set_at alone) (listed two_call ∷ listed two_call ∷ []) 100).outcome both_end, inl (both_give, refl)),
   ),
 )
 

@@ -119,8 +119,7 @@ module _ (m : Contents) where
       (honest : AreHonest events (Some m) current new last) where
     abbrev stop_parts : (told : Told) × (name : Option Name) × AreHonest stops.first (Some m) current told name
         × AreHonest stops.last told name new last
-    stop_parts =
-        honest_both stops.first stops.last (Some m) new current last (rw stops.calls at honest)
+    stop_parts = honest_both stops.first stops.last (Some m) new current last (rw stops.calls at honest)
 
     abbrev stop_lead : LeadInTime m steps at_first stops.front stops.words stops.after × (stop_parts.0 ≡ Some m)
     stop_lead =
@@ -197,8 +196,7 @@ module _ (m : Contents) (words : List Name) (line : Line) (is : line_of words �
       (calls : events ≡ script_read line.script answer ++ given) (honest : AreHonest events (Some m) current new after) where
     abbrev script_parts : (told : Told) × (name : Option Name) × AreHonest (script_read line.script answer) (Some m) current told name
         × AreHonest given told name new after
-    script_parts =
-        honest_both (script_read line.script answer) given (Some m) new current after (rw calls at honest)
+    script_parts = honest_both (script_read line.script answer) given (Some m) new current after (rw calls at honest)
 
     abbrev script_does : (told : Told) × (other : Option Name)
         × Does (Read line.script most_script_bytes answer) (Some m) current told other × (script_parts.0 ≡ Some m)
@@ -287,10 +285,7 @@ module _ (words : List Name) (m : Contents) (old out : Option (List ℕ)) (event
         where
           by : Asks words m line answer (Stops (Refused why)) → Over words m old out events (Err (Refused why))
           by (inl fails) = absurd (refused_unread why line.script fails.1)
-          by (inr job) = (
-            (has_line, λ n tells. subst (λ m. IsJob words m (Stops (Refused why))) (same_Some m n tells) job),
-            same,
-          )
+          by (inr job) = ((has_line, λ n tells. subst (λ m. IsJob words m (Stops (Refused why))) (same_Some m n tells) job), same)
       stops_over (Unread file) job same none = (by (asked (Stops (Unread file)) job), inl same)
         where
           whole : events ≡ script_read line.script answer
@@ -319,11 +314,7 @@ module _ (words : List Name) (m : Contents) (old out : Option (List ℕ)) (event
               steps,
               commands,
               job,
-              (
-                stops.text,
-                stop_part m steps commands old out why given behind_script new after stops behind_honest,
-                stops.gained,
-              ),
+              (stops.text, stop_part m steps commands old out why given behind_script new after stops behind_honest, stops.gained),
             )
 
             missing : (file : Name) → FailsLast file given ⊎ IsFirstMissing m commands file
@@ -527,8 +518,7 @@ module _ (words : List Name) (m : Contents) (old out said said' : Option (List �
           by (inl four) = inr (inr (inl four))
           by (inr (inl five)) = inr (inr (inr (inl five)))
           by (inr (inr (inl fails))) = inr (inr (inr (inr fails)))
-          by (inr (inr (inr answered))) =
-              done (reported_always apart one words m steps commands job status there (inr answered))
+          by (inr (inr (inr answered))) = done (reported_always apart one words m steps commands job status there (inr answered))
 
       pub honest_not_there : (file : Name) → IsNamed commands file → get m file ≡ None
           → (status ≡ 3) ⊎ (status ≡ 4) ⊎ (status ≡ 5) ⊎ ((file : Name) × FailsLast file events)

@@ -46,8 +46,7 @@ module _ (w v : Word) (after other : Setting) where
 
   one_run : (s : LinkedSet) (calls : List ListedCall) (steps : ℕ) (IsRight : WasmRun → Type 0)
       → Runs s calls steps IsRight w → Runs s calls steps IsRight v → w ≡ v
-  one_run s calls steps IsRight a b =
-      same_case _ _ _ _ _ _ (alike w v _) (same_case _ _ _ _ _ _ (alike w v _) (alike w v _)) a b
+  one_run s calls steps IsRight a b = same_case _ _ _ _ _ _ (alike w v _) (same_case _ _ _ _ _ _ (alike w v _) (alike w v _)) a b
 
   one_assertion : (at : Setting) (call : script.Call) (steps : ℕ) (IsRight : WasmRun → Type 0)
       → Asserts at call steps IsRight w after → Asserts at call steps IsRight v other → AreSame

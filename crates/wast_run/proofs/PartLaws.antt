@@ -69,8 +69,7 @@ module _ (contents : Contents) (steps : ℕ) (commands front rest : List Command
   gained_lines at old now ok behind =
       let words = behind.words in (
         lines_of words,
-        part_of words at (lines_of words) behind.lead
-            (prefix_of_itself (lines_of words)),
+        part_of words at (lines_of words) behind.lead (prefix_of_itself (lines_of words)),
         behind.written,
       )
 
@@ -123,8 +122,7 @@ front_of : (P : Command → Type 0) (front rest before behind : List Command) (c
     → (P command → ⊥) → before ++ command ∷ behind ≡ front ++ rest
     → (more : List Command) × (before ≡ front ++ more) × (rest ≡ more ++ command ∷ behind)
 front_of P [] rest before behind command all not same = (before, refl, sym same)
-front_of P (x ∷ front) rest [] behind command all not same =
-    let e : command ≡ x = cc in absurd (not (subst P (sym e) all.0))
+front_of P (x ∷ front) rest [] behind command all not same = let e : command ≡ x = cc in absurd (not (subst P (sym e) all.0))
 front_of P (x ∷ front) rest (y ∷ before) behind command all not same =
     let heads : y ≡ x = cc in
     let tails : before ++ command ∷ behind ≡ front ++ rest = cc in

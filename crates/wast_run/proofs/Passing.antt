@@ -1,17 +1,16 @@
 -- What passes through the files, part by part.
 use Rattle.wast_run.proofs.Common.{◌≡◌, ℕ, suc, ◌+◌, ◌≤◌, Bool, ◌⊎◌, List, [], ◌∷◌, ◌++◌, length, if◌then◌else◌, ◌==◌, Some, None, Ok, Err}
-use Rattle.wast_run.proofs.Common.{Option, MatchOption, sym, refl, ap, ◌∙◌, subst, inl, inr, append_assoc, append-nil, both_passed}
-use Rattle.wast_run.proofs.Common.{none_passed, passed_so, HasFile, IsPrefix, Name, Told, extended, Event, Read, Passes, SaysPart, Module}
-use Rattle.wast_run.proofs.Common.{most_module_bytes, extended_twice, prefix_behind, prefix_in_front, prefix_of_itself, whole_behind, Line}
-use Rattle.wast_run.proofs.Common.{line_of, Command, ModuleFile, Reason, Refused, Unread, Unwritten, Usage, WantOfMemory, error_line}
-use Rattle.wast_run.proofs.Common.{status_of, IsScript, most_script_bytes, ScriptFault, GivesFirst, Reports, Stops, says_invalid}
-use Rattle.wast_run.proofs.Common.{says_malformed, tree_of, file_of, lines_before, Answer, ComesOver, DoesLine, Ending, EndsSo, IsJobBy}
-use Rattle.wast_run.proofs.Common.{IsNoFile, IsReadAs, LastLines, LastReads, LeadOver, PassesFor, ReportsOver, StopsIn, WantsMemory}
-use Rattle.wast_run.proofs.Common.{module_read, script_read, HasReportedOver, IsBehindOver, IsFaultBy, IsOfLine, IsStopBy, JudgesFile}
-use Rattle.wast_run.proofs.Common.{JudgesSo, ReadsScript, StopsOver, StopsRead, StopsScriptOver, StopsTellingOver, TellsOver, Asserts}
-use Rattle.wast_run.proofs.Common.{ComesBy, EndsWith, IsTimely, Joins, Keeps, Setting, TrapsIn, accepted_tree, at_first, command_line}
-use Rattle.wast_run.proofs.Common.{holds, is_invalid, is_malformed, is_ok, lines_of, ok_count, total_line, StopsLine, StopsWords, Judged}
-use Rattle.wast_run.proofs.Common.{Word}
+use Rattle.wast_run.proofs.Common.{Option, MatchOption, sym, refl, ap, ◌∙◌, subst, inl, inr, append_assoc, append-nil, both_passed, HasFile}
+use Rattle.wast_run.proofs.Common.{none_passed, passed_so, IsPrefix, Name, Told, extended, Event, Read, Passes, SaysPart, Module, Line}
+use Rattle.wast_run.proofs.Common.{most_module_bytes, extended_twice, prefix_behind, prefix_in_front, prefix_of_itself, whole_behind, Usage}
+use Rattle.wast_run.proofs.Common.{line_of, Command, ModuleFile, Reason, Refused, Unread, Unwritten, WantOfMemory, error_line, status_of}
+use Rattle.wast_run.proofs.Common.{IsScript, most_script_bytes, ScriptFault, GivesFirst, Reports, Stops, says_invalid, says_malformed, Word}
+use Rattle.wast_run.proofs.Common.{tree_of, file_of, lines_before, Answer, ComesOver, DoesLine, Ending, EndsSo, IsJobBy, IsNoFile, IsReadAs}
+use Rattle.wast_run.proofs.Common.{LastLines, LastReads, LeadOver, PassesFor, ReportsOver, StopsIn, WantsMemory, module_read, script_read}
+use Rattle.wast_run.proofs.Common.{HasReportedOver, IsBehindOver, IsFaultBy, IsOfLine, IsStopBy, JudgesFile, JudgesSo, ReadsScript, Asserts}
+use Rattle.wast_run.proofs.Common.{StopsOver, StopsRead, StopsScriptOver, StopsTellingOver, TellsOver, ComesBy, EndsWith, IsTimely, Joins}
+use Rattle.wast_run.proofs.Common.{Keeps, Setting, TrapsIn, accepted_tree, at_first, command_line, holds, is_invalid, is_malformed, is_ok}
+use Rattle.wast_run.proofs.Common.{lines_of, ok_count, total_line, StopsLine, StopsWords, Judged}
 use Rattle.w2c_io.specs.declared.answers.ReadAnswer.{ReadAnswer}
 use Rattle.w2c_io.specs.declared.answers.ReadAnswer.TheVariants as reading
 use Rattle.wast_script.specs.Commands as script

@@ -20,9 +20,7 @@ of_found make holds None c is = absurd (none-some c is)
 of_found make holds (Some a) c is = subst HasModuleName (same_Some (make a) c is) (holds a)
 
 long_enough : (n : ℕ) → nat_le 1 n && nat_le n 1024 ≡ true → (1 ≤ n) × (n ≤ 1024)
-long_enough n is =
-    let h = both_hold (nat_le 1 n) (nat_le n 1024) is in
-    (grind (arith, nat_tests, h.0), grind (arith, nat_tests, h.1))
+long_enough n is = let h = both_hold (nat_le 1 n) (nat_le n 1024) is in (grind (arith, nat_tests, h.0), grind (arith, nat_tests, h.1))
 
 of_module : (name filename : Option (List ℕ)) (c : Command)
     → option_map script.Module (module_with name filename) ≡ Some c → HasModuleName c

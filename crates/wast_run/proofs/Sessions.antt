@@ -47,11 +47,7 @@ if_stop None o P is some = tt
 if_stop (Some stop) o P is some = some stop (sym is)
 
 pub stops_later : (o : Outcome) (a b : ℕ) (run : CRun) → a ≤ b → StopsAt o a run → StopsAt o b run
-stops_later o a b run less stops = record {
-  stop = stops.stop;
-  is = stops.is;
-  before = λ k is. omega (arith, less, stops.before k is);
-}
+stops_later o a b run less stops = record { stop = stops.stop; is = stops.is; before = λ k is. omega (arith, less, stops.before k is) }
 
 -- the outcome of a call, whose end is told behind what was told before
 pub outcome_of_call : (o : Outcome) (told : List Event) (run : CRun) → IsEnd o run → run.events ≡ told_by told [] o → IsOutcomeOf o run
@@ -107,8 +103,7 @@ runs_further m a b c first second = record {
 -- what holds of the runs of the program holds of those at the start
 pub of_first : {H : Type 0} (m : HostModule H) (a b : State H) → RunsTheSame m a b → (P : CRun → Type 0) → (calls : List SymbolCall)
     → P (run_of m b calls) → P (run_of m a calls)
-of_first m a b same P calls =
-    subst P (λ i. c_run (same.program i) calls (same.steps i) [])
+of_first m a b same P calls = subst P (λ i. c_run (same.program i) calls (same.steps i) [])
 
 -- ---- a call
 
@@ -219,5 +214,4 @@ program_is m s linked is no_hosts = (λ i. record { units = map unit_of (is i).0
 pub no_hosts_left : {H : Type 0} (m : HostModule H) (hosts before : List H) → hosts_of m hosts ≡ hosts_of m before → before ≡ []
     → hosts ≡ []
 no_hosts_left m [] before same none = refl
-no_hosts_left m (h ∷ hosts) before same none =
-    let nothing : hosts_of m (h ∷ hosts) ≡ [] = same ∙ ap (hosts_of m) none in absurd cc
+no_hosts_left m (h ∷ hosts) before same none = let nothing : hosts_of m (h ∷ hosts) ≡ [] = same ∙ ap (hosts_of m) none in absurd cc

@@ -143,8 +143,7 @@ module _ {F O : Type 0} (words : List Name) (files : Files F) (out : Sink O) (x 
         by : (why : Reason) → Stopped why → Ends why status → (status ≡ 2) ⊎ (status ≡ 5)
         by Usage stop ends = ends
         by (Refused why) stop ends = absurd (stop.0.0 none)
-        by (Unread file) stop ends =
-            absurd (rw none at stop.0.0)
+        by (Unread file) stop ends = absurd (rw none at stop.0.0)
         by Unwritten stop ends = absurd (stop.1 none)
         by WantOfMemory stop ends = elim ends [ inl is ↦ inr is | inr is ↦ inr is ]
 
@@ -186,8 +185,7 @@ module _ {F O : Type 0} (words : List Name) (files : Files F) (out : Sink O) (x 
     stop_always apart m tells no_read other other_job = by (answered m tells no_read)
       where
         by : Stopped Unwritten ⊎ (status ≡ 5) ⊎ IsAnswered words m status → (status ≡ status_of other) ⊎ (status ≡ 5)
-        by (inl unwritten) =
-            let p = unwritten.2 m tells in absurd (job_apart apart words m p.0 p.1 other p.2 other_job)
+        by (inl unwritten) = let p = unwritten.2 m tells in absurd (job_apart apart words m p.0 p.1 other p.2 other_job)
         by (inr (inl five)) = inr five
         by (inr (inr (Stops first, job, is))) = inl (is ∙ one_status words m first other job other_job)
         by (inr (inr (Reports steps commands, job, answers))) = absurd (job_apart apart words m steps commands other job other_job)

@@ -5,9 +5,7 @@ use Rattle.wast_run.proofs.Common.{ok_count, total_line, Word}
 
 pub lines_more : (number : ℕ) (words : List Word) (w : Word)
     → lines_from number (words ++ w ∷ []) ≡ lines_from number words ++ command_line (number + length words) w
-lines_more number [] w =
-    let e : number ≡ number + 0 = omega arith in
-    append-nil (command_line number w) ∙ ap (λ n. command_line n w) e
+lines_more number [] w = let e : number ≡ number + 0 = omega arith in append-nil (command_line number w) ∙ ap (λ n. command_line n w) e
 lines_more number (x ∷ words) w =
     let e : suc number + length words ≡ number + suc (length words) = omega arith in
     ap (λ l. command_line number x ++ l) (lines_more (suc number) words w)

@@ -46,14 +46,7 @@ module _ (words : List Name) (line : Line) (is : line_of words ≡ Some line) (t
   script_stops reads reads' named old faults (Unread name) (same, inl faulted) =
       ((to_read name (inl same), inl (subst (λ f. Faulted f reads reads' named) (sym same) faulted)), λ m tells. inl refl)
   script_stops reads reads' named old faults (Unread name) (same, inr (m, tells, none)) = (
-    (
-      to_read name (inl same),
-      inr (
-        m,
-        tells,
-        inl (rw same (job_of_none m none)),
-      ),
-    ),
+    (to_read name (inl same), inr (m, tells, inl (rw same (job_of_none m none)))),
     λ m tells. inl refl,
   )
   script_stops reads reads' named old faults (Refused why) (not, faulty) =
@@ -85,13 +78,9 @@ module _ (words : List Name) (line : Line) (is : line_of words ≡ Some line) (t
       λ m tells. inr (gained old new gains m tells),
     )
     report_stops start reads reads' named old new faults faults' (Unread file) later (is_named, inr (m, tells, missing), gains) = (
-      (
-        to_read file (inr (gave.0, gave.1, commands, gave.2, is_named)),
-        inr (m, tells, inr (line.steps, commands, job m tells, missing)),
-      ),
+      (to_read file (inr (gave.0, gave.1, commands, gave.2, is_named)), inr (m, tells, inr (line.steps, commands, job m tells, missing))),
       λ m tells. inr (gained old new gains m tells),
     )
     report_stops start reads reads' named old new faults faults' Unwritten later (rose, gains) = (rose, has_reading, gained old new gains)
-    report_stops start reads reads' named old new faults faults' WantOfMemory later gains =
-        λ m tells. inr (gained old new gains m tells)
+    report_stops start reads reads' named old new faults faults' WantOfMemory later gains = λ m tells. inr (gained old new gains m tells)
     report_stops start reads reads' named old new faults faults' _ later stop = absurd stop

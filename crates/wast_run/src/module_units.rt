@@ -2,8 +2,8 @@
 ghost use Rattle.std.specs.Prelude.{◌≡◌, ◌≤◌, ◌<◌, [], length, map, All, None, IfOk};
 ghost use Rattle.c_tree.specs.View.{unit_of};
 ghost use Rattle.c_meaning.specs.Linking.{link_refusal};
-ghost use Rattle.c_unit.specs.Items.{items};
-ghost use Rattle.c_unit.specs.Accepted.{IsAccepted};
+ghost use Rattle.unit_definition.specs.Items.{items};
+ghost use Rattle.unit_definition.specs.Accepted.{IsAccepted};
 ghost use Rattle.wast_run.specs.Ran.{alone};
 
 use c_link::{LinkRefusal, Linked, link};

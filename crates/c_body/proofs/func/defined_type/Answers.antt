@@ -1,4 +1,4 @@
-use Rattle.c_body.proofs.Zipped.{no_func_type, no_body_type, type_of_both}
+use Rattle.body_definition.proofs.Zipped.{no_func_type, no_body_type, type_of_both}
 use Rattle.c_body.proofs.func.defined_type.Goals as goal
 
 pub returns-in-None : goal.returns-in-None

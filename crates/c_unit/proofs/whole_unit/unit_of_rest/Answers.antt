@@ -1,4 +1,4 @@
-use Rattle.c_unit.specs.Tails.{left_of}
+use Rattle.c_unit.specs.Left.{left_of}
 use Rattle.c_unit.proofs.AllGiven.{put_next, fewer, all_put}
 use Rattle.c_unit.proofs.whole_unit.unit_of_rest.Goals as goal
 

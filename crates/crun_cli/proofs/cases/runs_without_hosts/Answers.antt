@@ -36,47 +36,19 @@ module _ {H : Type 0} (m : HostModule H) where
 
 pub returns-clause-quotient : goal.returns-clause-quotient
 unfolding digits
-returns-clause-quotient g c = record {
-  asks = [];
-  after = [];
-  answered = refl;
-  told = refl;
-  has_status = refl;
-  lines = refl;
-}
+returns-clause-quotient g c = record { asks = []; after = []; answered = refl; told = refl; has_status = refl; lines = refl }
 
 pub returns-clause-division_by_0 : goal.returns-clause-division_by_0
 unfolding digits
-returns-clause-division_by_0 g c = record {
-  asks = [];
-  after = [];
-  answered = refl;
-  told = refl;
-  has_status = refl;
-  lines = refl;
-}
+returns-clause-division_by_0 g c = record { asks = []; after = []; answered = refl; told = refl; has_status = refl; lines = refl }
 
 pub returns-clause-few_statements : goal.returns-clause-few_statements
 unfolding digits
-returns-clause-few_statements g c = record {
-  asks = [];
-  after = [];
-  answered = refl;
-  told = refl;
-  has_status = refl;
-  lines = refl;
-}
+returns-clause-few_statements g c = record { asks = []; after = []; answered = refl; told = refl; has_status = refl; lines = refl }
 
 pub returns-clause-trap : goal.returns-clause-trap
 unfolding digits
-returns-clause-trap g c = record {
-  asks = [];
-  after = [];
-  answered = refl;
-  told = refl;
-  has_status = refl;
-  lines = refl;
-}
+returns-clause-trap g c = record { asks = []; after = []; answered = refl; told = refl; has_status = refl; lines = refl }
 
 pub returns-clause-other_status : goal.returns-clause-other_status
 returns-clause-other_status g c run = other_status g.H.HostModule _ run

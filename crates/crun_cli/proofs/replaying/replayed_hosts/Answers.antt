@@ -24,11 +24,7 @@ returns-in-Err-Line-clause-tried g c =
     let number = c.in-Err-Line.number in
     let tried : Passes old new (TriesReplay c.args.name.now (JournalLine number)) =
     passed_so old new (GivesJournal c.args.name.now (Held c.in-Ok.text)) (TriesReplay c.args.name.now (JournalLine number))
-    (λ events gives. (
-      c.in-Ok.text,
-      gives,
-      rw c.as_slice.ensures at (c.in-Err-Line.ensures.line number (ap Err c.in-Err-Line.field-0-is)),
-    ))
+    (λ events gives. (c.in-Ok.text, gives, rw c.as_slice.ensures at (c.in-Err-Line.ensures.line number (ap Err c.in-Err-Line.field-0-is))))
     c.in-Ok.ensures.passed in
     subst (λ k. Passes old new (TriesReplay c.args.name.now (JournalLine k))) (sym c.in-Err-Line.number-is) tried
 

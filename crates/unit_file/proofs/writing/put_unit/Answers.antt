@@ -10,19 +10,8 @@ use Rattle.w2c_io.proofs.Causes.{cause_behind, done_cause, named_behind}
 use Rattle.w2c_io.proofs.Passed.{vain_passed, whole_passed}
 use Rattle.c_tree.specs.declared.token.Tok.TheVariants as tok
 use Rattle.c_tree.specs.Tokens.{fixed_text}
-use Rattle.c_print.proofs.ItemsWritten.{
-  begun,
-  is_contained,
-  one_more,
-  all_written,
-  stops_at_include,
-  stops_in,
-  put_include,
-  put_more,
-  put_all,
-  fails_at_include,
-  fails_in,
-}
+use Rattle.c_print.proofs.ItemsWritten.{begun, is_contained, one_more, all_written, stops_at_include, stops_in, put_include, put_more}
+use Rattle.c_print.proofs.ItemsWritten.{put_all, fails_at_include, fails_in}
 use Rattle.unit_file.proofs.writing.put_unit.Goals as goal
 
 pub returns-in_err-put-clause-part : goal.returns-in_err-put-clause-part

@@ -17,8 +17,7 @@ absent name names none there =
 -- an object whose name is none of those that objects have
 no_object : (names : List Name) (x : CType × Name) (xs : List (CType × Name)) → is_among x.1 names ≡ false
     → AllByRecursion (λ (o : CType × Name). is_among o.1 names ≡ true) xs → Contains xs x → ⊥
-no_object names x xs none all there =
-    false≢true (sym none ∙ of_contained (λ (o : CType × Name). is_among o.1 names ≡ true) xs x all there)
+no_object names x xs none all there = false≢true (sym none ∙ of_contained (λ (o : CType × Name). is_among o.1 names ≡ true) xs x all there)
 
 -- ---- what a function gives
 
@@ -88,9 +87,7 @@ returns-clause-import_of_another_type c s =
 
 pub returns-clause-without_function : goal.returns-clause-without_function
 unfolding digits
-returns-clause-without_function c s =
-    let f = s.functions 1 (record { behind = omega arith; within = omega arith }) in
-    none-some f.0 f.1
+returns-clause-without_function c s = let f = s.functions 1 (record { behind = omega arith; within = omega arith }) in none-some f.0 f.1
 
 pub returns-clause-without_memory : goal.returns-clause-without_memory
 unfolding digits

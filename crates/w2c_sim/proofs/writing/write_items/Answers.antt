@@ -1,5 +1,5 @@
 use Rattle.w2c_sim.proofs.Common.{◌≡◌, IsSome, Ok, Err, Option, Result, sym, ap, ◌∙◌, subst, inr, arith, err_from_is_err_and, vain_passed}
-use Rattle.w2c_sim.proofs.Common.{whole_passed, AppendsPart, appending, item_of, all_written, begun, fails_at_include, fails_between}
+use Rattle.w2c_sim.proofs.Common.{whole_passed, AppendsPart, appending, all_written, begun, fails_at_include, fails_between}
 use Rattle.w2c_sim.proofs.Common.{fails_in, is_contained, one_more, put_all, put_include, put_more, stops_at_include, stops_between}
 use Rattle.w2c_sim.proofs.Common.{stops_in, print_item_of, left_of}
 use Rattle.w2c_io.specs.Contents.{Name}
@@ -7,6 +7,7 @@ use Rattle.w2c_io.specs.declared.answers.WriteAnswer.{WriteAnswer}
 use Rattle.w2c_io.proofs.Causes.{cause_behind, memory_cause, done_cause, named_behind}
 use Rattle.c_tree.specs.declared.token.Tok.TheVariants as tok
 use Rattle.c_tree.specs.Tokens.{fixed_text}
+use Rattle.packed_stmts.specs.PackedItems.{packed_item_of}
 use Rattle.w2c_sim.proofs.ItemsWritten.{given_item, none_left, shorter}
 use Rattle.w2c_sim.proofs.writing.write_items.Goals as goal
 
@@ -75,55 +76,55 @@ returns-in_err-item-clause-fault g c =
     let p = err_from_is_err_and c.from_residual-in_err-item.result c.from_residual-in_err-item.ensures.1 in
     rw (p.1, p.2) c.more.invariant.fault
 
-pub print_item_to-written-requires-clause-formed : goal.print_item_to-written-requires-clause-formed
-print_item_to-written-requires-clause-formed g c =
+pub print_packed_to-requires-clause-formed : goal.print_packed_to-requires-clause-formed
+print_packed_to-requires-clause-formed g c =
     let files = g.F.Files in
-    let next = given_item c.in-Some.item c.in_ok-item.field-0 (left_of c.more.items) (left_of c.next.new.self) c.in-Some.is
+    let next = given_item c.in-Some.item c.in_ok-item.field-0 (left_of c.more.items) (left_of c.next_packed.new.self) c.in-Some.is
     c.in_ok-item.ensures.given in (
       left_of c.args.items.now,
       c.requires.formed,
       is_contained (files.told c.args.files.now) (files.told c.more.files) (files.current c.args.files.now) (left_of c.args.items.now)
-          (left_of c.more.items) (left_of c.next.new.self) (item_of c.in-Some.item) c.more.invariant.written next,
+          (left_of c.more.items) (left_of c.next_packed.new.self) (packed_item_of c.in-Some.item) c.more.invariant.written next,
     )
 
-pub returns-in_err-written-clause-part : goal.returns-in_err-written-clause-part
-returns-in_err-written-clause-part g c =
+pub returns-in_err-print_packed_to-clause-part : goal.returns-in_err-print_packed_to-clause-part
+returns-in_err-print_packed_to-clause-part g c =
     let files = g.F.Files in
-    let next = given_item c.in-Some.item c.in_ok-item.field-0 (left_of c.more.items) (left_of c.next.new.self) c.in-Some.is
+    let next = given_item c.in-Some.item c.in_ok-item.field-0 (left_of c.more.items) (left_of c.next_packed.new.self) c.in-Some.is
     c.in_ok-item.ensures.given in
-    let p = err_from_is_err_and c.from_residual-in_err-written.result c.from_residual-in_err-written.ensures.1 in
-    rw p.1 (stops_in (files.told c.args.files.now) (files.told c.more.files) (files.told c.print_item_to-written.new.files)
-    (files.current c.args.files.now) (left_of c.args.items.now) (left_of c.more.items) (left_of c.next.new.self)
-    (item_of c.in-Some.item) c.more.invariant.written next
-    (subst (λ (current : Option Name). AppendsPart (files.told c.more.files) (files.told c.print_item_to-written.new.files) current
-    (print_item_of (item_of c.in-Some.item))) c.more.invariant.current c.in_err-written.ensures.part))
+    let p = err_from_is_err_and c.from_residual-in_err-print_packed_to.result c.from_residual-in_err-print_packed_to.ensures.1 in
+    rw p.1 (stops_in (files.told c.args.files.now) (files.told c.more.files) (files.told c.print_packed_to.new.files)
+    (files.current c.args.files.now) (left_of c.args.items.now) (left_of c.more.items) (left_of c.next_packed.new.self)
+    (packed_item_of c.in-Some.item) c.more.invariant.written next
+    (subst (λ (current : Option Name). AppendsPart (files.told c.more.files) (files.told c.print_packed_to.new.files) current
+    (print_item_of (packed_item_of c.in-Some.item))) c.more.invariant.current c.in_err-print_packed_to.ensures.part))
 
-pub returns-in_err-written-clause-tried : goal.returns-in_err-written-clause-tried
-returns-in_err-written-clause-tried g c =
+pub returns-in_err-print_packed_to-clause-tried : goal.returns-in_err-print_packed_to-clause-tried
+returns-in_err-print_packed_to-clause-tried g c =
     let files = g.F.Files in
-    let next = given_item c.in-Some.item c.in_ok-item.field-0 (left_of c.more.items) (left_of c.next.new.self) c.in-Some.is
+    let next = given_item c.in-Some.item c.in_ok-item.field-0 (left_of c.more.items) (left_of c.next_packed.new.self) c.in-Some.is
     c.in_ok-item.ensures.given in
-    let p = err_from_is_err_and c.from_residual-in_err-written.result c.from_residual-in_err-written.ensures.1 in
-    rw (p.1, p.2) (fails_in (files.trace c.args.files.now) (files.trace c.more.files) (files.trace c.print_item_to-written.new.files)
-    (left_of c.args.items.now) (left_of c.more.items) (left_of c.next.new.self) (item_of c.in-Some.item) c.in_err-written.field-0.0
-    c.more.invariant.passed next c.in_err-written.ensures.tried)
+    let p = err_from_is_err_and c.from_residual-in_err-print_packed_to.result c.from_residual-in_err-print_packed_to.ensures.1 in
+    rw (p.1, p.2) (fails_in (files.trace c.args.files.now) (files.trace c.more.files) (files.trace c.print_packed_to.new.files)
+    (left_of c.args.items.now) (left_of c.more.items) (left_of c.next_packed.new.self) (packed_item_of c.in-Some.item)
+    c.in_err-print_packed_to.field-0.0 c.more.invariant.passed next c.in_err-print_packed_to.ensures.tried)
 
-pub returns-in_err-written-clause-cause : goal.returns-in_err-written-clause-cause
-returns-in_err-written-clause-cause g c =
+pub returns-in_err-print_packed_to-clause-cause : goal.returns-in_err-print_packed_to-clause-cause
+returns-in_err-print_packed_to-clause-cause g c =
     let files = g.F.Files in
-    let p = err_from_is_err_and c.from_residual-in_err-written.result c.from_residual-in_err-written.ensures.1 in
-    let answer : Result (Unit {0}) WriteAnswer = Err c.in_err-written.field-0.0 in
+    let p = err_from_is_err_and c.from_residual-in_err-print_packed_to.result c.from_residual-in_err-print_packed_to.ensures.1 in
+    let answer : Result (Unit {0}) WriteAnswer = Err c.in_err-print_packed_to.field-0.0 in
     rw (p.1, p.2) (cause_behind (files.write_faults c.args.files.now) (files.write_faults c.more.files)
-    (files.write_faults c.print_item_to-written.new.files) answer c.more.invariant.kept c.in_err-written.ensures.cause)
+    (files.write_faults c.print_packed_to.new.files) answer c.more.invariant.kept c.in_err-print_packed_to.ensures.cause)
 
-pub returns-in_err-written-clause-fault : goal.returns-in_err-written-clause-fault
-returns-in_err-written-clause-fault g c =
+pub returns-in_err-print_packed_to-clause-fault : goal.returns-in_err-print_packed_to-clause-fault
+returns-in_err-print_packed_to-clause-fault g c =
     let files = g.F.Files in
-    let p = err_from_is_err_and c.from_residual-in_err-written.result c.from_residual-in_err-written.ensures.1 in
-    let answer : Result (Unit {0}) WriteAnswer = Err c.in_err-written.field-0.0 in
+    let p = err_from_is_err_and c.from_residual-in_err-print_packed_to.result c.from_residual-in_err-print_packed_to.ensures.1 in
+    let answer : Result (Unit {0}) WriteAnswer = Err c.in_err-print_packed_to.field-0.0 in
     rw (p.1, p.2) (named_behind answer (files.current c.more.files) (files.current c.args.files.now)
-    (files.fault_name c.more.files) (files.fault_name c.args.files.now) (files.fault_name c.print_item_to-written.new.files)
-    c.more.invariant.current c.more.invariant.fault c.in_err-written.ensures.named)
+    (files.fault_name c.more.files) (files.fault_name c.args.files.now) (files.fault_name c.print_packed_to.new.files)
+    c.more.invariant.current c.more.invariant.fault c.in_err-print_packed_to.ensures.named)
 
 pub returns-clause-cause : goal.returns-clause-cause
 returns-clause-cause g c =
@@ -133,21 +134,21 @@ returns-clause-cause g c =
 pub more-preserved : goal.more-preserved
 more-preserved g c =
     let files = g.F.Files in
-    let next = given_item c.in-Some.item c.in_ok-item.field-0 (left_of c.more.items) (left_of c.next.new.self) c.in-Some.is
+    let next = given_item c.in-Some.item c.in_ok-item.field-0 (left_of c.more.items) (left_of c.next_packed.new.self) c.in-Some.is
     c.in_ok-item.ensures.given in
     record {
-      written = one_more (files.told c.args.files.now) (files.told c.more.files) (files.told c.print_item_to-written.new.files)
-          (files.current c.args.files.now) (left_of c.args.items.now) (left_of c.more.items) (left_of c.next.new.self)
-          (item_of c.in-Some.item) c.more.invariant.written next (c.in_ok-written.ensures.written
-          ∙ ap (λ (current : Option Name). appending (files.told c.more.files) current (print_item_of (item_of c.in-Some.item)))
+      written = one_more (files.told c.args.files.now) (files.told c.more.files) (files.told c.print_packed_to.new.files)
+          (files.current c.args.files.now) (left_of c.args.items.now) (left_of c.more.items) (left_of c.next_packed.new.self)
+          (packed_item_of c.in-Some.item) c.more.invariant.written next (c.in_ok-print_packed_to.ensures.written
+          ∙ ap (λ (current : Option Name). appending (files.told c.more.files) current (print_item_of (packed_item_of c.in-Some.item)))
           c.more.invariant.current);
-      passed = put_more (files.trace c.args.files.now) (files.trace c.more.files) (files.trace c.print_item_to-written.new.files)
-          (left_of c.args.items.now) (left_of c.more.items) (left_of c.next.new.self) (item_of c.in-Some.item)
-          c.more.invariant.passed next c.in_ok-written.ensures.passed;
-      current = c.in_ok-written.ensures.current ∙ c.more.invariant.current;
-      fault = ◌∙◌ {b = files.fault_name c.more.files} c.in_ok-written.ensures.named c.more.invariant.fault;
-      reads = c.in_ok-written.ensures.reads ∙ c.more.invariant.reads;
-      kept = c.in_ok-written.ensures.cause.kept ∙ c.more.invariant.kept;
+      passed = put_more (files.trace c.args.files.now) (files.trace c.more.files) (files.trace c.print_packed_to.new.files)
+          (left_of c.args.items.now) (left_of c.more.items) (left_of c.next_packed.new.self) (packed_item_of c.in-Some.item)
+          c.more.invariant.passed next c.in_ok-print_packed_to.ensures.passed;
+      current = c.in_ok-print_packed_to.ensures.current ∙ c.more.invariant.current;
+      fault = ◌∙◌ {b = files.fault_name c.more.files} c.in_ok-print_packed_to.ensures.named c.more.invariant.fault;
+      reads = c.in_ok-print_packed_to.ensures.reads ∙ c.more.invariant.reads;
+      kept = c.in_ok-print_packed_to.ensures.cause.kept ∙ c.more.invariant.kept;
     }
 
 pub returns-clause-written : goal.returns-clause-written
@@ -155,23 +156,25 @@ returns-clause-written g c =
     let files = g.F.Files in
     all_written (files.told c.args.files.now) (files.told c.more.files) (files.current c.args.files.now)
     (left_of c.args.items.now) (left_of c.more.items) c.more.invariant.written
-    (none_left c.in_ok-item.field-0 (left_of c.more.items) (left_of c.next.new.self) c.in_default.not-Some c.in_ok-item.ensures.given)
+    (none_left c.in_ok-item.field-0 (left_of c.more.items) (left_of c.next_packed.new.self) c.in_default.not-Some
+    c.in_ok-item.ensures.given)
 
 pub returns-clause-passed : goal.returns-clause-passed
 returns-clause-passed g c =
     let files = g.F.Files in
     put_all (files.trace c.args.files.now) (files.trace c.more.files) (left_of c.args.items.now) (left_of c.more.items)
     c.more.invariant.passed
-    (none_left c.in_ok-item.field-0 (left_of c.more.items) (left_of c.next.new.self) c.in_default.not-Some c.in_ok-item.ensures.given)
+    (none_left c.in_ok-item.field-0 (left_of c.more.items) (left_of c.next_packed.new.self) c.in_default.not-Some
+    c.in_ok-item.ensures.given)
 
 pub more-smaller : goal.more-smaller
 more-smaller g c =
-    let next = given_item c.in-Some.item c.in_ok-item.field-0 (left_of c.more.items) (left_of c.next.new.self) c.in-Some.is
+    let next = given_item c.in-Some.item c.in_ok-item.field-0 (left_of c.more.items) (left_of c.next_packed.new.self) c.in-Some.is
     c.in_ok-item.ensures.given in
-    shorter (left_of c.more.items) (left_of c.next.new.self) (item_of c.in-Some.item) next
+    shorter (left_of c.more.items) (left_of c.next_packed.new.self) (packed_item_of c.in-Some.item) next
 
-pub print_item_to-written-requires-clause-current : goal.print_item_to-written-requires-clause-current
-print_item_to-written-requires-clause-current g c = subst IsSome (sym c.more.invariant.current) c.requires.current
+pub print_packed_to-requires-clause-current : goal.print_packed_to-requires-clause-current
+print_packed_to-requires-clause-current g c = subst IsSome (sym c.more.invariant.current) c.requires.current
 
 pub returns-in_err-put-clause-current : goal.returns-in_err-put-clause-current
 returns-in_err-put-clause-current g c = c.in_err-put.ensures.current
@@ -185,11 +188,11 @@ returns-in_err-item-clause-current g c = c.more.invariant.current
 pub returns-in_err-item-clause-reads : goal.returns-in_err-item-clause-reads
 returns-in_err-item-clause-reads g c = c.more.invariant.reads
 
-pub returns-in_err-written-clause-current : goal.returns-in_err-written-clause-current
-returns-in_err-written-clause-current g c = c.in_err-written.ensures.current ∙ c.more.invariant.current
+pub returns-in_err-print_packed_to-clause-current : goal.returns-in_err-print_packed_to-clause-current
+returns-in_err-print_packed_to-clause-current g c = c.in_err-print_packed_to.ensures.current ∙ c.more.invariant.current
 
-pub returns-in_err-written-clause-reads : goal.returns-in_err-written-clause-reads
-returns-in_err-written-clause-reads g c = c.in_err-written.ensures.reads ∙ c.more.invariant.reads
+pub returns-in_err-print_packed_to-clause-reads : goal.returns-in_err-print_packed_to-clause-reads
+returns-in_err-print_packed_to-clause-reads g c = c.in_err-print_packed_to.ensures.reads ∙ c.more.invariant.reads
 
 pub returns-clause-current : goal.returns-clause-current
 returns-clause-current g c = c.more.invariant.current

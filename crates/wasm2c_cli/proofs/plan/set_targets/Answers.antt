@@ -9,5 +9,4 @@ loop-k-preserved c =
     c.in_ok-push.ensures.items
 
 pub returns : goal.returns
-returns c =
-    all_targets _ (names_of c.args.inputs.now) c.loop-k.k _ (omega (arith, length-names c.args.inputs.now)) c.loop-k.invariant
+returns c = all_targets _ (names_of c.args.inputs.now) c.loop-k.k _ (omega (arith, length-names c.args.inputs.now)) c.loop-k.invariant

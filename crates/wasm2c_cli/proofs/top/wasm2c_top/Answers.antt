@@ -28,8 +28,7 @@ returns-in-Ok-clause-summary g c =
     λ zero. finish_summary _ _ _ c.in-Ok.finished c.in-Ok.ensures.done _ _ _ _ (c.summarize.ensures.says zero)
 
 pub returns-in-Ok-clause-silent : goal.returns-in-Ok-clause-silent
-returns-in-Ok-clause-silent g c =
-    λ zero. finish_silent _ _ _ c.in-Ok.finished c.in-Ok.ensures.done _ _ _ _ (c.summarize.ensures.says zero)
+returns-in-Ok-clause-silent g c = λ zero. finish_silent _ _ _ c.in-Ok.finished c.in-Ok.ensures.done _ _ _ _ (c.summarize.ensures.says zero)
 
 pub returns-in-Ok-clause-untouched : goal.returns-in-Ok-clause-untouched
 returns-in-Ok-clause-untouched g c = finish_no_stop c.summarize.result c.summarize.ensures.status

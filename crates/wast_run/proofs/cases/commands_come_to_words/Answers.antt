@@ -81,8 +81,7 @@ pub returns-clause-other_value : goal.returns-clause-other_value
 returns-clause-other_value c contents = (refl, inl (fits, inr (units_are_over, inr (other_value, refl))))
 
 pub returns-clause-other_value_is_wrong : goal.returns-clause-other_value_is_wrong
-returns-clause-other_value_is_wrong c contents comes =
-    ok_is_not_failed (failed_alone _ _ _ word.Ok fits units_are_over other_value comes.1)
+returns-clause-other_value_is_wrong c contents comes = ok_is_not_failed (failed_alone _ _ _ word.Ok fits units_are_over other_value comes.1)
 
 pub returns-clause-few_statements : goal.returns-clause-few_statements
 returns-clause-few_statements c contents = (refl, inl (fits, inl (units_are_stopped, refl)))

@@ -1,18 +1,5 @@
-use Rattle.wast_run.proofs.Honest.{
-  honest_answer,
-  honest_before,
-  honest_decided,
-  honest_not_there,
-  honest_part,
-  honest_prefix,
-  honest_quiet,
-  honest_refusal,
-  honest_report,
-  honest_there,
-  honest_unread,
-  honest_unwritten,
-  told_kept,
-}
+use Rattle.wast_run.proofs.Honest.{honest_answer, honest_before, honest_decided, honest_not_there, honest_part, honest_prefix, honest_quiet}
+use Rattle.wast_run.proofs.Honest.{honest_refusal, honest_report, honest_there, honest_unread, honest_unwritten, told_kept}
 use Rattle.wast_run.proofs.law.honest_files.Goals as goal
 
 pub returns : goal.returns

@@ -40,9 +40,7 @@ returns-in-Ok-clause-ran g c =
     (c.in-Ok-None-run_kept.ensures.behind c.in-Ok-None-run_kept.field-0-is) c.in-Ok.ensures.came
 
 pub returns-in-Ok-clause-linked : goal.returns-in-Ok-clause-linked
-returns-in-Ok-clause-linked g c =
-    c.run_call.ensures.same.linked ∙ c.run_kept.ensures.same.linked ∙ c.run_inits.ensures.same.linked
+returns-in-Ok-clause-linked g c = c.run_call.ensures.same.linked ∙ c.run_kept.ensures.same.linked ∙ c.run_inits.ensures.same.linked
 
 pub returns-in-Ok-clause-hosts : goal.returns-in-Ok-clause-hosts
-returns-in-Ok-clause-hosts g c =
-    c.run_call.ensures.same.hosts ∙ c.run_kept.ensures.same.hosts ∙ c.run_inits.ensures.same.hosts
+returns-in-Ok-clause-hosts g c = c.run_call.ensures.same.hosts ∙ c.run_kept.ensures.same.hosts ∙ c.run_inits.ensures.same.hosts

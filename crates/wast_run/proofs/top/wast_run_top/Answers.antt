@@ -85,12 +85,10 @@ returns-in-Err-clause-usage_always g c =
     (reason_of c.in-Err.stop) c.report.result c.in-Err.ensures.stop c.report.ensures.status
 
 pub returns-in-Err-clause-reported : goal.returns-in-Err-clause-reported
-returns-in-Err-clause-reported g c = λ came.
-    absurd (no_report (reason_of c.in-Err.stop) c.report.result c.report.ensures.status came)
+returns-in-Err-clause-reported g c = λ came. absurd (no_report (reason_of c.in-Err.stop) c.report.result c.report.ensures.status came)
 
 pub returns-in-Err-clause-silent : goal.returns-in-Err-clause-silent
-returns-in-Err-clause-silent g c = λ came.
-    absurd (no_report (reason_of c.in-Err.stop) c.report.result c.report.ensures.status came)
+returns-in-Err-clause-silent g c = λ came. absurd (no_report (reason_of c.in-Err.stop) c.report.result c.report.ensures.status came)
 
 pub returns-in-Err-clause-refused : goal.returns-in-Err-clause-refused
 returns-in-Err-clause-refused g c = λ two.

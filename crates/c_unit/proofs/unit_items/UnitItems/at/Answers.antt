@@ -1,6 +1,7 @@
-use Rattle.c_unit.proofs.Common.{◌≡◌, IfOk, slice_get, option_map, ap, ◌∙◌, subst, item_of, module_of, from_memories}
+use Rattle.c_unit.proofs.Common.{◌≡◌, IfOk, slice_get, option_map, ap, ◌∙◌, subst, module_of, from_memories}
 use Rattle.c_unit.proofs.Standing.{stands_at, stands_past, tables_listed}
-use Rattle.c_unit.proofs.Wholes.{all_tails}
+use Rattle.unit_definition.proofs.Wholes.{all_tails}
+use Rattle.packed_stmts.specs.PackedItems.{packed_item_of}
 use Rattle.c_unit.proofs.unit_items.UnitItems.at.Goals as goal
 
 pub returns-in_ok-table-in-Some : goal.returns-in_ok-table-in-Some
@@ -12,7 +13,7 @@ returns-in_ok-table-in-Some c =
 
 pub returns-in-None : goal.returns-in-None
 returns-in-None c =
-    subst (λ found. IfOk c.at_memories.result (λ item. option_map item_of item ≡ found))
+    subst (λ found. IfOk c.at_memories.result (λ item. option_map packed_item_of item ≡ found))
     (stands_past (tables_listed (module_of c.args.self.now.source))
     (from_memories (module_of c.args.self.now.source)) c.as_slice-tables.result.now c.args.n c.saturating_sub.result
     c.as_slice-tables.ensures c.saturating_sub.ensures c.in-None.ensures.lookup.3

@@ -1,5 +1,6 @@
-use Rattle.c_unit.proofs.Common.{◌≡◌, IfOk, option_map, subst, item_of, module_of, from_declared}
+use Rattle.c_unit.proofs.Common.{◌≡◌, IfOk, option_map, subst, module_of, from_declared}
 use Rattle.c_unit.proofs.Standing.{stands_at, stands_past, arrays_listed}
+use Rattle.packed_stmts.specs.PackedItems.{packed_item_of}
 use Rattle.c_unit.proofs.unit_items.UnitItems.at_data.Goals as goal
 
 pub returns-in_ok-array-in-Some : goal.returns-in_ok-array-in-Some
@@ -10,7 +11,7 @@ returns-in_ok-array-in-Some c =
 
 pub returns-in-None : goal.returns-in-None
 returns-in-None c =
-    subst (λ found. IfOk c.at_declared.result (λ item. option_map item_of item ≡ found))
+    subst (λ found. IfOk c.at_declared.result (λ item. option_map packed_item_of item ≡ found))
     (stands_past (arrays_listed (module_of c.args.self.now.source) c.args.self.now.listed.arrays.items c.args.self.now.arrays_are)
     (from_declared (module_of c.args.self.now.source)) c.as_slice-arrays.result.now c.args.n c.saturating_sub.result
     c.as_slice-arrays.ensures.value c.saturating_sub.ensures c.in-None.ensures.lookup.3)

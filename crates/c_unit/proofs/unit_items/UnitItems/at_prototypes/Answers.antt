@@ -1,6 +1,7 @@
-use Rattle.c_unit.proofs.Common.{◌≡◌, ◌-◌, ◌<◌, ◌≤◌, length, IfOk, slice_get, option_map, ap, ◌∙◌, subst, arith, item_of, module_of}
+use Rattle.c_unit.proofs.Common.{◌≡◌, ◌-◌, ◌<◌, ◌≤◌, length, IfOk, slice_get, option_map, ap, ◌∙◌, subst, arith, module_of}
 use Rattle.c_unit.proofs.Common.{from_helpers, Some, prototype}
 use Rattle.c_unit.proofs.Standing.{func_there, func_past}
+use Rattle.packed_stmts.specs.PackedItems.{packed_item_of}
 use Rattle.c_unit.proofs.unit_items.UnitItems.at_prototypes.Goals as goal
 
 pub returns-in_ok-prototype : goal.returns-in_ok-prototype
@@ -12,7 +13,7 @@ returns-in_ok-prototype c =
 pub returns-else-n-count : goal.returns-else-n-count
 returns-else-n-count c =
     let past : length c.args.self.now.source.tree.now.funcs ≤ c.args.n = omega (arith, c.len-count.ensures, c.if-n-count.false) in
-    subst (λ there. IfOk c.at_helpers.result (λ item. option_map item_of item ≡ there))
+    subst (λ there. IfOk c.at_helpers.result (λ item. option_map packed_item_of item ≡ there))
     (ap (λ k. slice_get (from_helpers (module_of c.args.self.now.source)) k)
     (c.saturating_sub.ensures ∙ ap (λ k. c.args.n - k) c.len-count.ensures)
     ∙ func_past (module_of c.args.self.now.source) prototype (from_helpers (module_of c.args.self.now.source)) c.args.n past)

@@ -1,5 +1,6 @@
-use Rattle.c_unit.proofs.Common.{◌≡◌, IfOk, option_map, subst, item_of, module_of, from_global_pointers}
+use Rattle.c_unit.proofs.Common.{◌≡◌, IfOk, option_map, subst, module_of, from_global_pointers}
 use Rattle.c_unit.proofs.Standing.{stands_at, stands_past, table_pointers_listed}
+use Rattle.packed_stmts.specs.PackedItems.{packed_item_of}
 use Rattle.c_unit.proofs.unit_items.UnitItems.at_table_pointers.Goals as goal
 
 pub returns-in_ok-pointer-in-Some : goal.returns-in_ok-pointer-in-Some
@@ -11,7 +12,7 @@ returns-in_ok-pointer-in-Some c =
 
 pub returns-in-None : goal.returns-in-None
 returns-in-None c =
-    subst (λ found. IfOk c.at_global_pointers.result (λ item. option_map item_of item ≡ found))
+    subst (λ found. IfOk c.at_global_pointers.result (λ item. option_map packed_item_of item ≡ found))
     (stands_past (table_pointers_listed (module_of c.args.self.now.source) c.reached-imports.result.now.tables.items
     c.reached-imports.ensures.tables)
     (from_global_pointers (module_of c.args.self.now.source)) c.as_slice-tables.result.now c.args.n c.saturating_sub.result

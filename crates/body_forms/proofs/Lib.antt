@@ -1,0 +1,3 @@
+-- What the crate's own proofs cite.
+mod Common
+mod Parameters

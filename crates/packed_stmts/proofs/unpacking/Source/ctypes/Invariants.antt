@@ -1,0 +1,7 @@
+use Rattle.packed_stmts.proofs.Common.{◌≡◌, ◌-◌}
+use Rattle.packed_stmts.specs.Unpacked.{list_at, times_at, type_at}
+use Rattle.packed_stmts.proofs.Turns.{with_front}
+use Rattle.packed_stmts.proofs.unpacking.Source.ctypes.Given as goal
+
+abbrev pub invariant-loop : goal.invariant-loop
+invariant-loop l = with_front l.types (times_at type_at (l.count - l.counter) l.self) ≡ list_at type_at l.fn.self
