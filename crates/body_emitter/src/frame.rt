@@ -1,5 +1,5 @@
 // What stands in front of a body's code, and behind it.
-ghost use Rattle.std.specs.Prelude.{◌≡◌, [], ◌∷◌, map, OnOk, IfOk};
+ghost use Rattle.std.specs.Prelude.{◌≡◌, [], ◌∷◌, OnOk, IfOk};
 ghost use Rattle.w2c_base.specs.declared.trap.TrapKind.TheVariants as kind;
 ghost use Rattle.c_tree.specs.Tree as tree;
 ghost use Rattle.c_tree.specs.View.{expr_of, stmt_of};
@@ -16,9 +16,7 @@ use crate::emitter::Emitter;
 use crate::stack::Operands;
 use crate::target::{OpenBlock, Target};
 use body_forms::operand;
-use c_tree::{
-    Arg, COp, DEPTH_NAME, Expr, Stmt, Stmts, label_name, n32, name_of, operation, set, trap,
-};
+use c_tree::{Arg, COp, DEPTH_NAME, Expr, Stmt, label_name, n32, name_of, operation, set, trap};
 use packed_stmts::{Parts, Statements};
 use std::alloc::Global;
 use w2c_base::{Memory, TrapKind, ValType};
@@ -140,14 +138,7 @@ impl Emitter {
     }
 }
 
-/// The statements that were made, without those that were left out. A want of memory is the only error.
-pub fn statements(emitter: Emitter) -> Result<Stmts, Memory>
-    ensures { IfOk result (λ stmts. map stmt_of stmts ≡ left_out.written (made_by emitter).stmts) }
-{
-    parts(emitter).all()
-}
-
-/// The same in parts, each of which takes little memory beside what is packed of all.
+/// The statements that were made, without those that were left out, in parts. A part takes little memory beside what is packed of all.
 pub fn parts(emitter: Emitter) -> Parts
     ensures { left result ≡ left_out.written (made_by emitter).stmts }
 {

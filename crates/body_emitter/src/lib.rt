@@ -12,7 +12,7 @@ mod stack;
 mod target;
 
 pub use emitter::Emitter;
-pub use frame::{parts, statements};
+pub use frame::parts;
 pub use mark::Mark;
 pub use slot_variables::{put_element, put_slots};
 pub use stack::Operands;
