@@ -4,11 +4,11 @@ use std::test::Fail;
 
 #[test]
 fn values(rt: HostRuntime) -> Result<(), Fail> {
-    assert_eq!(rt; value(b"042"), Some(42));
-    assert_eq!(rt;
+    let numbers = [
+        value(b"042"),
         value(b"18446744073709551615"),
-        Some(18_446_744_073_709_551_615)
-    );
-    assert_eq!(rt; value(b"18446744073709551616"), None);
+        value(b"18446744073709551616"),
+    ];
+    assert_eq!(rt; numbers, [Some(42), Some(18_446_744_073_709_551_615), None]);
     Ok(())
 }

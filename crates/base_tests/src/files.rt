@@ -4,95 +4,100 @@ use std::test::Fail;
 use w2c_files::{Limits, ReadStop, is_c_file, read_files, write_file};
 use w2c_io::{FileCall, MemFiles, WriteAnswer};
 
-fn three_files(alloc: Global) -> Result<MemFiles, Fail> {
-    let mut files = MemFiles::new(alloc);
+// Puts three files there.
+fn add_three(files: &mut MemFiles) -> Result<(), Fail> {
     files.add("a", b"12")?;
     files.add("b", b"345")?;
     files.add("c", b"6")?;
-    Ok(files)
+    Ok(())
+}
+
+fn are_read_in_order(alloc: Global, files: &mut MemFiles) -> Result<bool, Fail> {
+    add_three(files)?;
+    let names = ["b", "a"];
+    let limits = Limits { each: 3, all: 5 };
+    match read_files(alloc, &names, limits, files) {
+        Ok(all) => Ok(
+            all.len() == 2
+                && all[0].as_slice() == b"345".as_slice()
+                && all[1].as_slice() == b"12".as_slice(),
+        ),
+        Err(_) => Ok(false),
+    }
 }
 
 #[test]
 fn files_are_read_in_order(rt: HostRuntime) -> Result<(), Fail> {
     let alloc = rt.alloc();
-    let mut files = three_files(alloc)?;
-    let names = ["b", "a"];
-    let limits = Limits { each: 3, all: 5 };
-    let all = read_files(alloc, &names, limits, &mut files)
-        .ok()
-        .ok_or("each file is read")?;
-    assert_eq!(rt; all.len(), 2);
-    assert!(rt; all[0].as_slice() == b"345".as_slice());
-    assert!(rt; all[1].as_slice() == b"12".as_slice());
+    let mut files = MemFiles::new(alloc);
+    let right = are_read_in_order(alloc, &mut files);
+    drop(files);
+    assert!(rt; right?);
     Ok(())
+}
+
+// Where the reading of three files stops, of which one is absent.
+fn stop(alloc: Global, each: usize, all: usize, files: &mut MemFiles) -> Option<ReadStop> {
+    let names = ["a", "b", "d"];
+    read_files(alloc, &names, Limits { each, all }, files).err()
+}
+
+fn stops_where_it_must(alloc: Global, files: &mut MemFiles) -> Result<bool, Fail> {
+    add_three(files)?;
+    let mut right = matches!(stop(alloc, 2, 9, files), Some(ReadStop::TooLong(1)));
+    right &= matches!(stop(alloc, 3, 4, files), Some(ReadStop::Past(1, 2)));
+    right &= matches!(stop(alloc, 9, 9, files), Some(ReadStop::Unread(2)));
+    files.fail(FileCall::Read, 8)?;
+    right &= matches!(stop(alloc, 9, 9, files), Some(ReadStop::Unread(0)));
+    Ok(right)
 }
 
 #[test]
 fn reading_stops(rt: HostRuntime) -> Result<(), Fail> {
     let alloc = rt.alloc();
-    let mut files = three_files(alloc)?;
-    let names = ["a", "b", "d"];
-    let tight = Limits { each: 2, all: 9 };
-    let few = Limits { each: 3, all: 4 };
-    let wide = Limits { each: 9, all: 9 };
-    assert!(rt;
-        matches!(
-            read_files(alloc, &names, tight, &mut files),
-            Err(ReadStop::TooLong(1))
-        )
-    );
-    assert!(rt;
-        matches!(
-            read_files(alloc, &names, few, &mut files),
-            Err(ReadStop::Past(1, 2))
-        )
-    );
-    assert!(rt;
-        matches!(
-            read_files(alloc, &names, wide, &mut files),
-            Err(ReadStop::Unread(2))
-        )
-    );
-    files.fail(FileCall::Read, 8)?;
-    assert!(rt;
-        matches!(
-            read_files(alloc, &names, wide, &mut files),
-            Err(ReadStop::Unread(0))
-        )
-    );
+    let mut files = MemFiles::new(alloc);
+    let right = stops_where_it_must(alloc, &mut files);
+    drop(files);
+    assert!(rt; right?);
     Ok(())
+}
+
+fn is_written(files: &mut MemFiles) -> Result<bool, Fail> {
+    add_three(files)?;
+    let written = write_file("a", b"yz", files).is_ok();
+    Ok(written && files.get("a") == Some(b"yz".as_slice()))
 }
 
 #[test]
 fn a_file_is_written(rt: HostRuntime) -> Result<(), Fail> {
-    let mut files = three_files(rt.alloc())?;
-    assert!(rt; write_file("a", b"yz", &mut files).is_ok());
-    assert_eq!(rt; files.get("a"), Some(b"yz".as_slice()));
+    let mut files = MemFiles::new(rt.alloc());
+    let right = is_written(&mut files);
+    drop(files);
+    assert!(rt; right?);
     Ok(())
+}
+
+// Whether a put fails, and then a finish, and what stands behind each.
+fn is_written_in_part(files: &mut MemFiles) -> Result<bool, Fail> {
+    files.fail(FileCall::Put, 1)?;
+    files.fail(FileCall::Finish, 2)?;
+    let mut right = write_file("d", b"yz", files) == Err(WriteAnswer::Failed);
+    right &= files.get("d") == Some(b"y".as_slice());
+    right &= write_file("d", b"yz", files) == Err(WriteAnswer::Failed);
+    Ok(right && files.get("d") == Some(b"yz".as_slice()))
 }
 
 #[test]
 fn writing_stops(rt: HostRuntime) -> Result<(), Fail> {
-    let mut files = three_files(rt.alloc())?;
-    files.fail(FileCall::Put, 1)?;
-    files.fail(FileCall::Finish, 2)?;
-    assert_eq!(rt;
-        write_file("d", b"yz", &mut files),
-        Err(WriteAnswer::Failed)
-    );
-    assert!(rt; files.get("d").is_some_and(|text| text == b"y".as_slice()));
-    assert_eq!(rt;
-        write_file("d", b"yz", &mut files),
-        Err(WriteAnswer::Failed)
-    );
-    assert!(rt; files.get("d").is_some_and(|text| text == b"yz".as_slice()));
+    let mut files = MemFiles::new(rt.alloc());
+    let right = is_written_in_part(&mut files);
+    drop(files);
+    assert!(rt; right?);
     Ok(())
 }
 
 #[test]
 fn names_of_c_files(rt: HostRuntime) -> Result<(), Fail> {
-    assert!(rt; is_c_file(b"a.c"));
-    assert!(rt; !is_c_file(b".c"));
-    assert!(rt; !is_c_file(b"a.h"));
+    assert!(rt; is_c_file(b"a.c") && !is_c_file(b".c") && !is_c_file(b"a.h"));
     Ok(())
 }

@@ -33,30 +33,51 @@ fn store(memory: &mut LinMem, width: u64, at: u64, value: u64) -> bool {
     true
 }
 
+// Whether a store over the seam is seen on both sides.
+fn straddles(memory: &mut LinMem) -> bool {
+    store(memory, 8, 65_532, 72_623_859_790_382_856)
+        && loaded(memory, 1, 65_535) == Some(5)
+        && loaded(memory, 1, 65_536) == Some(4)
+        && loaded(memory, 8, 65_532) == Some(72_623_859_790_382_856)
+        && loaded(memory, 8, 131_065) == None
+}
+
 #[test]
 fn an_access_straddles_two_pages(rt: HostRuntime) -> Result<(), Fail> {
     let mut memory = LinMem::new(rt.alloc(), 2, None)?;
-    assert!(rt; store(&mut memory, 8, 65_532, 72_623_859_790_382_856));
-    assert_eq!(rt; loaded(&memory, 1, 65_535), Some(5));
-    assert_eq!(rt; loaded(&memory, 1, 65_536), Some(4));
-    assert_eq!(rt; loaded(&memory, 8, 65_532), Some(72_623_859_790_382_856));
-    assert_eq!(rt; loaded(&memory, 8, 131_065), None);
+    let right = straddles(&mut memory);
+    drop(memory);
+    assert!(rt; right);
     Ok(())
+}
+
+// Whether a memory grows up to its most pages and keeps its bytes.
+fn grows(memory: &mut LinMem) -> Result<bool, Fail> {
+    let stored = store(memory, 1, 65_535, 9);
+    let before = memory.grow(2)?;
+    let kept = loaded(memory, 1, 65_535);
+    Ok(stored && before == Some(1) && kept == Some(9) && memory.grow(2)? == None)
 }
 
 #[test]
 fn growth_keeps_the_bytes(rt: HostRuntime) -> Result<(), Fail> {
     let mut memory = LinMem::new(rt.alloc(), 1, Some(4))?;
-    assert!(rt; store(&mut memory, 1, 65_535, 9));
-    assert_eq!(rt; memory.grow(2)?, Some(1));
-    assert_eq!(rt; loaded(&memory, 1, 65_535), Some(9));
-    assert_eq!(rt; memory.grow(2)?, None);
+    let right = grows(&mut memory);
+    drop(memory);
+    assert!(rt; right?);
     Ok(())
 }
 
-#[test]
-fn each_width_at_the_seam(rt: HostRuntime) -> Result<(), Fail> {
-    let mut memory = LinMem::new(rt.alloc(), 2, None)?;
+// Whether a store of a width gives its bytes and leaves those beside them 0.
+fn is_kept(memory: &mut LinMem, at: u64, width: u64, value: u64) -> bool {
+    store(memory, 8, at, 0)
+        && store(memory, width, at, value)
+        && loaded(memory, width, at) == Some(value)
+        && loaded(memory, 8, at) == Some(value)
+}
+
+// The first place and width of which it is not so.
+fn first_lost(memory: &mut LinMem) -> Option<(u64, u64)> {
     for at in 65_520..=65_552 {
         for (width, value) in [
             (1, 0x91),
@@ -64,11 +85,19 @@ fn each_width_at_the_seam(rt: HostRuntime) -> Result<(), Fail> {
             (4, 0x9182_7364),
             (8, 0x9182_7364_5546_3728),
         ] {
-            assert!(rt; store(&mut memory, 8, at, 0));
-            assert!(rt; store(&mut memory, width, at, value));
-            assert_eq!(rt; loaded(&memory, width, at), Some(value));
-            assert_eq!(rt; loaded(&memory, 8, at), Some(value));
+            if !is_kept(memory, at, width, value) {
+                return Some((at, width));
+            }
         }
     }
+    None
+}
+
+#[test]
+fn each_width_at_the_seam(rt: HostRuntime) -> Result<(), Fail> {
+    let mut memory = LinMem::new(rt.alloc(), 2, None)?;
+    let lost = first_lost(&mut memory);
+    drop(memory);
+    assert_eq!(rt; lost, None);
     Ok(())
 }

@@ -11,6 +11,6 @@ fn short_names_come_first(rt: HostRuntime) -> Result<(), Fail> {
     for entry in &order {
         numbers.push(entry.number)?;
     }
-    assert_eq!(rt; numbers.as_slice(), [2, 1, 0].as_slice());
+    assert!(rt; numbers.as_slice() == [2, 1, 0].as_slice());
     Ok(())
 }

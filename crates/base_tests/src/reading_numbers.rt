@@ -79,9 +79,13 @@ fn signed_numbers_of_64_bits(rt: HostRuntime) -> Result<(), Fail> {
 #[test]
 fn only_the_window_is_read(rt: HostRuntime) -> Result<(), Fail> {
     let bytes = [0x09, 0xe5, 0x8e, 0x26, 0x07];
-    assert_eq!(rt; read_u32(&bytes, 1, 5), Ok((624_485, 4)));
-    assert_eq!(rt; read_u32(&bytes, 1, 4), Ok((624_485, 4)));
-    assert_eq!(rt; read_u32(&bytes, 1, 3), Err(LebFault::Ends));
-    assert_eq!(rt; read_u32(&bytes, 5, 5), Err(LebFault::Ends));
+    let read = [
+        read_u32(&bytes, 1, 5),
+        read_u32(&bytes, 1, 4),
+        read_u32(&bytes, 1, 3),
+        read_u32(&bytes, 5, 5),
+    ];
+    let ends = Err(LebFault::Ends);
+    assert_eq!(rt; read, [Ok((624_485, 4)), Ok((624_485, 4)), ends, ends]);
     Ok(())
 }

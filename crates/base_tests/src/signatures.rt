@@ -16,10 +16,13 @@ fn number_of(alloc: Global, params: &[ValType], ty: Option<ValType>) -> Result<u
 fn signature_numbers(rt: HostRuntime) -> Result<(), Fail> {
     let alloc = rt.alloc();
     let i32s = [ValType::I32, ValType::I32];
-    assert_eq!(rt; number_of(alloc, &[], None)?, 3);
-    assert_eq!(rt; number_of(alloc, &[], Some(ValType::I32))?, 4);
-    assert_eq!(rt; number_of(alloc, &i32s[..1], Some(ValType::I32))?, 7);
-    assert_eq!(rt; number_of(alloc, &[ValType::I64], None)?, 9);
-    assert_eq!(rt; number_of(alloc, &i32s, Some(ValType::I32))?, 13);
+    let numbers = [
+        number_of(alloc, &[], None)?,
+        number_of(alloc, &[], Some(ValType::I32))?,
+        number_of(alloc, &i32s[..1], Some(ValType::I32))?,
+        number_of(alloc, &[ValType::I64], None)?,
+        number_of(alloc, &i32s, Some(ValType::I32))?,
+    ];
+    assert_eq!(rt; numbers, [3, 4, 7, 9, 13]);
     Ok(())
 }

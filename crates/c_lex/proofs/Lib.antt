@@ -4,3 +4,4 @@ mod Runs
 mod Scanned
 mod Digits
 mod Words
+mod Seen

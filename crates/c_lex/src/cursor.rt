@@ -1,5 +1,6 @@
 // A cursor over the tokens of a text. It cuts each when it comes to it.
-ghost use Rattle.std.specs.Prelude.{◌≡◌, ◌<◌, ◌≤◌, ◌+◌, ◌^◌, length, false, OnOk, OnErr, IfOk};
+ghost use Rattle.std.specs.Prelude.{◌≡◌, ◌<◌, ◌≤◌, ◌+◌, ◌^◌, length, false, Ok, OnOk, OnErr, IfOk};
+ghost use Rattle.c_tree.specs.declared.token.Kind.TheVariants as kind;
 ghost use Rattle.c_tree.specs.Tokens.{Fixed, same_tok};
 ghost use Rattle.c_tree.specs.Text.{lexemes};
 ghost use Rattle.c_tree.specs.Grammar.{first, others};
@@ -87,6 +88,17 @@ impl<'a> Cursor<'a> {
         let rest = self.rest;
         let next = self.next;
         *self = scan(rest, next);
+    }
+
+    /// Takes the token that was seen to be next, of a fixed text.
+    #[tactic(auto, using(crate::proofs::Seen::goes_on, crate::proofs::Seen::expected))]
+    pub fn take(&mut self, _tok: Tok)
+        requires seen { spec.next_kind self.old ≡ kind.Fixed _tok }
+        requires more { is_last (Fixed _tok) ≡ false }
+        ensures taken { spec.expect _tok self.old ≡ Ok (tt, self.new) }
+        ensures shorter { length self.new < length self.old }
+    {
+        self.advance();
     }
 
     /// Takes a token of a fixed text. After a fault nothing is taken.

@@ -31,9 +31,14 @@ fn new_expr(alloc: Global, unit: usize, e: &Expr) -> Result<Expr, Memory>
         }
         Expr::Star(name) => Ok(Expr::Star(new_variable(alloc, unit, name.as_slice())?)),
         Expr::Op(op, left, right) => {
-            let left = new_expr(alloc, unit, left)?;
-            let right = new_expr(alloc, unit, right)?;
-            Ok(Expr::Op(*op, Box::new(alloc, left)?, Box::new(alloc, right)?))
+            let left = Box::new(alloc, new_expr(alloc, unit, left)?)?;
+            match new_expr(alloc, unit, right) {
+                Ok(right) => Ok(Expr::Op(*op, left, Box::new(alloc, right)?)),
+                Err(Memory) => {
+                    drop(left);
+                    Err(Memory)
+                }
+            }
         }
     }
 }
@@ -122,14 +127,20 @@ fn new_stmt(alloc: Global, unit: usize, stmt: &Stmt) -> Result<Stmt, Memory>
         }
         Stmt::Goto(name) => Ok(Stmt::Goto(new_name(alloc, unit, name.as_slice())?)),
         Stmt::If(op, left, right, name) => {
+            let label = new_name(alloc, unit, name.as_slice())?;
             let left = new_expr(alloc, unit, left)?;
-            let right = new_expr(alloc, unit, right)?;
-            Ok(Stmt::If(*op, left, right, new_name(alloc, unit, name.as_slice())?))
+            match new_expr(alloc, unit, right) {
+                Ok(right) => Ok(Stmt::If(*op, left, right, label)),
+                Err(Memory) => {
+                    drop(left);
+                    Err(Memory)
+                }
+            }
         }
         Stmt::Switch(e, cases, name) => {
-            let e = new_expr(alloc, unit, e)?;
             let cases = new_cases(alloc, unit, cases.as_slice())?;
-            Ok(Stmt::Switch(e, cases, new_name(alloc, unit, name.as_slice())?))
+            let default = new_name(alloc, unit, name.as_slice())?;
+            Ok(Stmt::Switch(new_expr(alloc, unit, e)?, cases, default))
         }
         Stmt::ReturnNone => Ok(Stmt::ReturnNone),
         Stmt::Return(arg) => Ok(Stmt::Return(new_arg(alloc, unit, arg)?)),

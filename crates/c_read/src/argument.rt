@@ -26,7 +26,7 @@ pub fn agroup(
 {
     match cursor.peek() {
         Kind::Fixed(Tok::WordW2cFn) => {
-            cursor.expect(Tok::WordW2cFn)?;
+            cursor.take(Tok::WordW2cFn);
             cursor.expect(Tok::RightParen)?;
             Ok(Arg::Function(cursor.name(alloc)?))
         }
@@ -42,11 +42,11 @@ fn argument_in(alloc: Global, cursor: &mut Cursor<'_>, room: usize) -> Result<Ar
 {
     match cursor.peek() {
         Kind::Fixed(Tok::Amp) => {
-            cursor.expect(Tok::Amp)?;
+            cursor.take(Tok::Amp);
             Ok(Arg::Address(cursor.name(alloc)?))
         }
         Kind::Fixed(Tok::LeftParen) => {
-            cursor.expect(Tok::LeftParen)?;
+            cursor.take(Tok::LeftParen);
             agroup(alloc, cursor, Part::InAgroup, room)
         }
         Kind::Name => {

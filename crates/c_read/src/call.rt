@@ -8,6 +8,7 @@ ghost use Rattle.c_read.specs.Arguments.{called_of, right_of};
 use crate::argument::{agroup, arguments};
 use crate::ctype::{ctype, types};
 use crate::expression::index;
+use crate::together::{before, both};
 use c_lex::Cursor;
 use c_tree::{Arg, Args, CFuncType, CReadFault, Callee, Expr, Kind, Name, Part, Tok};
 use std::alloc::Global;
@@ -51,15 +52,13 @@ pub fn through(alloc: Global, cursor: &mut Cursor<'_>, room: usize) -> Result<Ca
     ensures kept { length cursor.new ≤ length cursor.old }
 {
     let ty = pointer_type(alloc, cursor)?;
-    let name = cursor.name(alloc)?;
-    cursor.expect(Tok::RightParen)?;
-    cursor.expect(Tok::LeftParen)?;
-    let args = arguments(alloc, cursor, room)?;
-    cursor.expect(Tok::RightParen)?;
-    Ok(Called {
-        callee: Callee::Through(ty, name),
-        args,
-    })
+    let (ty, name) = both(ty, cursor.name(alloc))?;
+    let callee = Callee::Through(ty, name);
+    let callee = before(callee, cursor.expect(Tok::RightParen))?;
+    let callee = before(callee, cursor.expect(Tok::LeftParen))?;
+    let (callee, args) = both(callee, arguments(alloc, cursor, room))?;
+    let called = before(Called { callee, args }, cursor.expect(Tok::RightParen))?;
+    Ok(called)
 }
 
 /// What follows a name on a right side: an index, arguments, or nothing.
@@ -75,9 +74,9 @@ fn rname(
 {
     match cursor.peek() {
         Kind::Fixed(Tok::LeftParen) => {
-            cursor.expect(Tok::LeftParen)?;
+            cursor.take(Tok::LeftParen);
             let args = arguments(alloc, cursor, room)?;
-            cursor.expect(Tok::RightParen)?;
+            let args = before(args, cursor.expect(Tok::RightParen))?;
             Ok(Right::Calls(Called {
                 callee: Callee::Named(name),
                 args,
@@ -111,7 +110,7 @@ fn rgroup(alloc: Global, cursor: &mut Cursor<'_>, room: usize) -> Result<Right, 
 {
     match cursor.peek() {
         Kind::Fixed(Tok::Star) => {
-            cursor.expect(Tok::Star)?;
+            cursor.take(Tok::Star);
             rstar(alloc, cursor, room)
         }
         _ => Ok(Right::Gives(agroup(alloc, cursor, Part::InRgroup, room)?)),
@@ -131,11 +130,11 @@ pub fn right_in(alloc: Global, cursor: &mut Cursor<'_>, room: usize) -> Result<R
         }
         Kind::Number(_) => Ok(Right::Gives(Arg::Value(Expr::Num(cursor.number()?)))),
         Kind::Fixed(Tok::Amp) => {
-            cursor.expect(Tok::Amp)?;
+            cursor.take(Tok::Amp);
             Ok(Right::Gives(Arg::Address(cursor.name(alloc)?)))
         }
         Kind::Fixed(Tok::LeftParen) => {
-            cursor.expect(Tok::LeftParen)?;
+            cursor.take(Tok::LeftParen);
             rgroup(alloc, cursor, room)
         }
         _ => Err(cursor.refuse(Part::InRight)),

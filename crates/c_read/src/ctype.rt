@@ -16,7 +16,7 @@ fn star(cursor: &mut Cursor<'_>, itself: CType, pointer: CType) -> Result<CType,
 {
     match cursor.peek() {
         Kind::Fixed(Tok::Star) => {
-            cursor.expect(Tok::Star)?;
+            cursor.take(Tok::Star);
             Ok(pointer)
         }
         _ => Ok(itself),
@@ -32,27 +32,27 @@ pub fn ctype(cursor: &mut Cursor<'_>) -> Result<CType, CReadFault>
 {
     match cursor.peek() {
         Kind::Fixed(Tok::WordVoid) => {
-            cursor.expect(Tok::WordVoid)?;
+            cursor.take(Tok::WordVoid);
             Ok(CType::Void)
         }
         Kind::Fixed(Tok::WordU32) => {
-            cursor.expect(Tok::WordU32)?;
+            cursor.take(Tok::WordU32);
             star(cursor, CType::U32, CType::PtrU32)
         }
         Kind::Fixed(Tok::WordU64) => {
-            cursor.expect(Tok::WordU64)?;
+            cursor.take(Tok::WordU64);
             star(cursor, CType::U64, CType::PtrU64)
         }
         Kind::Fixed(Tok::WordW2cMem) => {
-            cursor.expect(Tok::WordW2cMem)?;
+            cursor.take(Tok::WordW2cMem);
             star(cursor, CType::Mem, CType::PtrMem)
         }
         Kind::Fixed(Tok::WordW2cTab) => {
-            cursor.expect(Tok::WordW2cTab)?;
+            cursor.take(Tok::WordW2cTab);
             star(cursor, CType::Tab, CType::PtrTab)
         }
         Kind::Fixed(Tok::WordW2cFn) => {
-            cursor.expect(Tok::WordW2cFn)?;
+            cursor.take(Tok::WordW2cFn);
             Ok(CType::FnPtr)
         }
         _ => Err(cursor.refuse(Part::InType)),

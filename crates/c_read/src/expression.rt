@@ -6,6 +6,7 @@ ghost use Rattle.c_lex.specs.Cursor.{is_last};
 ghost use Rattle.c_lex.specs.Reading.{Reads};
 ghost use Rattle.c_read.specs.Expressions as spec;
 
+use crate::together::{before, both};
 use c_lex::Cursor;
 use c_tree::{COp, CReadFault, Expr, Kind, Name, Part, Tok};
 use std::alloc::Global;
@@ -47,7 +48,7 @@ pub fn operator(cursor: &mut Cursor<'_>) -> Result<COp, CReadFault>
     let Some(op) = op_of(tok) else {
         return Err(cursor.refuse(Part::InOperator));
     };
-    cursor.expect(tok)?;
+    cursor.take(tok);
     Ok(op)
 }
 
@@ -65,9 +66,9 @@ pub fn index(
 {
     match cursor.peek() {
         Kind::Fixed(Tok::LeftBracket) => {
-            cursor.expect(Tok::LeftBracket)?;
+            cursor.take(Tok::LeftBracket);
             let index = Box::new(alloc, expr(alloc, cursor, room)?)?;
-            cursor.expect(Tok::RightBracket)?;
+            let index = before(index, cursor.expect(Tok::RightBracket))?;
             Ok(Expr::At(name, index))
         }
         _ => Ok(Expr::Name(name)),
@@ -82,10 +83,11 @@ fn operation(alloc: Global, cursor: &mut Cursor<'_>, room: usize) -> Result<Expr
     ensures kept { length cursor.new ≤ length cursor.old }
 {
     let left = Box::new(alloc, expr(alloc, cursor, room)?)?;
-    let op = operator(cursor)?;
-    let right = Box::new(alloc, expr(alloc, cursor, room)?)?;
-    cursor.expect(Tok::RightParen)?;
-    Ok(Expr::Op(op, left, right))
+    let (left, op) = both(left, operator(cursor))?;
+    let (left, right) = both(left, expr(alloc, cursor, room))?;
+    let sides = before((left, right), cursor.expect(Tok::RightParen))?;
+    let (left, right) = sides;
+    Ok(Expr::Op(op, left, Box::new(alloc, right)?))
 }
 
 /// What stands behind a parenthesis, in a part that has it as its own: where nothing of it begins,
@@ -103,17 +105,17 @@ pub fn group(
 {
     match cursor.peek() {
         Kind::Fixed(Tok::WordU32) => {
-            cursor.expect(Tok::WordU32)?;
+            cursor.take(Tok::WordU32);
             cursor.expect(Tok::RightParen)?;
             Ok(Expr::To32(Box::new(alloc, expr(alloc, cursor, room)?)?))
         }
         Kind::Fixed(Tok::WordU64) => {
-            cursor.expect(Tok::WordU64)?;
+            cursor.take(Tok::WordU64);
             cursor.expect(Tok::RightParen)?;
             Ok(Expr::To64(Box::new(alloc, expr(alloc, cursor, room)?)?))
         }
         Kind::Fixed(Tok::Star) => {
-            cursor.expect(Tok::Star)?;
+            cursor.take(Tok::Star);
             let name = cursor.name(alloc)?;
             cursor.expect(Tok::RightParen)?;
             Ok(Expr::Star(name))
@@ -139,7 +141,7 @@ fn expr_of_parts(alloc: Global, cursor: &mut Cursor<'_>, room: usize) -> Result<
         }
         Kind::Number(_) => Ok(Expr::Num(cursor.number()?)),
         Kind::Fixed(Tok::LeftParen) => {
-            cursor.expect(Tok::LeftParen)?;
+            cursor.take(Tok::LeftParen);
             group(alloc, cursor, Part::InGroup, room)
         }
         _ => Err(cursor.refuse(Part::InExpr)),

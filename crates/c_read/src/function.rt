@@ -134,11 +134,11 @@ fn close(alloc: Global, cursor: &mut Cursor<'_>) -> Result<Option<Body>, CReadFa
 {
     match cursor.peek() {
         Kind::Fixed(Tok::Semicolon) => {
-            cursor.expect(Tok::Semicolon)?;
+            cursor.take(Tok::Semicolon);
             Ok(None)
         }
         Kind::Fixed(Tok::LeftBrace) => {
-            cursor.expect(Tok::LeftBrace)?;
+            cursor.take(Tok::LeftBrace);
             let body = body(alloc, cursor)?;
             cursor.expect(Tok::RightBrace)?;
             Ok(Some(body))

@@ -82,17 +82,17 @@ fn rest(alloc: Global, cursor: &mut Cursor<'_>, ty: CType, name: Name) -> Result
 {
     match cursor.peek() {
         Kind::Fixed(Tok::Semicolon) => {
-            cursor.expect(Tok::Semicolon)?;
+            cursor.take(Tok::Semicolon);
             Ok(Item::Var(ty, name, None))
         }
         Kind::Fixed(Tok::Assign) => {
-            cursor.expect(Tok::Assign)?;
+            cursor.take(Tok::Assign);
             let value = cursor.number()?;
             cursor.expect(Tok::Semicolon)?;
             Ok(Item::Var(ty, name, Some(value)))
         }
         Kind::Fixed(Tok::LeftParen) => {
-            cursor.expect(Tok::LeftParen)?;
+            cursor.take(Tok::LeftParen);
             function(alloc, cursor, true, ty, name)
         }
         _ => Err(cursor.refuse(Part::InRest)),
@@ -152,7 +152,7 @@ pub fn item(alloc: Global, cursor: &mut Cursor<'_>) -> Result<Item, CReadFault>
     }
     match kind {
         Kind::Fixed(Tok::WordStatic) => {
-            cursor.expect(Tok::WordStatic)?;
+            cursor.take(Tok::WordStatic);
             inner(alloc, cursor)
         }
         _ => Err(cursor.refuse(Part::InItem)),

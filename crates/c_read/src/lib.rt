@@ -9,6 +9,7 @@ mod function;
 mod item;
 mod laws;
 mod statement;
+mod together;
 mod unit;
 
 pub use c_tree::{CReadFault, Part, Tok, Wanted};

@@ -9,6 +9,7 @@ ghost use Rattle.c_read.specs.Statements.{option_of};
 use crate::argument::{argument, arguments};
 use crate::call::{Right, right_in, through};
 use crate::expression::{expr, operator};
+use crate::together::{before, both};
 use c_lex::Cursor;
 use c_tree::{Arg, CReadFault, Callee, Cases, DEPTH, Kind, Name, Num, Part, Stmt, Stmts, Tok};
 use std::alloc::Global;
@@ -43,20 +44,20 @@ fn after(alloc: Global, cursor: &mut Cursor<'_>, name: Name) -> Result<Stmt, CRe
 {
     match cursor.peek() {
         Kind::Fixed(Tok::Colon) => {
-            cursor.expect(Tok::Colon)?;
+            cursor.take(Tok::Colon);
             Ok(Stmt::Label(name))
         }
         Kind::Fixed(Tok::Assign) => {
-            cursor.expect(Tok::Assign)?;
+            cursor.take(Tok::Assign);
             let right = right_in(alloc, cursor, DEPTH - 1)?;
-            cursor.expect(Tok::Semicolon)?;
+            let right = before(right, cursor.expect(Tok::Semicolon))?;
             Ok(assigned(name, right))
         }
         Kind::Fixed(Tok::LeftParen) => {
-            cursor.expect(Tok::LeftParen)?;
+            cursor.take(Tok::LeftParen);
             let args = arguments(alloc, cursor, DEPTH)?;
-            cursor.expect(Tok::RightParen)?;
-            cursor.expect(Tok::Semicolon)?;
+            let args = before(args, cursor.expect(Tok::RightParen))?;
+            let args = before(args, cursor.expect(Tok::Semicolon))?;
             Ok(Stmt::Call(None, Callee::Named(name), args))
         }
         _ => Err(cursor.refuse(Part::InAfter)),
@@ -124,7 +125,7 @@ fn default(alloc: Global, cursor: &mut Cursor<'_>) -> Result<Name, CReadFault>
 {
     match cursor.peek() {
         Kind::Fixed(Tok::WordDefault) => {
-            cursor.expect(Tok::WordDefault)?;
+            cursor.take(Tok::WordDefault);
             cursor.expect(Tok::Colon)?;
             jump(alloc, cursor)
         }
@@ -140,12 +141,13 @@ fn switch(alloc: Global, cursor: &mut Cursor<'_>) -> Result<Stmt, CReadFault>
 {
     cursor.expect(Tok::LeftParen)?;
     let selector = expr(alloc, cursor, DEPTH)?;
-    cursor.expect(Tok::RightParen)?;
-    cursor.expect(Tok::LeftBrace)?;
-    let cases = cases(alloc, cursor)?;
-    let label = default(alloc, cursor)?;
-    cursor.expect(Tok::RightBrace)?;
-    Ok(Stmt::Switch(selector, cases, label))
+    let selector = before(selector, cursor.expect(Tok::RightParen))?;
+    let selector = before(selector, cursor.expect(Tok::LeftBrace))?;
+    let (selector, cases) = both(selector, cases(alloc, cursor))?;
+    let ((selector, cases), label) = both((selector, cases), default(alloc, cursor))?;
+    let switch = Stmt::Switch(selector, cases, label);
+    let switch = before(switch, cursor.expect(Tok::RightBrace))?;
+    Ok(switch)
 }
 
 /// A condition and its goto, behind the key word.
@@ -156,10 +158,10 @@ fn condition(alloc: Global, cursor: &mut Cursor<'_>) -> Result<Stmt, CReadFault>
 {
     cursor.expect(Tok::LeftParen)?;
     let left = expr(alloc, cursor, DEPTH)?;
-    let op = operator(cursor)?;
-    let right = expr(alloc, cursor, DEPTH)?;
-    cursor.expect(Tok::RightParen)?;
-    let label = jump(alloc, cursor)?;
+    let (left, op) = both(left, operator(cursor))?;
+    let (left, right) = both(left, expr(alloc, cursor, DEPTH))?;
+    let sides = before((left, right), cursor.expect(Tok::RightParen))?;
+    let ((left, right), label) = both(sides, jump(alloc, cursor))?;
     Ok(Stmt::If(op, left, right, label))
 }
 
@@ -172,7 +174,7 @@ fn set_star(alloc: Global, cursor: &mut Cursor<'_>) -> Result<Stmt, CReadFault>
     let name = cursor.name(alloc)?;
     cursor.expect(Tok::Assign)?;
     let value = expr(alloc, cursor, DEPTH)?;
-    cursor.expect(Tok::Semicolon)?;
+    let value = before(value, cursor.expect(Tok::Semicolon))?;
     Ok(Stmt::SetStar(name, value))
 }
 
@@ -184,7 +186,7 @@ fn call_through(alloc: Global, cursor: &mut Cursor<'_>) -> Result<Stmt, CReadFau
 {
     cursor.expect(Tok::Star)?;
     let called = through(alloc, cursor, DEPTH)?;
-    cursor.expect(Tok::Semicolon)?;
+    let called = before(called, cursor.expect(Tok::Semicolon))?;
     Ok(Stmt::Call(None, called.callee, called.args))
 }
 
@@ -197,7 +199,7 @@ fn statement(alloc: Global, cursor: &mut Cursor<'_>) -> Result<Stmt, CReadFault>
 {
     match cursor.peek() {
         Kind::Fixed(Tok::Semicolon) => {
-            cursor.expect(Tok::Semicolon)?;
+            cursor.take(Tok::Semicolon);
             Ok(Stmt::Null)
         }
         Kind::Name => {
@@ -205,26 +207,26 @@ fn statement(alloc: Global, cursor: &mut Cursor<'_>) -> Result<Stmt, CReadFault>
             after(alloc, cursor, name)
         }
         Kind::Fixed(Tok::Star) => {
-            cursor.expect(Tok::Star)?;
+            cursor.take(Tok::Star);
             set_star(alloc, cursor)
         }
         Kind::Fixed(Tok::LeftParen) => {
-            cursor.expect(Tok::LeftParen)?;
+            cursor.take(Tok::LeftParen);
             call_through(alloc, cursor)
         }
         Kind::Fixed(Tok::WordGoto) => Ok(Stmt::Goto(jump(alloc, cursor)?)),
         Kind::Fixed(Tok::WordIf) => {
-            cursor.expect(Tok::WordIf)?;
+            cursor.take(Tok::WordIf);
             condition(alloc, cursor)
         }
         Kind::Fixed(Tok::WordSwitch) => {
-            cursor.expect(Tok::WordSwitch)?;
+            cursor.take(Tok::WordSwitch);
             switch(alloc, cursor)
         }
         Kind::Fixed(Tok::WordReturn) => {
-            cursor.expect(Tok::WordReturn)?;
+            cursor.take(Tok::WordReturn);
             let arg = returned(alloc, cursor)?;
-            cursor.expect(Tok::Semicolon)?;
+            let arg = before(arg, cursor.expect(Tok::Semicolon))?;
             Ok(return_of(arg))
         }
         _ => Err(cursor.refuse(Part::InStatement)),

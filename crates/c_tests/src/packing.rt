@@ -1,6 +1,6 @@
 // Statements that are kept as bytes until they are asked for.
 use c_tree::{Stmt, Stmts, label};
-use packed_stmts::Statements;
+use packed_stmts::{Parts, Statements};
 use std::alloc::Global;
 use std::test::Fail;
 use w2c_base::Memory;
@@ -23,16 +23,34 @@ fn names(stmts: &Stmts, place: usize, name: &[u8]) -> bool {
     }
 }
 
+fn are_all(stmts: &Stmts) -> bool {
+    stmts.as_slice().len() == MANY
+        && names(stmts, 0, b"L0")
+        && names(stmts, 1024, b"L1024")
+        && names(stmts, 1499, b"L1499")
+}
+
 #[test]
 fn statements_come_back_in_order(rt: HostRuntime) -> Result<(), Fail> {
     let stmts = labels(rt.alloc())?;
-    assert_eq!(rt; stmts.len(), MANY);
+    let count = stmts.len();
     let all = stmts.into_parts().all()?;
-    assert_eq!(rt; all.as_slice().len(), MANY);
-    assert!(rt; names(&all, 0, b"L0"));
-    assert!(rt; names(&all, 1024, b"L1024"));
-    assert!(rt; names(&all, 1499, b"L1499"));
+    let right = are_all(&all);
+    drop(all);
+    assert!(rt; count == MANY && right);
     Ok(())
+}
+
+// How many statements the first part has, 0 where there is none.
+fn first_count(parts: &mut Parts) -> Result<usize, Memory> {
+    match parts.next()? {
+        Some(part) => Ok(part.len()),
+        None => Ok(0),
+    }
+}
+
+fn are_last(stmts: &Stmts) -> bool {
+    stmts.as_slice().len() == 475 && names(stmts, 375, b"L1399") && names(stmts, 376, b"L1401")
 }
 
 #[test]
@@ -41,13 +59,10 @@ fn a_label_is_left_out(rt: HostRuntime) -> Result<(), Fail> {
     stmts.leave_out(7);
     stmts.leave_out(1400);
     let mut parts = stmts.into_parts();
-    match parts.next()? {
-        Some(part) => assert_eq!(rt; part.len(), 1023),
-        None => assert!(rt; false),
-    }
+    let first = first_count(&mut parts);
     let last = parts.all()?;
-    assert_eq!(rt; last.as_slice().len(), 475);
-    assert!(rt; names(&last, 375, b"L1399"));
-    assert!(rt; names(&last, 376, b"L1401"));
+    let right = are_last(&last);
+    drop(last);
+    assert!(rt; first == Ok(1023) && right);
     Ok(())
 }

@@ -6,7 +6,7 @@ use crun::{Kept, Outcome, Phase, Session, Stop, UndefinedAt, host_symbols};
 use std::alloc::Global;
 use std::cell::Cell;
 use std::test::Fail;
-use w2c_base::{Bytes, FuncType, TrapKind, Types, ValType, Value};
+use w2c_base::{Bytes, FuncType, Memory, TrapKind, Types, ValType, Value};
 
 // Asks the host, traps where x is 0, and divides by 0 where it is 1.
 const UNIT: &str = "#include \"w2c_rt.h\"
@@ -157,18 +157,24 @@ const ROWS: [Row; 4] = [
     ),
 ];
 
-// Whether it is so, and the host is dropped once behind the calls.
-fn comes_to(alloc: Global, row: &Row) -> Result<bool, Fail> {
-    let (x, steps, wanted, wanted_again) = *row;
-    let drops = Cell::new(0);
-    let mut session = session(alloc, &drops, steps)?;
+// Whether the session's calls of f with the row's number come to what the row says.
+fn calls_come_to(session: &mut Session<Counter<'_>>, row: &Row) -> Result<bool, Memory> {
+    let (x, _, wanted, wanted_again) = *row;
     if session.phase() == Phase::Fresh {
         session.init()?;
     }
-    let outcome = call_f(&mut session, x);
-    let again = call_f(&mut session, x);
+    let outcome = call_f(session, x);
+    let again = call_f(session, x);
+    Ok(outcome == Some(wanted) && again == Some(wanted_again))
+}
+
+// Whether it is so, and the host is dropped once behind the calls.
+fn comes_to(alloc: Global, row: &Row) -> Result<bool, Fail> {
+    let drops = Cell::new(0);
+    let mut session = session(alloc, &drops, row.1)?;
+    let came = calls_come_to(&mut session, row);
     session.close();
-    Ok(outcome == Some(wanted) && again == Some(wanted_again) && drops.get() == 1)
+    Ok(came? && drops.get() == 1)
 }
 
 // The number of the first row that is not so.
@@ -187,18 +193,15 @@ fn calls_behind_each_outcome(rt: HostRuntime) -> Result<(), Fail> {
     Ok(())
 }
 
-#[test]
-fn a_call_ends(rt: HostRuntime) -> Result<(), Fail> {
-    let alloc = rt.alloc();
-    let drops = Cell::new(0);
-    let mut session = session(alloc, &drops, 100)?;
+// Whether the init functions and a call end, and what the session tells then.
+fn a_call_is_told(session: &mut Session<Counter<'_>>) -> Result<bool, Memory> {
     let mut begun = Outcome::OutOfSteps;
     if session.phase() == Phase::Fresh {
         begun = session.init()?;
     }
-    let ended = call_f(&mut session, 5);
+    let ended = call_f(session, 5);
     let (hosts, objects) = session.hosts_and_objects();
-    assert!(rt;
+    Ok(
         begun == Outcome::Ended(None)
             && ended == Some(Ok(Outcome::Ended(Some(Value::I64(1)))))
             && session.phase() == Phase::Ready
@@ -207,7 +210,16 @@ fn a_call_ends(rt: HostRuntime) -> Result<(), Fail> {
             && session.host_count() == 1
             && hosts.len() == 1
             && objects.len() == 1
-            && session.variable(0, b"g") == None
-    );
+            && session.variable(0, b"g") == None,
+    )
+}
+
+#[test]
+fn a_call_ends(rt: HostRuntime) -> Result<(), Fail> {
+    let drops = Cell::new(0);
+    let mut session = session(rt.alloc(), &drops, 100)?;
+    let told = a_call_is_told(&mut session);
+    session.close();
+    assert!(rt; told?);
     Ok(())
 }

@@ -25,8 +25,13 @@ fn copy_expression(alloc: Global, e: &Expr) -> Result<Expr, Memory>
         Expr::Star(name) => Ok(Expr::Star(name.copy(alloc)?)),
         Expr::Op(op, left, right) => {
             let left = Box::new(alloc, copy_expression(alloc, left)?)?;
-            let right = Box::new(alloc, copy_expression(alloc, right)?)?;
-            Ok(Expr::Op(*op, left, right))
+            match copy_expression(alloc, right) {
+                Ok(right) => Ok(Expr::Op(*op, left, Box::new(alloc, right)?)),
+                Err(Memory) => {
+                    drop(left);
+                    Err(Memory)
+                }
+            }
         }
     }
 }
@@ -98,15 +103,20 @@ fn copy_statement(alloc: Global, statement: &Stmt) -> Result<Stmt, Memory>
         }
         Stmt::Goto(name) => Ok(Stmt::Goto(name.copy(alloc)?)),
         Stmt::If(op, left, right, label) => {
-            let left = copy_expression(alloc, left)?;
-            let right = copy_expression(alloc, right)?;
             let label = label.copy(alloc)?;
-            Ok(Stmt::If(*op, left, right, label))
+            let left = copy_expression(alloc, left)?;
+            match copy_expression(alloc, right) {
+                Ok(right) => Ok(Stmt::If(*op, left, right, label)),
+                Err(Memory) => {
+                    drop(left);
+                    Err(Memory)
+                }
+            }
         }
         Stmt::Switch(e, cases, default) => {
-            let e = copy_expression(alloc, e)?;
             let cases = copy_cases(alloc, cases)?;
             let default = default.copy(alloc)?;
+            let e = copy_expression(alloc, e)?;
             Ok(Stmt::Switch(e, cases, default))
         }
         Stmt::ReturnNone => Ok(Stmt::ReturnNone),

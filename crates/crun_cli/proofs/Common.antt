@@ -2,7 +2,8 @@
 pub use Rattle.std.proofs.Common.{◌≡◌, ℕ, zero, suc, ◌+◌, ◌-◌, ◌<◌, ◌≤◌, Bool, true, false, not, ◌&&◌, ◌||◌, ◌⊎◌, List, [], ◌∷◌, ◌++◌, map}
 pub use Rattle.std.proofs.Common.{length, get_or, take, drop, is_some, IfSome, if◌then◌else◌, slice_get, Some, None, Ok, Err, string_bytes}
 pub use Rattle.std.proofs.Common.{codes, Option, MatchOption, option_map, option_and_then, bytes_eq, sym, refl, ap, ◌∙◌, subst, inl, inr}
-pub use Rattle.std.proofs.Common.{append_assoc, append-nil, arith, length-take-le, take_all, drop_at, rules, leb-true}
+pub use Rattle.std.proofs.Common.{append_assoc, append-nil, arith, length-take-le, take_all, drop_at, rules, leb-true, le_refl, le_trans}
+pub use Rattle.std.proofs.Common.{le_of_eq}
 pub use Rattle.std.proofs.lemmas.List.{length-map, map-append}
 pub use Rattle.std.specs.FinMap.{get}
 pub use Rattle.std.specs.List.{list_all, position_from}

@@ -1,5 +1,5 @@
 -- A run whose journal is written: from what its steps say to what the line asks for.
-use Rattle.crun_cli.proofs.Common.{◌≡◌, ℕ, Bool, ◌⊎◌, List, [], ◌∷◌, ◌++◌, Some, None, Option, refl, ◌∙◌, subst, inl, inr, Name, Told}
+use Rattle.crun_cli.proofs.Common.{◌≡◌, ℕ, Bool, ◌⊎◌, List, Some, None, Option, refl, subst, inl, inr, Name, Told}
 use Rattle.crun_cli.proofs.Common.{holding, IsBegun, SymbolCall, Ended, OutOfSteps, Stopped, Trapped, Undefined, hosts_of, HostModule}
 use Rattle.crun_cli.proofs.Common.{Asked, recorded, Recorded, journal_text, AreDistinct, JournalFile, RunLine, IsTextsJob, Run, CallsLine}
 use Rattle.crun_cli.proofs.Common.{Reason, Refused, WantOfMemory, StopsTexts, HasPlayed, HasPlayedPart, IsJournaled, IsRunStatus}

@@ -7,10 +7,11 @@ use Rattle.crun_cli.proofs.Common.{InputStop, IsTextsJob, Job, Stops, CallsLine,
 use Rattle.crun_cli.proofs.Common.{Unread, Unwritten, Usage, WantOfMemory, reason_of, stop_for, FilesSeen, HasPlayed, HasPlayedPart}
 use Rattle.crun_cli.proofs.Common.{IsJobWith, IsUnwritten, Ran, RanPart, WithHosts, HasReading, IsReadBy, IsToRead, IsToWrite, IsUnitFile}
 use Rattle.crun_cli.proofs.Common.{HoldsJournal, IsJobOfTexts, IsLineJob, IsReplayJob, IsRunJob, symbols_of, IsUntouched, Outside, SinkSeen}
-use Rattle.crun_cli.proofs.Common.{IsRunUnwritten, IsTextsPart, IsTextsRun, StopsReplay, StopsRun, StopsWork}
+use Rattle.crun_cli.proofs.Common.{IsRunUnwritten, IsTextsPart, IsTextsRun, StopsReplay, StopsRun, StopsWork, ◌⊎◌, holding}
 use Rattle.w2c_io.proofs.Telling.{rose_from}
 use Rattle.c_tree.specs.Tree as tree
 use Rattle.crun_words.specs.declared.inputs.InputStop.TheVariants as input
+use Rattle.crun_words.specs.Inputs.{StopsJournal}
 use Rattle.crun_job.specs.declared.stop.Cause.TheVariants as cause
 use Rattle.w2c_files.proofs.Standing.{one_at}
 
@@ -69,6 +70,13 @@ module _ {G : Type 0} (n : HostModule G) (gs : List G) (line : RunLine) (start m
     stop_from texts text WantOfMemory (inr part) = inr (texts_part_from texts text part)
     stop_from texts text _ stop = absurd stop
 
+-- the file that a run writes, behind reading that wrote none
+pub kept_from : (journal : Option Name) (start middle new : Told) → middle ≡ start
+    → (new ≡ middle) ⊎ ((file : Name) × (text : List ℕ) × (journal ≡ Some file) × (new ≡ holding middle file text))
+    → (new ≡ start) ⊎ ((file : Name) × (text : List ℕ) × (journal ≡ Some file) × (new ≡ holding start file text))
+kept_from journal start middle new told kept = subst (λ (t : Told). (new ≡ t)
+    ⊎ ((file : Name) × (text : List ℕ) × (journal ≡ Some file) × (new ≡ holding t file text))) told kept
+
 -- ---- the journal is read behind the other files
 
 pub replay_from : (name : Name) (start middle new : FilesSeen) → middle.told ≡ start.told → start.read_faults ≤ middle.read_faults
@@ -82,6 +90,14 @@ replay_from name start middle new told later JournalTooLong stop = λ m tells. s
 replay_from name start middle new told later (JournalLine number) stop = λ m tells. stop m (told ∙ tells)
 replay_from name start middle new told later WantOfMemory stop = stop
 replay_from name start middle new told later _ stop = absurd stop
+
+-- the journal's file is not read
+pub journal_stop : (name : Name) (old new : FilesSeen) (stop : InputStop)
+    → StopsJournal old.told name old.read_faults new.read_faults new.fault_name stop → StopsReplay name old new (reason_of (stop_for stop))
+journal_stop name old new (input.Unread file) unread = unread
+journal_stop name old new input.JournalTooLong long = long
+journal_stop name old new input.Memory stop = stop
+journal_stop name old new _ stop = absurd stop
 
 -- ---- words that ask for a run
 

@@ -21,6 +21,23 @@ stop_range _ = (omega arith, omega arith)
 pub stop_apart : (status : ℕ) (why : Reason) → IsStatus status why → IsRunStatus status → ⊥
 stop_apart status why is run = let range = stop_range why in omega (arith, is, run, range.0, range.1)
 
+pub stop_bound : (status : ℕ) (why : Reason) → IsStatus status why → status ≤ 8
+stop_bound status why is = let range = stop_range why in omega (arith, is, range.1)
+
+-- a status of a run is none of the others
+module _ (status : ℕ) (run : IsRunStatus status) where
+  pub no_refusal : (status ≡ 2) ⊎ (status ≡ 6) → ⊥
+  no_refusal came = omega (arith, run, came)
+
+  pub no_early_stop : (status ≡ 2) ⊎ (status ≡ 3) ⊎ (status ≡ 6) → ⊥
+  no_early_stop came = omega (arith, run, came)
+
+  pub no_fault : (status ≡ 3) ⊎ (status ≡ 4) ⊎ (status ≡ 5) → ⊥
+  no_fault came = omega (arith, run, came)
+
+  pub run_bound : status ≤ 8
+  run_bound = omega (arith, run)
+
 -- the reason of a status that has one
 pub of_status_3 : (why : Reason) → status_of why ≡ 3 → (file : Name) × (why ≡ Unread file)
 of_status_3 (Unread file) is = (file, refl)

@@ -4,8 +4,29 @@ use Rattle.crun_cli.proofs.Common.{Contents, Name, holding, IsOneOf, CSpells, pr
 use Rattle.crun_cli.proofs.Common.{line_of, merges, trims, Job, Stops, Write, Reason, Refused, Unread, Unwritten, Usage, WantOfMemory}
 use Rattle.crun_cli.proofs.Common.{AreUntouched, FilesSeen, IsMergeJob, IsTrimJob, IsUnitPart, StopsWrite, BegunIfAny, Finished, IsJobWith}
 use Rattle.crun_cli.proofs.Common.{WrotePart, HasReading, IsReadBy, IsToRead, IsToWrite, IsUnitFile, IsUnitOf, IsWrittenBy, IsLineJob}
-use Rattle.crun_cli.proofs.Common.{symbols_of, IsUntouched, Outside, SinkSeen, StopsWork}
+use Rattle.crun_cli.proofs.Common.{symbols_of, IsUntouched, Outside, SinkSeen, StopsWork, ℕ, IsKept}
 use Rattle.c_tree.specs.Tree as tree
+
+-- ---- words that have a reading
+
+pub has_line : (words : List Name) (line : Line) → line_of words ≡ Some line → HasReading words
+has_line words line is none = (let both : ◌≡◌ {A = Option Line} None (Some line) = sym none ∙ is in cc)
+
+-- the file that is written is the one that the line names
+pub kept_line : (words : List Name) (line : Line) → line_of words ≡ Some line → (old new : Outside)
+    → (new.files.told ≡ old.files.told)
+    ⊎ ((file : Name) × (text : List ℕ) × IsWrittenBy file line × (new.files.told ≡ holding old.files.told file text))
+    → IsKept words old new
+kept_line words line is old new kept = subst (λ (o : Option Line). (new.files.told ≡ old.files.told)
+    ⊎ ((file : Name) × (text : List ℕ) × IsToWrite file o × (new.files.told ≡ holding old.files.told file text))) (sym is) kept
+
+pub kept_unit : (words : List Name) (line : Line) (output : Name) → IsWrittenBy output line → line_of words ≡ Some line
+    → (old new : Outside) → (new.files.told ≡ old.files.told) ⊎ ((text : List ℕ) × (new.files.told ≡ holding old.files.told output text))
+    → IsKept words old new
+kept_unit words line output by is old new (inl same) = inl same
+kept_unit words line output by is old new (inr (text, holds)) = inr (output, text, subst (IsToWrite output) (sym is) by, holds)
+
+-- ---- the forms
 
 module _ {H : Type 0} (hm : HostModule H) (hosts : List H) (words : List Name) (form : Line) (is : line_of words ≡ Some form)
     (Asks : Contents → Job → Type 0) (jobs : (m : Contents) (job : Job) → Asks m job → IsLineJob (hosts_of hm hosts) m form job)
@@ -88,6 +109,12 @@ module _ {H : Type 0} (hm : HostModule H) (hosts : List H) (words : List Name) (
     only : (file : Name) → IsOneOf file (line.unit ∷ []) → file ≡ line.unit
     only file (inl same) = same
     only file (inr none) = absurd none
+
+    pub trim_done : (m : Contents) → (unit : List tree.Item) × IsTrimJob line m (Write line.output unit)
+        × CSpells unit (print_of unit) × (new.told ≡ holding start.told line.output (print_of unit))
+        → Finished hm hosts words m (record { files = start; out = out }) (record { files = new; out = out }) 0
+    trim_done = unit_done hm hosts words (trims line) is (IsTrimJob line) (λ m job of. of) (line.unit ∷ []) line.output only only refl out
+        start new
 
     pub trim_stop : (why : Reason) → StopsWrite (IsTrimJob line) (line.unit ∷ []) line.output start new why
         → StopsWork hm hosts words (record { files = start; out = out }) (record { files = new; out = out }) why

@@ -20,7 +20,9 @@ pub fn text_of_bodies(alloc: Global, bytes: &[u8]) -> Result<String, AllocError>
     let Ok(valid) = ValidModule::check(alloc, module) else {
         return String::from_str(alloc, "not valid");
     };
-    text_of_valid(alloc, &valid)
+    let text = text_of_valid(alloc, &valid);
+    drop(valid);
+    text
 }
 
 fn text_of_valid(alloc: Global, valid: &ValidModule) -> Result<String, AllocError> {

@@ -5,6 +5,7 @@
 
 mod around;
 mod bodies;
+mod faults;
 mod files;
 mod modules;
 mod reader;

@@ -1,4 +1,5 @@
 // What is said of a file, in the words of the program's lines.
+use crate::faults::{at, caused};
 use std::alloc::{AllocError, Global};
 use w2c_base::MODULE_BYTES;
 use wasm_binary::{ReadFault, read_module};
@@ -8,11 +9,15 @@ use wasm_writing::{Formed, write_module};
 /// Accepted, or the line of the first fault without the file's name.
 pub fn verdict(alloc: Global, bytes: &[u8]) -> Result<String, AllocError> {
     if bytes.len() > MODULE_BYTES {
-        return format!(in alloc; "limit at {MODULE_BYTES}: module bytes");
+        return caused(alloc, "limit", MODULE_BYTES as u64, "module bytes");
     }
     match read_module(alloc, bytes) {
         Ok(module) => match ValidModule::check(alloc, module) {
-            Ok(valid) => accepted(alloc, bytes, &valid),
+            Ok(valid) => {
+                let text = accepted(alloc, bytes, &valid);
+                drop(valid);
+                text
+            }
             Err(refusal) => text_of_refusal(alloc, refusal),
         },
         Err(fault) => text_of_fault(alloc, fault),
@@ -41,14 +46,10 @@ fn accepted(alloc: Global, bytes: &[u8], valid: &ValidModule) -> Result<String, 
 fn text_of_fault(alloc: Global, fault: ReadFault) -> Result<String, AllocError> {
     match fault {
         ReadFault::Malformed(place, cause) => {
-            let text = cause.text();
-            format!(in alloc; "malformed at {place}: {text}")
+            caused(alloc, "malformed", u64::from(place), cause.text())
         }
-        ReadFault::Float(place) => format!(in alloc; "float at {place}"),
-        ReadFault::Limit(place, which) => {
-            let text = which.text();
-            format!(in alloc; "limit at {place}: {text}")
-        }
+        ReadFault::Float(place) => at(alloc, "float", u64::from(place)),
+        ReadFault::Limit(place, which) => caused(alloc, "limit", u64::from(place), which.text()),
         ReadFault::Memory => String::from_str(alloc, "want of memory"),
     }
 }
@@ -56,8 +57,7 @@ fn text_of_fault(alloc: Global, fault: ReadFault) -> Result<String, AllocError> 
 fn text_of_refusal(alloc: Global, refusal: ValidRefusal) -> Result<String, AllocError> {
     match refusal {
         ValidRefusal::Invalid(place, cause) => {
-            let text = cause.text();
-            format!(in alloc; "invalid at {place}: {text}")
+            caused(alloc, "invalid", u64::from(place), cause.text())
         }
         ValidRefusal::Memory => String::from_str(alloc, "want of memory"),
     }

@@ -1,4 +1,5 @@
 // The texts of a file's module, or why there are none, in the words of the program's lines.
+use crate::faults::{at, caused};
 use crate::written::writes_these;
 use std::alloc::{AllocError, Global};
 use w2c_base::MODULE_BYTES;
@@ -7,7 +8,7 @@ use w2c_sim::{Refusal, Texts, translate};
 /// The text of the unit and that of the header, or the line of the refusal without the file's name.
 pub fn texts_of(alloc: Global, name: &str, bytes: &[u8]) -> Result<String, AllocError> {
     if bytes.len() > MODULE_BYTES {
-        return format!(in alloc; "limit at {MODULE_BYTES}: module bytes");
+        return caused(alloc, "limit", MODULE_BYTES as u64, "module bytes");
     }
     if name.is_empty() || name.len() > 1024 {
         return String::from_str(alloc, "no module name");
@@ -35,17 +36,12 @@ fn both_texts(alloc: Global, texts: &Texts) -> Result<String, AllocError> {
 fn text_of_refusal(alloc: Global, refusal: Refusal) -> Result<String, AllocError> {
     match refusal {
         Refusal::Malformed(place, cause) => {
-            let text = cause.text();
-            format!(in alloc; "malformed at {place}: {text}")
+            caused(alloc, "malformed", u64::from(place), cause.text())
         }
-        Refusal::Float(place) => format!(in alloc; "float at {place}"),
-        Refusal::Limit(place, which) => {
-            let text = which.text();
-            format!(in alloc; "limit at {place}: {text}")
-        }
+        Refusal::Float(place) => at(alloc, "float", u64::from(place)),
+        Refusal::Limit(place, which) => caused(alloc, "limit", u64::from(place), which.text()),
         Refusal::Invalid(place, cause) => {
-            let text = cause.text();
-            format!(in alloc; "invalid at {place}: {text}")
+            caused(alloc, "invalid", u64::from(place), cause.text())
         }
         Refusal::Memory => String::from_str(alloc, "want of memory"),
     }

@@ -1,4 +1,5 @@
 // What is said of a text, in the words of crun's lines.
+use crate::faults::at;
 use c_check::{Check, CheckRefusal, CheckedUnit};
 use c_print::print_unit;
 use c_read::read_unit;
@@ -43,8 +44,8 @@ fn text_of_fault(alloc: Global, fault: CReadFault) -> Result<String, AllocError>
             let wanted = text_of_wanted(alloc, wanted)?;
             format!(in alloc; "unexpected at {place}: wanted {wanted}")
         }
-        CReadFault::NumberTooLarge(place) => format!(in alloc; "number too large at {place}"),
-        CReadFault::TooDeep(place) => format!(in alloc; "too deep at {place}"),
+        CReadFault::NumberTooLarge(place) => at(alloc, "number too large", place),
+        CReadFault::TooDeep(place) => at(alloc, "too deep", place),
         CReadFault::UnitTooLong => String::from_str(alloc, "unit too long"),
         CReadFault::Memory => String::from_str(alloc, "want of memory"),
     }

@@ -21,11 +21,13 @@ pub fn writes_these(
         return Ok(false);
     };
     let mut files = SureFiles::new(alloc);
-    write_both(alloc, &module, name, &mut files)?;
-    Ok(
-        files.get("unit") == Some(texts.unit.as_slice())
-            && files.get("header") == Some(texts.header.as_slice()),
-    )
+    let written = write_both(alloc, &module, name, &mut files);
+    drop(module);
+    let same = files.get("unit") == Some(texts.unit.as_slice())
+        && files.get("header") == Some(texts.header.as_slice());
+    drop(files);
+    written?;
+    Ok(same)
 }
 
 fn write_both<F: Files>(

@@ -7,11 +7,12 @@ use Rattle.wasm2c_cli.proofs.Common.{IsOneOf, Stands, StandsAt, file_names, writ
 use Rattle.wasm2c_cli.proofs.Common.{StopsWriting, seen_target, seen_targets, EndsWriting, names_of_targets, Stop}
 use Rattle.w2c_io.specs.declared.answers.WriteAnswer.TheVariants as answers
 use Rattle.w2c_io.proofs.Telling.{rose_from}
+use Rattle.w2c_io.specs.Causes.{WriteCause, name_after_write}
 use Rattle.wasm2c_cli.specs.declared.plan.Target.{Target}
 use Rattle.wasm2c_cli.specs.declared.stop.Stop.TheVariants as stops
 use Rattle.wasm2c_cli.specs.Plan as plan
 use Rattle.wasm2c_cli.proofs.Passing.{ends_among}
-use Rattle.std.proofs.Common.{min, take_all}
+use Rattle.std.proofs.Common.{IsErrOf, min, take_all}
 use Rattle.std.proofs.lemmas.List.{length-map, length-take, map_push}
 use Rattle.w2c_base.proofs.OfEach.{all_push}
 use Rattle.w2c_base.proofs.Places.{around, seen_at}
@@ -25,6 +26,13 @@ in_ok (Err e) holds = tt
 pub in_err : {A E P : Type 0} (result : Result A E) → P → OnErr result P
 in_err (Ok x) holds = tt
 in_err (Err e) holds = holds
+
+-- the file whose text was not put, and which was then given up, is named where the write failed
+pub named_given_up : (answer : WriteAnswer) (file : Name) (before fault after begun current : Option Name)
+    → fault ≡ name_after_write {A = Unit {0}} (Err answer) begun before → current ≡ begun → begun ≡ Some file
+    → (fault ≡ current → after ≡ current) → IsErrOf {T = Unit {0}} {E = WriteAnswer} (Err answer) answers.Failed → after ≡ Some file
+named_given_up answer file before fault after begun current is same at then failed =
+    then (subst (λ (r : Result (Unit {0}) WriteAnswer). fault ≡ name_after_write r begun before) failed is ∙ sym same) ∙ same ∙ at
 
 -- ---- both files of a module
 
@@ -47,6 +55,30 @@ stops_at old new files before after named answer file (stops.Unwritten name) sta
 )
 stops_at old new files before after named answer file stops.Memory stands faulted is = inr (file, stands)
 stops_at old new files before after named answer file _ stands faulted is = absurd is
+
+-- the same of the first of files, and of the second, where the calls had names and texts that are equal to theirs
+pub first_stops : (old new : Told) (before after : ℕ) (named : Option Name) (answer : WriteAnswer) (stop : Stop) (file name : Name)
+    (piece text : List ℕ) (rest : List (Name × List ℕ)) → file ≡ name → piece ≡ text → IsBegun old new file piece
+    → WriteCause {A = Unit {0}} before after (Err answer)
+    → (IsErrOf {T = Unit {0}} {E = WriteAnswer} (Err answer) answers.Failed → named ≡ Some file) → StopsAtFile answer file stop
+    → StopsWriting old new ((name, text) ∷ rest) before after named stop
+first_stops old new before after named answer stop file name piece text rest same is begun cause is_named stops =
+    subst (λ (l : List (Name × List ℕ)). StopsWriting old new l before after named stop) (λ i. (same i, is i) ∷ rest)
+    (stops_at old new ((file, piece) ∷ rest) before after named answer file stop (at_first old new file piece rest begun)
+    (λ failed. record { rose = cause.failed (ap Err failed); named = is_named (ap Err failed) }) stops)
+
+pub second_stops : (old mid new : Told) (start here after : ℕ) (named : Option Name) (answer : WriteAnswer) (stop : Stop)
+    (first name second other : Name) (piece text last more : List ℕ) → first ≡ name → piece ≡ text → second ≡ other → last ≡ more
+    → mid ≡ holding old first piece → start ≤ here → IsBegun mid new second last → WriteCause {A = Unit {0}} here after (Err answer)
+    → (IsErrOf {T = Unit {0}} {E = WriteAnswer} (Err answer) answers.Failed → named ≡ Some second) → StopsAtFile answer second stop
+    → StopsWriting old new ((name, text) ∷ (other, more) ∷ []) start after named stop
+second_stops old mid new start here after named answer stop first name second other piece text last more same is same' is' one later begun
+    cause is_named stops =
+    subst (λ (l : List (Name × List ℕ)). StopsWriting old new l start after named stop)
+    (λ i. (same i, is i) ∷ (same' i, is' i) ∷ [])
+    (stops_at old new ((first, piece) ∷ (second, last) ∷ []) start after named answer second stop
+    (second_at old mid new first second piece last one begun)
+    (λ failed. record { rose = rose_from start here after later (cause.failed (ap Err failed)); named = is_named (ap Err failed) }) stops)
 
 -- ---- the files of all modules
 

@@ -2,7 +2,7 @@
 use c_helpers::{HELPERS, Helper, NumOp, helper_name};
 use c_prelude::helper;
 use c_print::print_unit;
-use c_tree::{CType, Item, Unit};
+use c_tree::{CType, Func, Item, Unit};
 use std::alloc::Global;
 use std::str;
 use std::test::Fail;
@@ -22,20 +22,37 @@ fn each_helper_is_built(rt: HostRuntime) -> Result<(), Fail> {
     Ok(())
 }
 
+// Whether a helper has this name, so many parameters and this result.
+fn is_declared(func: &Func, name: &[u8], params: usize, gives: CType) -> bool {
+    func.is_static
+        && func.name.as_slice() == name
+        && func.params.len() == params
+        && func.result == gives
+}
+
 #[test]
 fn a_helper_is_named_for_its_instruction(rt: HostRuntime) -> Result<(), Fail> {
     let alloc = rt.alloc();
-    let division = helper(alloc, Helper::Num(NumOp::I32DivS))?;
-    assert!(rt; division.is_static);
-    assert_eq!(rt; division.name.as_slice(), b"i32_div_s".as_slice());
-    assert!(rt; division.params.len() == 2);
-    let load = helper(alloc, Helper::Load(LoadOp::I64Load16U))?;
-    assert_eq!(rt; load.name.as_slice(), b"i64_load16_u".as_slice());
-    assert!(rt; matches!(load.result, CType::U64));
-    let copy = helper(alloc, Helper::Copy)?;
-    assert_eq!(rt; copy.name.as_slice(), b"copy_memory".as_slice());
-    assert!(rt; copy.params.len() == 4);
-    assert!(rt; matches!(copy.result, CType::Void));
+    for (which, name, params, result) in [
+        (
+            Helper::Num(NumOp::I32DivS),
+            b"i32_div_s".as_slice(),
+            2,
+            CType::U32,
+        ),
+        (
+            Helper::Load(LoadOp::I64Load16U),
+            b"i64_load16_u".as_slice(),
+            3,
+            CType::U64,
+        ),
+        (Helper::Copy, b"copy_memory".as_slice(), 4, CType::Void),
+    ] {
+        let func = helper(alloc, which)?;
+        let right = is_declared(&func, name, params, result);
+        drop(func);
+        assert!(rt; right);
+    }
     Ok(())
 }
 

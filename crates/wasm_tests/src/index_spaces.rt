@@ -11,9 +11,11 @@ const MODULE: [u8; 40] = [
 
 #[test]
 fn imports_come_first(rt: HostRuntime) -> Result<(), Fail> {
-    match read_module(rt.alloc(), &MODULE) {
-        Ok(tree) => assert!(rt; tree.imported_funcs() == 1 && tree.imported_globals() == 0),
-        Err(_) => return Err(Fail::new("the bytes are a module")),
-    }
+    let Ok(tree) = read_module(rt.alloc(), &MODULE) else {
+        return Err(Fail::new("the bytes are a module"));
+    };
+    let imported = (tree.imported_funcs(), tree.imported_globals());
+    drop(tree);
+    assert_eq!(rt; imported, (1, 0));
     Ok(())
 }

@@ -20,19 +20,23 @@ fn write_both<F: Files>(alloc: Global, m: &ValidModule, files: &mut F) -> Result
     Ok(())
 }
 
+fn empty_module(alloc: Global) -> Result<ValidModule, Fail> {
+    match accept(alloc, b"\0asm\x01\0\0\0") {
+        Ok(module) => Ok(module),
+        Err(_) => Err(Fail::new("the bytes are a module")),
+    }
+}
+
 #[test]
 fn texts_of_an_empty_module(rt: HostRuntime) -> Result<(), Fail> {
     let alloc = rt.alloc();
-    let module = accept(alloc, b"\0asm\x01\0\0\0")
-        .ok()
-        .ok_or("the bytes are a module")?;
+    let module = empty_module(alloc)?;
     let mut files = SureFiles::new(alloc);
-    write_both(alloc, &module, &mut files)?;
-    assert!(rt; files.get("m.c").is_some_and(|text| text == UNIT.as_bytes()));
-    assert!(rt;
-        files
-            .get("m.h")
-            .is_some_and(|text| text == HEADER.as_bytes())
-    );
+    let written = write_both(alloc, &module, &mut files);
+    drop(module);
+    let right = files.get("m.c") == Some(UNIT.as_bytes())
+        && files.get("m.h") == Some(HEADER.as_bytes());
+    drop(files);
+    assert!(rt; written.is_ok() && right);
     Ok(())
 }

@@ -2,7 +2,7 @@
 use Rattle.wast_run.proofs.Common.{◌≡◌, ℕ, ◌≤◌, List, [], ◌∷◌, ◌++◌, map, length, Some, None, Option, sym, refl, ap, ◌∙◌, subst, inl, inr}
 use Rattle.wast_run.proofs.Common.{Bor, TrapKind, Value, file_told, long_file_told, no_file_told, Contents, HasFile, HasLongFile, HasNoFile}
 use Rattle.wast_run.proofs.Common.{Name, Told, Tells, Module, most_module_bytes, FileVerdict, Accepted, Invalid, Fits, WasmRun, named_of}
-use Rattle.wast_run.proofs.Common.{ModuleFile, Refused, seen_call, Call, Agrees, says_invalid, says_malformed, tree_of, Asserts, Comes}
+use Rattle.wast_run.proofs.Common.{ModuleFile, seen_call, Call, Agrees, says_invalid, says_malformed, tree_of, Asserts, Comes}
 use Rattle.wast_run.proofs.Common.{IsFile, IsTimely, Joins, Keeps, Setting, accepted_tree, holds, is_invalid, is_malformed, listed, set_at}
 use Rattle.wast_run.proofs.Common.{listed_call, listed_calls, HasRun, setting_of, IsUnreadFile, Judged, Stage, Word}
 use Rattle.wasm_spelling.specs.declared.fault.Cause.{Cause}

@@ -1,5 +1,5 @@
 -- What fits a set of modules fits it with one module more.
-use Rattle.wast_run.proofs.Common.{◌≡◌, ℕ, List, [], ◌∷◌, ◌++◌, if◌then◌else◌, slice_get, Some, None, Option, option_map, refl, ap, ◌∙◌}
+use Rattle.wast_run.proofs.Common.{◌≡◌, ℕ, List, [], ◌∷◌, ◌++◌, slice_get, Some, None, Option, option_map, refl, ap, ◌∙◌}
 use Rattle.wast_run.proofs.Common.{none-some, AllByRecursion, Host, External, FuncAddress, HostFunc, Instance, ModuleFunc, NamedModule}
 use Rattle.wast_run.proofs.Common.{as_func, exported, func_type, instance_of, instances, instances_behind, Fits, ListedCall, set_with}
 use Rattle.wasm_tree.specs.IndexSpaces.{at_defined, type_in}

@@ -10,10 +10,12 @@ use Rattle.wast_run.proofs.Common.{LastLines, LastReads, LeadOver, PassesFor, Re
 use Rattle.wast_run.proofs.Common.{HasReportedOver, IsBehindOver, IsFaultBy, IsOfLine, IsStopBy, JudgesFile, JudgesSo, ReadsScript, Asserts}
 use Rattle.wast_run.proofs.Common.{StopsOver, StopsRead, StopsScriptOver, StopsTellingOver, TellsOver, ComesBy, EndsWith, IsTimely, Joins}
 use Rattle.wast_run.proofs.Common.{Keeps, Setting, TrapsIn, accepted_tree, at_first, command_line, holds, is_invalid, is_malformed, is_ok}
-use Rattle.wast_run.proofs.Common.{lines_of, ok_count, total_line, StopsLine, StopsWords, Judged}
+use Rattle.wast_run.proofs.Common.{lines_of, ok_count, total_line, StopsLine, StopsWords, Judged, IsFault}
 use Rattle.w2c_io.specs.declared.answers.ReadAnswer.{ReadAnswer}
 use Rattle.w2c_io.specs.declared.answers.ReadAnswer.TheVariants as reading
 use Rattle.wast_script.specs.Commands as script
+use Rattle.wast_script.specs.declared.fault.ScriptFault.TheVariants as fault
+use Rattle.wast_run.specs.Stopping.{IsUnreadStop, fault_reason}
 use Rattle.wast_run.specs.declared.judging.Judged.TheVariants as judged
 use Rattle.wast_run.specs.declared.word.Word.TheVariants as word
 use Rattle.wast_run.proofs.Comings.{IsSaid}
@@ -36,15 +38,13 @@ module _ (old new : List Event) (name : Name) where
     (None, (Err reading.TooLong, ap (λ w. module_read name (Err w)) long, refl), record { tree = refl; invalid = refl; malformed = refl }),
   )
 
-  pub absent_read : (file : Name) (why : ReadAnswer) → why ≡ reading.Absent → file ≡ name
-      → new ≡ old ++ Read name most_module_bytes (Err why) ∷ [] → Passes old new (StopsRead name (Unread file))
-  absent_read file why absent same is =
-      (module_read name (Err why), is, (same, Err reading.Absent, tt, ap (λ w. module_read name (Err w)) absent))
-
-  pub failed_read : (file : Name) (why : ReadAnswer) → why ≡ reading.Failed → file ≡ name
-      → new ≡ old ++ Read name most_module_bytes (Err why) ∷ [] → Passes old new (StopsRead name (Unread file))
-  failed_read file why failed same is =
-      (module_read name (Err why), is, (same, Err reading.Failed, tt, ap (λ w. module_read name (Err w)) failed))
+  -- the file can't be read
+  pub unread_over : (answer : Answer) (why : Reason) → IsUnreadStop name why → IsNoFile answer
+      → new ≡ old ++ Read name most_module_bytes answer ∷ [] → Passes old new (StopsRead name why)
+  unread_over answer why (inl stop) none is =
+      subst (λ w. Passes old new (StopsRead name w)) (sym stop) (module_read name answer, is, (refl, answer, none, refl))
+  unread_over answer why (inr stop) none is =
+      subst (λ w. Passes old new (StopsRead name w)) (sym stop) (module_read name answer, is, (answer, refl))
 
   -- memory was wanting in the read or behind it
   pub read_without_memory : (answer : Answer) → new ≡ old ++ Read name most_module_bytes answer ∷ []
@@ -367,6 +367,21 @@ module _ (old new : List Event) (name : Name) where
   pub script_stops_over : (answer : Answer) (why : Reason) → new ≡ old ++ Read name most_script_bytes answer ∷ []
       → IsStopBy name answer why → Passes old new (StopsScriptOver name why)
   script_stops_over answer why is stop = (script_read name answer, is, (answer, refl, stop))
+
+  pub unread_script_over : (answer : Answer) (why : Reason) → IsUnreadStop name why → IsNoFile answer
+      → new ≡ old ++ Read name most_script_bytes answer ∷ [] → Passes old new (StopsScriptOver name why)
+  unread_script_over answer why (inl stop) none is =
+      script_stops_over answer why is (subst (IsStopBy name answer) (sym stop) (refl, none))
+  unread_script_over answer why (inr stop) none is = script_stops_over answer why is (subst (IsStopBy name answer) (sym stop) tt)
+
+  pub fault_over : (bytes : List ℕ) (why : ScriptFault) → IsFault bytes why
+      → new ≡ old ++ Read name most_script_bytes (Ok bytes) ∷ [] → Passes old new (StopsScriptOver name (fault_reason why))
+  fault_over bytes fault.Memory says is = script_stops_over (Ok bytes) WantOfMemory is tt
+  fault_over bytes fault.TooLong says is = script_stops_over (Ok bytes) (Refused fault.TooLong) is (says, λ e. absurd cc)
+  fault_over bytes fault.NotJson says is = script_stops_over (Ok bytes) (Refused fault.NotJson) is (says, λ e. absurd cc)
+  fault_over bytes fault.NoCommands says is = script_stops_over (Ok bytes) (Refused fault.NoCommands) is (says, λ e. absurd cc)
+  fault_over bytes (fault.Command number) says is =
+      script_stops_over (Ok bytes) (Refused (fault.Command number)) is (says, λ e. absurd cc)
 
 -- ---- the whole work
 

@@ -1,5 +1,5 @@
 -- The units of linked modules keep the rules and link.
-use Rattle.wast_run.proofs.Common.{◌≡◌, ℕ, List, [], ◌∷◌, ◌++◌, None, refl, ◌∙◌, subst, Item, Program, link_refusal, alone}
+use Rattle.wast_run.proofs.Common.{◌≡◌, ℕ, List, [], None, refl, subst, Program, link_refusal, alone}
 use Rattle.c_tree.specs.Tree as tree
 use Rattle.c_meaning.specs.Linking as linking
 use Rattle.c_sound.proofs.Choices.{not_both}

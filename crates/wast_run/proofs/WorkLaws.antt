@@ -3,7 +3,9 @@ use Rattle.wast_run.proofs.Common.{◌≡◌, ℕ, ◌≤◌, Bool, ◌⊎◌, L
 use Rattle.wast_run.proofs.Common.{none-some, get, rose_from, Faulted, Contents, Name, Told, Tells, Line, line_of, Command, Reason, Refused}
 use Rattle.wast_run.proofs.Common.{Unread, Unwritten, Usage, WantOfMemory, IsScript, HasReading, IsJob, IsJobBehind, IsToRead, Job}
 use Rattle.wast_run.proofs.Common.{Reported, ReportedPart, Reports, Stops, IsNamed, HasGained, IsUnreadFile, StopsCommand, StopsFile}
-use Rattle.wast_run.proofs.Common.{StopsReport, StopsScript, StopsWords, StopsWork, HasReported}
+use Rattle.wast_run.proofs.Common.{StopsReport, StopsScript, StopsWords, StopsWork, HasReported, file_told, HasFile, IsFault, ScriptFault}
+use Rattle.wast_script.specs.declared.fault.ScriptFault.TheVariants as fault
+use Rattle.wast_run.specs.Stopping.{IsUnreadStop, fault_reason}
 
 pub file_stops : (told : Told) (file : Name) (before after : ℕ) (named : Option Name) (why : Reason)
     → StopsFile told file before after named why → StopsCommand told (Some file) before after named why
@@ -11,6 +13,31 @@ file_stops told file before after named (Unread name) stop =
     (ap Some (sym stop.0), subst (λ f. IsUnreadFile told f before after named) (sym stop.0) stop.1)
 file_stops told file before after named WantOfMemory stop = tt
 file_stops told file before after named _ stop = absurd stop
+
+-- a file that is not read
+pub unread_stops : (told : Told) (file : Name) (before after : ℕ) (named : Option Name) (why : Reason) → IsUnreadStop file why
+    → IsUnreadFile told file before after named → StopsFile told file before after named why
+unread_stops told file before after named why (inl is) unread = subst (StopsFile told file before after named) (sym is) (refl, unread)
+unread_stops told file before after named why (inr is) unread = subst (StopsFile told file before after named) (sym is) tt
+
+pub unread_script_stops : (told : Told) (file : Name) (before after : ℕ) (named : Option Name) (why : Reason) → IsUnreadStop file why
+    → IsUnreadFile told file before after named → StopsScript told file before after named why
+unread_script_stops told file before after named why (inl is) unread =
+    subst (StopsScript told file before after named) (sym is) (refl, unread)
+unread_script_stops told file before after named why (inr is) unread = subst (StopsScript told file before after named) (sym is) tt
+
+-- a script that is refused
+pub fault_stops : (told : Told) (file : Name) (before after : ℕ) (named : Option Name) (bytes : List ℕ) (why : ScriptFault)
+    → HasFile told file bytes → IsFault bytes why → StopsScript told file before after named (fault_reason why)
+fault_stops told file before after named bytes fault.Memory has is = tt
+fault_stops told file before after named bytes fault.TooLong has is =
+    (λ e. absurd cc, λ m tells. (bytes, file_told told m file bytes tells has, is))
+fault_stops told file before after named bytes fault.NotJson has is =
+    (λ e. absurd cc, λ m tells. (bytes, file_told told m file bytes tells has, is))
+fault_stops told file before after named bytes fault.NoCommands has is =
+    (λ e. absurd cc, λ m tells. (bytes, file_told told m file bytes tells has, is))
+fault_stops told file before after named bytes (fault.Command number) has is =
+    (λ e. absurd cc, λ m tells. (bytes, file_told told m file bytes tells has, is))
 
 pub words_stop : (words : List Name) (told : Told) (Gives : Name → List ℕ → Type 0) (reads reads' : ℕ) (named : Option Name)
     (old : Option (List ℕ)) (faults : ℕ) (why : Reason)

@@ -5,6 +5,7 @@ use Rattle.w2c_io.specs.Contents.{Name, Contents, Told, extended}
 use Rattle.w2c_io.specs.Causes.{Rose, Faulted}
 use Rattle.w2c_io.specs.Telling.{Tells}
 use Rattle.wast_script.specs.Lines.{Reason, Usage, Unwritten, WantOfMemory, Refused, Unread}
+use Rattle.wast_script.specs.declared.fault.ScriptFault.{ScriptFault}
 use Rattle.wast_script.specs.declared.fault.ScriptFault.TheVariants.{Memory as memory_wanted}
 use Rattle.wast_script.specs.CommandLine.{line_of}
 use Rattle.wast_script.specs.Commands.{Command}
@@ -16,6 +17,15 @@ use Rattle.wast_run.specs.Jobs.{GainedPart, HasReading, IsUnread, Refuses, Repor
 abbrev pub IsUnreadFile : Told → Name → ℕ → ℕ → Option Name → Type 0
 IsUnreadFile told file before after named =
     Faulted file before after named ⊎ ((contents : Contents) × (told ≡ Some contents) × (get contents file ≡ None))
+
+-- the stop at a file that is not read: it has the name, unless memory was wanting for that
+abbrev pub IsUnreadStop : Name → Reason → Type 0
+IsUnreadStop file why = (why ≡ Unread file) ⊎ (why ≡ WantOfMemory)
+
+-- the stop at a script that is refused
+abbrev pub fault_reason : ScriptFault → Reason
+fault_reason memory_wanted = WantOfMemory
+fault_reason why = Refused why
 
 abbrev pub StopsFile : Told → Name → ℕ → ℕ → Option Name → Reason → Type 0
 StopsFile told file before after named (Unread name) = (name ≡ file) × IsUnreadFile told file before after named

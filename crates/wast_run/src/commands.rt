@@ -20,7 +20,6 @@ use w2c_io::Files;
 use wast_script::{Command, Stop};
 
 /// Does what a command says, and gives its word. An assertion runs at most so many statements.
-#[tactic(auto, using(crate::proofs::Comings::invalid_comes, crate::proofs::Comings::malformed_comes, crate::proofs::WorkLaws::file_stops, crate::proofs::Passing::module_over, crate::proofs::Passing::call_over, crate::proofs::Passing::return_over, crate::proofs::Passing::trap_over, crate::proofs::Passing::invalid_comes_over, crate::proofs::Passing::malformed_comes_over, crate::proofs::Passing::none_without_memory))]
 pub(crate) fn run_command<'a, F: Files>(
     alloc: Global,
     stage: &mut Stage<'a>,
@@ -91,7 +90,11 @@ fn assert_invalid<F: Files>(alloc: Global, file: &str, files: &mut F) -> Result<
     ensures tried { IfErr result (λ stop. Passes (F.trace files.old) (F.trace files.new) (StopsRead file.now (reason_of stop))) }
 {
     match judge_file(alloc, file, files) {
-        Ok(judged) => Ok(holds(judged.is_invalid())),
+        Ok(judged) => {
+            let is_invalid = judged.is_invalid();
+            drop(judged);
+            Ok(holds(is_invalid))
+        }
         Err(stop) => Err(stop),
     }
 }
@@ -112,7 +115,11 @@ fn assert_malformed<F: Files>(alloc: Global, file: &str, files: &mut F) -> Resul
     ensures tried { IfErr result (λ stop. Passes (F.trace files.old) (F.trace files.new) (StopsRead file.now (reason_of stop))) }
 {
     match judge_file(alloc, file, files) {
-        Ok(judged) => Ok(holds(judged.is_malformed())),
+        Ok(judged) => {
+            let is_malformed = judged.is_malformed();
+            drop(judged);
+            Ok(holds(is_malformed))
+        }
         Err(stop) => Err(stop),
     }
 }

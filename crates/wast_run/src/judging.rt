@@ -9,6 +9,7 @@ ghost use Rattle.wast_run.specs.Judging.{says_invalid, says_malformed, Agrees};
 ghost use Rattle.wast_run.specs.Reading.{JudgesFile, StopsRead};
 ghost use Rattle.wast_run.specs.Stopping.{StopsFile};
 
+use crate::stops::unread;
 use std::alloc::Global;
 use w2c_base::{MODULE_BYTES, Memory};
 use w2c_io::{Files, ReadAnswer};
@@ -60,7 +61,6 @@ impl Judged {
 }
 
 /// Reads a file and judges it.
-#[tactic(auto, using(crate::proofs::Comings::judged_file, crate::proofs::Comings::long_file, crate::proofs::Passing::judged_read, crate::proofs::Passing::long_read, crate::proofs::Passing::absent_read, crate::proofs::Passing::failed_read, crate::proofs::Passing::read_without_memory))]
 pub(crate) fn judge_file<F: Files>(alloc: Global, name: &str, files: &mut F) -> Result<Judged, Stop>
     ensures told { F.told files.new ≡ F.told files.old }
     ensures current { F.current files.new ≡ F.current files.old }
@@ -78,8 +78,8 @@ pub(crate) fn judge_file<F: Files>(alloc: Global, name: &str, files: &mut F) -> 
             Ok(judged) => Ok(judged),
             Err(Memory) => Err(Stop::Memory),
         },
-        Err(ReadAnswer::Absent) => Err(Stop::Unread(String::from_str(alloc, name)?)),
-        Err(ReadAnswer::Failed) => Err(Stop::Unread(String::from_str(alloc, name)?)),
+        Err(ReadAnswer::Absent) => Err(unread(alloc, name)),
+        Err(ReadAnswer::Failed) => Err(unread(alloc, name)),
         Err(ReadAnswer::TooLong) => Ok(Judged::Beyond),
         Err(ReadAnswer::Memory) => Err(Stop::Memory),
     }

@@ -17,6 +17,7 @@ use crate::session_runs::run_again;
 use c_rules::CheckedUnit;
 use crun::Session;
 use std::alloc::Global;
+use std::mem::replace;
 use unit_meaning::{units_do_what_modules_do, units_of_a_linked_set_link};
 use w2c_base::{Bytes, Memory, Value};
 use wasm_set::ModuleSet;
@@ -69,7 +70,10 @@ impl LinkedModules {
         units_of_a_linked_set_link();
         let unit = match checked_unit(alloc, &module, name.as_slice()) {
             Ok(unit) => unit,
-            Err(Memory) => return Err(Memory),
+            Err(Memory) => {
+                drop(module);
+                return Err(Memory);
+            }
         };
         match self.set.join(alloc, name, module) {
             Ok(true) => {
@@ -77,11 +81,17 @@ impl LinkedModules {
                     Ok(session) => session,
                     Err(Memory) => return Err(Memory),
                 };
-                self.session = Some(session);
+                drop(replace(&mut self.session, Some(session)));
                 Ok(true)
             }
-            Ok(false) => Ok(false),
-            Err(Memory) => Err(Memory),
+            Ok(false) => {
+                drop(unit);
+                Ok(false)
+            }
+            Err(Memory) => {
+                drop(unit);
+                Err(Memory)
+            }
         }
     }
 
@@ -124,7 +134,7 @@ impl LinkedModules {
             Ok(ran) => ran,
             Err(Memory) => return Err(Memory),
         };
-        self.session = Some(session);
+        drop(replace(&mut self.session, Some(session)));
         match came_of(ran) {
             Some(came) => Ok(came),
             None => unreachable!(),

@@ -13,6 +13,7 @@ mod reporting;
 mod runs;
 mod session_runs;
 mod stage;
+mod stops;
 #[cfg(test)]
 mod tests;
 mod top;

@@ -85,9 +85,13 @@ fn tell_commands<F: Files, O: Sink>(
     for (index, command) in commands.iter().enumerate() {
         match tell_command(alloc, &mut stage, index, command, steps, files, out) {
             Ok(word) => ok = counted(ok, word),
-            Err(stop) => return Err(stop),
+            Err(stop) => {
+                drop(stage);
+                return Err(stop);
+            }
         }
     }
+    drop(stage);
     Ok(ok)
 }
 

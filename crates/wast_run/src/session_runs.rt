@@ -45,7 +45,10 @@ pub(crate) fn run_again<H: HostModule>(
     };
     match run_all(alloc, &mut session, kept, last) {
         Ok(ran) => Ok((ran, session)),
-        Err(Memory) => Err(Memory),
+        Err(Memory) => {
+            drop(session);
+            Err(Memory)
+        }
     }
 }
 

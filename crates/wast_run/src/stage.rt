@@ -81,7 +81,13 @@ impl<'a> Stage<'a> {
         ensures sound { OnOk result (IsSound self.new) }
     {
         let mut owned = Bytes::new(alloc);
-        owned.extend(name)?;
+        match owned.extend(name) {
+            Ok(()) => {}
+            Err(Memory) => {
+                drop(module);
+                return Err(Memory);
+            }
+        }
         match self.joined.join(alloc, owned, module) {
             Ok(true) => Ok(Word::Ok),
             Ok(false) => Ok(Word::Unlinked),

@@ -15,6 +15,7 @@ ghost use Rattle.wast_run.specs.Stages.{HasModuleName};
 ghost use Rattle.wast_run.specs.Stopping.{StopsScript, StopsWords, StopsWork};
 
 use crate::reporting::report_commands;
+use crate::stops::{refused, unread};
 use program_words::NoLine;
 use std::alloc::Global;
 use w2c_io::{Files, ReadAnswer, Sink};
@@ -86,7 +87,6 @@ fn status_for(all_ok: bool) -> u8
 }
 
 // The script in a file.
-#[tactic(auto, using(crate::proofs::ScriptLaws::names_of_script, crate::proofs::Passing::script_read_over, crate::proofs::Passing::script_stops_over))]
 fn script_in<F: Files>(alloc: Global, name: &str, files: &mut F) -> Result<Script, Stop>
     ensures told { F.told files.new ≡ F.told files.old }
     ensures current { F.current files.new ≡ F.current files.old }
@@ -103,17 +103,13 @@ fn script_in<F: Files>(alloc: Global, name: &str, files: &mut F) -> Result<Scrip
 {
     let text = match files.read(alloc, name, SCRIPT_BYTES) {
         Ok(text) => text,
-        Err(ReadAnswer::Absent) => return Err(Stop::Unread(String::from_str(alloc, name)?)),
-        Err(ReadAnswer::Failed) => return Err(Stop::Unread(String::from_str(alloc, name)?)),
+        Err(ReadAnswer::Absent) => return Err(unread(alloc, name)),
+        Err(ReadAnswer::Failed) => return Err(unread(alloc, name)),
         Err(ReadAnswer::TooLong) => return Err(Stop::Refused(ScriptFault::TooLong)),
         Err(ReadAnswer::Memory) => return Err(Stop::Memory),
     };
     match read_script(alloc, text.as_slice()) {
         Ok(script) => Ok(script),
-        Err(ScriptFault::TooLong) => Err(Stop::Refused(ScriptFault::TooLong)),
-        Err(ScriptFault::NotJson) => Err(Stop::Refused(ScriptFault::NotJson)),
-        Err(ScriptFault::NoCommands) => Err(Stop::Refused(ScriptFault::NoCommands)),
-        Err(ScriptFault::Command(number)) => Err(Stop::Refused(ScriptFault::Command(number))),
-        Err(ScriptFault::Memory) => Err(Stop::Memory),
+        Err(fault) => Err(refused(fault)),
     }
 }

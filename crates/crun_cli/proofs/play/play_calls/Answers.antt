@@ -1,4 +1,4 @@
-use Rattle.crun_cli.proofs.Common.{◌≡◌, ℕ, ◌+◌, ◌<◌, ◌≤◌, ◌∷◌, ◌++◌, length, take, drop, ◌∙◌, subst, arith, take_all, length-map, call_seen}
+use Rattle.crun_cli.proofs.Common.{◌+◌, ◌<◌, ◌≤◌, length, take, drop, ◌∙◌, subst, arith, take_all, length-map, call_seen}
 use Rattle.crun_cli.proofs.Common.{calls_seen}
 use Rattle.crun_cli.specs.Playing.{HasPlayed, IsBehind, IsLeft}
 use Rattle.crun_cli.proofs.Behind.{all_played}

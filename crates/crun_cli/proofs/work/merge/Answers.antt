@@ -1,4 +1,4 @@
-use Rattle.crun_cli.proofs.Common.{◌≡◌, Err, refl, ap, ◌∙◌, none_passed, c_symbols, seen_merge, units_wanting, done_by, stopped_by}
+use Rattle.crun_cli.proofs.Common.{Err, refl, ap, ◌∙◌, none_passed, c_symbols, seen_merge, units_wanting, done_by, stopped_by}
 use Rattle.crun_job.specs.declared.stop.Stop.TheVariants as stop
 use Rattle.crun_cli.proofs.work.merge.Goals as goal
 

@@ -1,4 +1,4 @@
-use Rattle.wast_run.proofs.Common.{◌≡◌, true, [], ◌∷◌, ◌++◌, length, sym, ◌∙◌, subst, arith, fits, AllFit, StopsAt, symbol_of, symbols_in}
+use Rattle.wast_run.proofs.Common.{◌≡◌, true, [], ◌∷◌, length, sym, ◌∙◌, subst, arith, fits, AllFit, StopsAt, symbol_of, symbols_in}
 use Rattle.wast_run.proofs.Common.{symbols_of}
 use Rattle.crun.specs.Sessions.{program_of}
 use Rattle.wast_run.proofs.Kept.{all_before, all_last}

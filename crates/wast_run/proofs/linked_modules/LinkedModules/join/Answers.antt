@@ -1,5 +1,5 @@
-use Rattle.wast_run.proofs.Common.{◌≡◌, ℕ, List, [], ◌∷◌, ◌++◌, sym, ap, ◌∙◌, subst, unit_of, set_of, SetModule, items, IsAcceptedSet}
-use Rattle.wast_run.proofs.Common.{program_of, units_in}
+use Rattle.wast_run.proofs.Common.{ℕ, List, sym, ap, ◌∙◌, subst, unit_of, set_of, SetModule, items, IsAcceptedSet}
+use Rattle.wast_run.proofs.Common.{program_of, units_in, HasNoHosts}
 use Rattle.wast_run.proofs.JoinedUnits.{links_more, set_more, units_more}
 use Rattle.wast_run.proofs.linked_modules.LinkedModules.join.Goals as goal
 
@@ -24,10 +24,10 @@ returns-in-Ok-session_with-clause-units c =
     let is = c.in-Ok.ensures.unit ∙ ap (λ (n : List ℕ). items (record { name = n; tree = c.args.«module» })) c.as_slice.ensures in
     let new = c.in-Ok-true.ensures.joined c.in-Ok-true.field-0-test in
     record {
-      units = c.in-Ok-session_with.ensures.units
+      units = ap units_in c.replace.ensures.after ∙ c.in-Ok-session_with.ensures.units
           ∙ units_more set m (units_in c.take.result) (unit_of c.in-Ok.unit) (ap units_in c.take.ensures.value ∙ c.requires.units.units) is
           ∙ ap (λ ms. (program_of (set_of ms)).units) (sym new);
-      no_hosts = c.in-Ok-session_with.ensures.no_hosts;
+      no_hosts = subst HasNoHosts (sym c.replace.ensures.after) c.in-Ok-session_with.ensures.no_hosts;
       accepted = rw new (set_more set m c.requires.units.accepted accepted (c.in-Ok-true.ensures.linked c.in-Ok-true.field-0-test));
     }
 
