@@ -1,36 +1,29 @@
 -- The function that stands for a body breaks no rule in a unit that declares what the module's bodies need.
-use Rattle.w2c_base.specs.declared.value.ValType.TheVariants.{I32, I64}
-use Rattle.w2c_base.proofs.Places.{take_with}
+use Rattle.body_rules.proofs.Common.{I32, I64, take_with, body_labels_differ, stands_top, all_map, ◌≡◌, ℕ, suc, ◌+◌, ◌^◌, ◌<◌, ◌≤◌, Bool}
+use Rattle.body_rules.proofs.Common.{true, false, List, [], ◌∷◌, ◌++◌, map, length, drop, is_some, if◌then◌else◌, nat_le, slice_get}
+use Rattle.body_rules.proofs.Common.{Some, codes, sym, refl, ap, ◌∙◌, subst, append_assoc, arith, or_left, or_right, list_any-append, named}
+use Rattle.body_rules.proofs.Common.{AllByRecursion, list_all, list_any, FuncType, ValType, global_space, Code, BodyEntry, Context, values}
+use Rattle.body_rules.proofs.Common.{context_of, BodyHasType, broken_in_body, broken_in_item, broken_of, Place, are_distinct, defines, Name}
+use Rattle.body_rules.proofs.Common.{body_is_not_empty, hides_none, is_declared_once, is_own_name, is_value_type, item_rules, local_names}
+use Rattle.body_rules.proofs.Common.{number_suits, proper_params, primitives, Scope, local_variables, name_of, param_variables, variables}
+use Rattle.body_rules.proofs.Common.{CType, N32, NamedModule, bytes_equal, c_type_of, depth_name, global_name, memory_name, table_name}
+use Rattle.body_rules.proofs.Common.{helper_type, helper_of, c_func_type, global_imports, memory_imports, pointer_type, table_imports, slot}
+use Rattle.body_rules.proofs.Common.{func_of, has_slot, most_operands, params_from, params_of, stmts_of, zero_local, entry_label, any_in}
+use Rattle.body_rules.proofs.Common.{labels_in, element_name, label_name, local_name, pointer_name, calls_helper, global_value, set_global}
+use Rattle.body_rules.proofs.Common.{Setting, stands, class, NoneOf, Variables, vars_in, funcs_in, named_in, past_none}
 use Rattle.c_tree.specs.declared.tree.CType.TheVariants as type
 use Rattle.c_tree.specs.declared.tree.COp.TheVariants as op
 use Rattle.c_tree.specs.Tree as tree
 use Rattle.c_tree.specs.Scope as scope
-use Rattle.body_definition.proofs.RulesOfLabels.{body_labels_differ}
-use Rattle.body_definition.proofs.Heights.{stands_top}
-use Rattle.body_rules.proofs.Common.{◌≡◌, ℕ, suc, ◌+◌, ◌^◌, ◌<◌, ◌≤◌, Bool, true, false, ◌&&◌, List, [], ◌∷◌, ◌++◌, map, length, drop}
-use Rattle.body_rules.proofs.Common.{is_some, if◌then◌else◌, nat_le, slice_get, Some, codes, sym, refl, ap, ◌∙◌, subst, append_assoc, arith}
-use Rattle.body_rules.proofs.Common.{or_left, or_right, list_all-append, list_any-append, AllByRecursion, list_all, list_any, all_join}
-use Rattle.body_rules.proofs.Common.{named, FuncType, ValType, declared_locals, global_space, Code, BodyEntry, Context, context_of}
-use Rattle.body_rules.proofs.Common.{BodyHasType, values, broken_in_body, broken_in_item, broken_of, Place, are_distinct, body_is_not_empty}
-use Rattle.body_rules.proofs.Common.{defines, hides_none, is_declared_once, is_own_name, is_value_type, item_rules, local_names}
-use Rattle.body_rules.proofs.Common.{number_suits, proper_params, primitives, Name, Scope, local_variables, name_of, param_variables}
-use Rattle.body_rules.proofs.Common.{variables, CType, N32, Plain, NamedModule, bytes_equal, c_type_of, depth_name, global_name}
-use Rattle.body_rules.proofs.Common.{memory_name, table_name, helper_type, helper_of, c_func_type, global_imports, memory_imports}
-use Rattle.body_rules.proofs.Common.{pointer_type, table_imports, func_of, has_element, has_slot, locals_from, most_operands, params_from}
-use Rattle.body_rules.proofs.Common.{params_of, slots_of, stmts_of, zero_local, entry_label, any_in, labels_in, element_name, label_name}
-use Rattle.body_rules.proofs.Common.{local_name, pointer_name, slot, calls_helper, global_value, set_global, Setting, stands}
 use Rattle.body_rules.proofs.Rules.{Passes, IsTyped, name_typed, star_typed, IsArg, value_arg, address_arg, set_passes, set_star_passes}
 use Rattle.body_rules.proofs.RulesOfKinds.{Knows, no_object}
 use Rattle.body_rules.proofs.RulesOfCode.{AfterIsOuts, result_type}
 use Rattle.body_rules.proofs.RulesOfFunctions.{none_broken, body_keeps}
 use Rattle.body_rules.proofs.RulesOfBodies.{body_passes, exit_is_there, body_ends_well}
-use Rattle.c_tree.specs.NameClasses.{class, NoneOf}
 use Rattle.body_rules.proofs.Classes.{not_there}
-use Rattle.c_tree.specs.DeclaredNames.{Variables, vars_in, funcs_in}
 use Rattle.body_rules.specs.Declared.{FileKnows}
-use Rattle.body_rules.proofs.OwnNames.{vars_from, slots_at, heights_of, named_past, Avoid, own_variables, own_are, body_locals}
+use Rattle.body_rules.proofs.OwnNames.{named_past, Avoid, own_variables, own_are, body_locals, each_local}
 use Rattle.body_rules.proofs.OwnNames.{letter_avoids, local_named, slot_named, element_named, names, own_class, own_free, own_distinct}
-use Rattle.c_tree.proofs.DeclaredNames.{named_in, past_none}
 
 -- ---- the types of variables, and their first values
 
@@ -38,65 +31,25 @@ pub all_true : {A : Type 0} (test : A → Bool) (xs : List A) → AllByRecursion
 all_true test [] all = refl
 all_true test (x ∷ xs) all = rw (all.0, all_true test xs all.1) refl
 
-right_all : {A : Type 0} (test : A → Bool) (xs ys : List A) → list_all test (xs ++ ys) ≡ true → list_all test ys ≡ true
-right_all test xs ys e = right (list_all test xs) (list_all test ys) (sym (list_all-append test xs ys) ∙ e)
-  where
-    right : (a b : Bool) → a && b ≡ true → b ≡ true
-    right true b e = e
-    right false b e = absurd cc
-
 value_type : (t : ValType) → is_value_type (c_type_of t) ≡ true
 value_type I32 = refl
 value_type I64 = refl
-
-vars_values : (c : Context) (code : Code) → list_all (λ (v : Name × CType). is_value_type v.1) (own_variables c code) ≡ true
-vars_values c code =
-    all_join value (vars_from 0 c.locals) _ (params 0 c.locals)
-    (all_join value (slots_at I32 (heights_of I32 c code)) _ (slots I32 (heights_of I32 c code))
-    (all_join value (slots_at I64 (heights_of I64 c code)) _ (slots I64 (heights_of I64 c code)) (element (has_element code))))
-  where
-    value : Name × CType → Bool
-    value v = is_value_type v.1
-
-    params : (k : ℕ) (types : List ValType) → list_all (λ (v : Name × CType). is_value_type v.1) (vars_from k types) ≡ true
-    params k [] = refl
-    params k (t ∷ types) = rw (value_type t) (params (suc k) types)
-
-    slots : (t : ValType) (heights : List ℕ) → list_all (λ (v : Name × CType). is_value_type v.1) (slots_at t heights) ≡ true
-    slots t [] = refl
-    slots t (h ∷ heights) = rw (value_type t) (slots t heights)
-
-    element : (b : Bool) → list_all (λ (v : Name × CType). is_value_type v.1) (if b then (element_name, type.FnPtr) ∷ [] else []) ≡ true
-    element true = refl
-    element false = refl
 
 zero_suits : (t : ValType) (name : Name) → number_suits (zero_local t name).0 (zero_local t name).2 ≡ true
 zero_suits I32 name = refl
 zero_suits I64 name = refl
 
-locals_suit_all : (ty : FuncType) (body : BodyEntry) (c : Context)
+locals_values : (ty : FuncType) (body : BodyEntry) (c : Context)
+    → list_all (λ (v : Name × CType). is_value_type v.1) (map (λ (l : tree.Local). (l.1, l.0)) (body_locals ty body c)) ≡ true
+locals_values ty body c = all_true (λ (v : Name × CType). is_value_type v.1) (map (λ (l : tree.Local). (l.1, l.0)) (body_locals ty body c))
+    (all_map (λ (v : Name × CType). is_value_type v.1 ≡ true) (λ (l : tree.Local). (l.1, l.0)) (body_locals ty body c)
+    (each_local (λ (l : tree.Local). is_value_type l.0 ≡ true) ty body c (λ t k less. value_type t) (λ t h less. value_type t) refl))
+
+locals_suit : (ty : FuncType) (body : BodyEntry) (c : Context)
     → list_all (λ (l : tree.Local). number_suits l.0 l.2) (body_locals ty body c) ≡ true
-locals_suit_all ty body c =
-    all_join suits (locals_from (length ty.params) (declared_locals body.runs)) _ (locals (length ty.params) (declared_locals body.runs))
-    (all_join suits (slots_of I32 c body.code) _ (slots I32 (heights_of I32 c body.code))
-    (all_join suits (slots_of I64 c body.code) _ (slots I64 (heights_of I64 c body.code)) (element (has_element body.code))))
-  where
-    suits : tree.Local → Bool
-    suits l = number_suits l.0 l.2
-
-    locals : (k : ℕ) (types : List ValType) → list_all (λ (l : tree.Local). number_suits l.0 l.2) (locals_from k types) ≡ true
-    locals k [] = refl
-    locals k (t ∷ types) = rw (zero_suits t (local_name k)) (locals (suc k) types)
-
-    slots : (t : ValType) (heights : List ℕ) → list_all (λ (l : tree.Local). number_suits l.0 l.2)
-        (map (λ height. zero_local t (slot t height)) heights) ≡ true
-    slots t [] = refl
-    slots t (h ∷ heights) = rw (zero_suits t (slot t h)) (slots t heights)
-
-    element : (b : Bool) → list_all (λ (l : tree.Local). number_suits l.0 l.2)
-        (if b then (type.FnPtr, element_name, Plain 0) ∷ [] else []) ≡ true
-    element true = refl
-    element false = refl
+locals_suit ty body c = all_true (λ (l : tree.Local). number_suits l.0 l.2) (body_locals ty body c)
+    (each_local (λ (l : tree.Local). number_suits l.0 l.2 ≡ true) ty body c (λ t k less. zero_suits t (local_name k))
+    (λ t h less. zero_suits t (slot t h)) refl)
 
 each_value : (k : ℕ) (types : List ValType) → list_all (λ (q : tree.Param). is_value_type q.0) (params_from k types) ≡ true
 each_value k [] = refl
@@ -119,6 +72,22 @@ params_named (I64 ∷ types) = each_named 1 types
 pub pointer_points : (t : ValType) → scope.pointed_by (pointer_type t) ≡ Some (c_type_of t)
 pointer_points I32 = refl
 pointer_points I64 = refl
+
+-- ---- an item among others
+
+-- no own name is a name of an item, since the classes differ
+pub hidden_by_class : (unit : List tree.Item) (own : List Name) → AllByRecursion (λ n. class n ≡ 9) own → NoneOf 9 (map name_of unit)
+    → hides_none unit own ≡ true
+hidden_by_class unit [] all none_of = refl
+hidden_by_class unit (n ∷ own) all none_of =
+    rw (not_there n (map name_of unit) (subst (λ k. NoneOf k (map name_of unit)) (sym all.0) none_of))
+    (hidden_by_class unit own all.1 none_of)
+
+pub defines_itself : (f : tree.Func) (front back : List tree.Item) → is_some f.body ≡ true
+    → list_any (defines f.name) (front ++ tree.Function f ∷ back) ≡ true
+defines_itself f front back e = list_any-append (defines f.name) front (tree.Function f ∷ back)
+    ∙ or_right (list_any (defines f.name) front) _
+    (or_left (defines f.name (tree.Function f)) (list_any (defines f.name) back) (rw (bytes_equal f.name) e))
 
 -- ---- the scope of a body
 
@@ -169,8 +138,7 @@ module _ (m : NamedModule) (index : ℕ) (ty : FuncType) (body : BodyEntry) (dec
             (no_object g.0)
 
     global_set_passes : (k : ℕ) (g : ValType × Bool) (e : tree.Expr) → slice_get (global_space m.tree) k ≡ Some g
-        → IsTyped s e (scope.HasType (c_type_of g.0))
-        → Passes s (set_global m.tree k e)
+        → IsTyped s e (scope.HasType (c_type_of g.0)) → Passes s (set_global m.tree k e)
     global_set_passes k g e found typed = by (is_some (slice_get (global_imports m.tree) k)) refl
       where
         by : (i : Bool) → is_some (slice_get (global_imports m.tree) k) ≡ i
@@ -183,8 +151,7 @@ module _ (m : NamedModule) (index : ℕ) (ty : FuncType) (body : BodyEntry) (dec
             (no_object g.0) (value_arg s e _ typed)
 
     object_arg : (object : Name) (u t : CType) (imported : Bool) → scope.pointer_to u ≡ Some t → scope.is_object_type t ≡ false
-        → Avoid object own → Avoid (pointer_name object) own
-        → (imported ≡ false → named object (vars_in declared) ≡ Some u)
+        → Avoid object own → Avoid (pointer_name object) own → (imported ≡ false → named object (vars_in declared) ≡ Some u)
         → (imported ≡ true → named (pointer_name object) (vars_in declared) ≡ Some t)
         → IsArg s t (if imported then tree.Value (tree.Name (pointer_name object)) else tree.Address object)
     object_arg object u t true p value a d own_is imported_is =
@@ -224,13 +191,6 @@ module _ (m : NamedModule) (index : ℕ) (ty : FuncType) (body : BodyEntry) (dec
   names_of : local_names (tree.Function f) ≡ names own
   names_of = ap names own_of
 
-  own_values : list_all (λ (v : Name × CType). is_value_type v.1) own ≡ true
-  own_values = vars_values c.context body.code
-
-  locals_values : list_all (λ (v : Name × CType). is_value_type v.1) (local_variables b) ≡ true
-  locals_values = right_all (λ (v : Name × CType). is_value_type v.1) (param_variables f) (local_variables b)
-      (ap (list_all (λ (v : Name × CType). is_value_type v.1)) own_of ∙ own_values)
-
   module _ (front back : List tree.Item) (same : declared ≡ front ++ tree.Function f ∷ []) where
     abbrev unit : List tree.Item
     unit = front ++ tree.Function f ∷ back
@@ -238,18 +198,14 @@ module _ (m : NamedModule) (index : ℕ) (ty : FuncType) (body : BodyEntry) (dec
     abbrev place : Place
     place = record { unit = unit; number = length front; item = tree.Function f }
 
-    defined : list_any (defines f.name) unit ≡ true
-    defined = list_any-append (defines f.name) front (tree.Function f ∷ back)
-        ∙ or_right (list_any (defines f.name) front) _
-        (or_left (defines f.name (tree.Function f)) (list_any (defines f.name) back) (rw (bytes_equal f.name) refl))
-
     pub body_item_keeps : length c.context.locals ≤ 2 ^ 64 → most_operands c.context body.code ≤ 2 ^ 64
         → is_declared_once place ≡ true → NoneOf 9 (map name_of unit) → broken_of item_rules place ≡ []
     body_item_keeps few low once none_of =
         none_broken item_rules place
         (rw once (rw free (rw (result_type ty.result)
-        (rw (params_values ty.params) (rw locals_values
-        (rw (locals_suit_all ty body c.context) (rw defined (rw (params_named ty.params) (rw distinct (rw hidden (rw filled refl)))))))))))
+        (rw (params_values ty.params) (rw (locals_values ty body c.context)
+        (rw (locals_suit ty body c.context) (rw (defines_itself f front back refl) (rw (params_named ty.params)
+        (rw distinct (rw hidden (rw filled refl)))))))))))
       where
         some : (x : tree.Stmt) (stmts : List tree.Stmt) → nat_le 1 (length (x ∷ stmts)) ≡ true
         some x stmts = grind arith
@@ -265,17 +221,11 @@ module _ (m : NamedModule) (index : ℕ) (ty : FuncType) (body : BodyEntry) (dec
         distinct = ap are_distinct names_of ∙ own_distinct c.context body.code few low
 
         hidden : hides_none unit (local_names (tree.Function f)) ≡ true
-        hidden = ap (hides_none unit) names_of ∙ hide (names own) (own_class c.context body.code few low)
-          where
-            hide : (ns : List Name) → AllByRecursion (λ n. class n ≡ 9) ns → hides_none unit ns ≡ true
-            hide [] all = refl
-            hide (n ∷ ns) all = rw (not_there n (map name_of unit) (subst (λ k. NoneOf k (map name_of unit)) (sym all.0) none_of))
-                (hide ns all.1)
+        hidden = ap (hides_none unit) names_of ∙ hidden_by_class unit (names own) (own_class c.context body.code few low) none_of
 
     module _ (knows : FileKnows m declared) (after_is : AfterIsOuts) where
       pub body_keeps_rules : length c.context.locals ≤ 2 ^ 64 → most_operands c.context body.code ≤ 2 ^ 64
-          → labels_in body.code + 2 < 2 ^ 32
-          → BodyHasType c.context body.code
+          → labels_in body.code + 2 < 2 ^ 32 → BodyHasType c.context body.code
           → ((test : Code → Bool) → test body.code ≡ true → list_any (λ (b : BodyEntry). test b.code) m.tree.bodies ≡ true)
           → is_declared_once place ≡ true → NoneOf 9 (map name_of unit) → broken_in_item unit (length front, tree.Function f) ≡ []
       body_keeps_rules few low labels typed is_body once none_of =

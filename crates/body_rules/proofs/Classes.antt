@@ -1,10 +1,7 @@
 -- The names of a unit's items, and of its functions' own variables, by classes: names of different classes differ.
-use Rattle.body_rules.proofs.Common.{◌≡◌, ℕ, zero, suc, ◌+◌, ◌<◌, ◌≤◌, Bool, true, false, not, ◌&&◌, ◌||◌, ◌≢◌, List, [], ◌∷◌, ◌++◌, filter}
-use Rattle.body_rules.proofs.Common.{bytes_eq, sym, refl, arith, AllByRecursion, range_with_len, are_distinct, Name, is_among, all_filtered}
-use Rattle.w2c_base.proofs.Lists.{all_weaker}
-use Rattle.c_tree.proofs.NumberedLabels.{Differ}
-use Rattle.c_tree.specs.NameClasses.{class, NoneOf}
-use Rattle.c_tree.proofs.NameClasses.{classes_differ}
+use Rattle.body_rules.proofs.Common.{◌≡◌, ℕ, zero, suc, ◌+◌, ◌<◌, ◌≤◌, Bool, true, false, not, ◌≢◌, List, [], ◌∷◌, ◌++◌, filter, ◌∙◌, sym}
+use Rattle.body_rules.proofs.Common.{bytes_eq, refl, arith, AllByRecursion, range_with_len, are_distinct, Name, is_among, all_filtered}
+use Rattle.body_rules.proofs.Common.{list_any-append, both_hold, by_test, not-true, all_weaker, Differ, class, NoneOf, classes_differ}
 
 -- ---- lists of names of classes
 
@@ -17,24 +14,15 @@ not_there name (other ∷ names) none = rw (classes_differ name other (λ e. non
 
 -- ---- distinct names
 
+pub none_joined : (q : Name) (xs ys : List Name) → is_among q xs ≡ false → is_among q ys ≡ false → is_among q (xs ++ ys) ≡ false
+none_joined q xs ys e f = list_any-append (bytes_eq q) xs ys ∙ rw (e, f) refl
+
 pub distinct_joined : (xs ys : List Name) → AllByRecursion (λ x. is_among x ys ≡ false) xs → are_distinct xs ≡ true → are_distinct ys ≡ true
     → are_distinct (xs ++ ys) ≡ true
 distinct_joined [] ys apart p q = q
-distinct_joined (x ∷ xs) ys apart p q = by (is_among x xs) refl p (λ rest. distinct_joined xs ys apart.1 rest q)
-  where
-    joined : (xs : List Name) → is_among x xs ≡ false → is_among x (xs ++ ys) ≡ false
-    joined [] e = apart.0
-    joined (y ∷ xs) e = here (bytes_eq x y) e (joined xs)
-      where
-        here : (b : Bool) → b || is_among x xs ≡ false → (is_among x xs ≡ false → is_among x (xs ++ ys) ≡ false)
-            → b || is_among x (xs ++ ys) ≡ false
-        here true e f = absurd cc
-        here false e f = f e
-
-    by : (b : Bool) → is_among x xs ≡ b → not b && are_distinct xs ≡ true → (are_distinct xs ≡ true → are_distinct (xs ++ ys) ≡ true)
-        → not (is_among x (xs ++ ys)) && are_distinct (xs ++ ys) ≡ true
-    by true e f rest = absurd cc
-    by false e f rest = rw (joined xs e) (rest f)
+distinct_joined (x ∷ xs) ys apart p q =
+    let h = both_hold (not (is_among x xs)) (are_distinct xs) p in
+    rw (none_joined x xs ys (not-true (is_among x xs) h.0) apart.0) (distinct_joined xs ys apart.1 h.1 q)
 
 -- ---- numbers in order
 
@@ -56,8 +44,6 @@ range_differ a (suc n) = (
 
 pub differ_kept : (test : ℕ → Bool) (xs : List ℕ) → Differ xs → Differ (filter test xs)
 differ_kept test [] differ = tt
-differ_kept test (x ∷ xs) differ = by (test x) refl (differ_kept test xs differ.1)
-  where
-    by : (b : Bool) → test x ≡ b → Differ (filter test xs) → Differ (filter test (x ∷ xs))
-    by true e rest = rw (e, Differ) (all_filtered (λ m. x ≢ m) test xs differ.0, rest)
-    by false e rest = rw (e, Differ) rest
+differ_kept test (x ∷ xs) differ =
+    let rest = differ_kept test xs differ.1 in
+    by_test (test x) (λ e. rw (e, Differ) (all_filtered (λ m. x ≢ m) test xs differ.0, rest)) (λ e. rw (e, Differ) rest)

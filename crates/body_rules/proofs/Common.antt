@@ -1,20 +1,20 @@
 -- What proofs of this crate cite of std, of the crates below and of specs/, passed on from one place. Declares nothing.
-pub use Rattle.std.proofs.Common.{◌≡◌, ℕ, zero, suc, ◌+◌, ◌-◌, ◌*◌, ◌^◌, ◌<◌, ◌≤◌, max, Bool, true, false, not, ◌&&◌, ◌||◌, ◌≢◌, ◌⊎◌, List}
-pub use Rattle.std.proofs.Common.{[], ◌∷◌, ◌++◌, map, reverse, length, take, drop, is_some, if◌then◌else◌, nat_le, ◌==◌, slice_get, Some}
-pub use Rattle.std.proofs.Common.{None, codes, filter, Option, zip, flat_map, filter_map, bytes_eq, sym, refl, ap, ◌∙◌, subst, inl, inr}
-pub use Rattle.std.proofs.Common.{append_assoc, pow-suc, arith, length-append, pow_pos, pow_mono, zero-add, add-zero, one-add}
+pub use Rattle.std.proofs.Common.{◌≡◌, ℕ, zero, suc, ◌+◌, ◌-◌, ◌*◌, ◌^◌, ◌<◌, ◌≤◌, max, Bool, true, false, not, ◌&&◌, ◌||◌, ◌≢◌, List, []}
+pub use Rattle.std.proofs.Common.{◌∷◌, ◌++◌, map, reverse, length, take, drop, is_some, if◌then◌else◌, nat_le, ◌==◌, slice_get, Some, None}
+pub use Rattle.std.proofs.Common.{codes, filter, Option, zip, flat_map, filter_map, bytes_eq, sym, refl, ap, ◌∙◌, subst, append_assoc}
+pub use Rattle.std.proofs.Common.{pow-suc, arith, length-append, pow_pos, pow_mono, zero-add, add-zero, one-add}
 pub use Rattle.std.proofs.Math.Bool.{or-true}
-pub use Rattle.std.proofs.lemmas.Bool.{or_left, or_parts, or_right}
+pub use Rattle.std.proofs.lemmas.Bool.{not-true, or_left, or_parts, or_right}
 pub use Rattle.std.proofs.lemmas.List.{length-reverse, map-append, reverse-append}
-pub use Rattle.std.proofs.lemmas.List.Folds.{list_all-append, list_any-append}
-pub use Rattle.std.proofs.lemmas.Option.{same_Some}
+pub use Rattle.std.proofs.lemmas.List.Folds.{list_any-append}
+pub use Rattle.std.proofs.lemmas.Option.{same_Some, slice_get_within}
 pub use Rattle.std.proofs.lemmas.Slice.Eq.{bytes_eq-Decides}
 pub use Rattle.std.specs.List.{AllByRecursion, list_all, list_any, range_with_len}
-pub use Rattle.std.specs.Prelude.{⊤}
-pub use Rattle.w2c_base.proofs.Conjunctions.{both_hold, right_fails}
-pub use Rattle.w2c_base.proofs.Numbers.{same_or_more, one_moves}
-pub use Rattle.w2c_base.proofs.OfEach.{all_append, all_map, all_filtered}
-pub use Rattle.w2c_base.proofs.Tests.{all_join, all_parts, unlike_back}
+pub use Rattle.std.specs.Prelude.{⊤, ℤ}
+pub use Rattle.w2c_base.proofs.Conjunctions.{both_hold}
+pub use Rattle.w2c_base.proofs.Numbers.{one_moves}
+pub use Rattle.w2c_base.proofs.OfEach.{all_append, all_filtered, all_from, all_map, of_contained}
+pub use Rattle.w2c_base.proofs.Tests.{all_join, all_parts, by_test, unlike_back, test_at}
 pub use Rattle.w2c_base.proofs.Types.{bits_below}
 pub use Rattle.w2c_base.specs.Lookup.{at_index, named}
 pub use Rattle.w2c_base.specs.Signature.{params_digits, result_digit, sig_number_of, type_digit}
@@ -44,13 +44,16 @@ pub use Rattle.c_tree.specs.FirstBroken.{BrokenAt, broken_in_body, broken_in_ite
 pub use Rattle.c_tree.specs.Makers.{num as number}
 pub use Rattle.c_tree.specs.Rules.{Place, StmtPlace, are_distinct, are_distinct_numbers, arg_uses, body_is_not_empty, case_value, defines}
 pub use Rattle.c_tree.specs.Rules.{ends_body, expr_uses, hides_none, is_declared_once, is_own_name, is_result_type, is_value_type, is_void}
-pub use Rattle.c_tree.specs.Rules.{item_rules, labels_named, local_names, number_suits, proper_params, proper_types}
+pub use Rattle.c_tree.specs.Rules.{item_rules, labels_named, local_names, number_suits, proper_params, proper_types, stmt_rules, labels_of}
+pub use Rattle.c_tree.specs.Rules.{label_of, if_any, earlier_stmts, labels_are_there, last_ends_body, is_known, stmt_uses, arg_has_type}
+pub use Rattle.c_tree.specs.Rules.{arg_suits, args_suit, stmt_is_typed, stmt_suits, label_is_free, written_type_is_proper, Use, AsVariable}
+pub use Rattle.c_tree.specs.Rules.{cases_are_distinct, AsArray, AsFunction, callee_uses, target_uses}
 pub use Rattle.c_tree.specs.Runtime.{depth_name, primitives}
 pub use Rattle.c_tree.specs.Scope.{Name, Scope, array_of, arrays, functions, is_among, is_comparison, is_number_type, is_object_type}
 pub use Rattle.c_tree.specs.Scope.{local_variables, name_of, param_variables, variables}
 pub use Rattle.c_tree.specs.Spelled.{FitsArg, FitsCallee, FitsExpr, FitsItem, FitsNum, FitsStmt, depth_limit}
 pub use Rattle.c_tree.specs.TypesInC.{c_params_of, c_result_of, c_type_of}
-pub use Rattle.c_tree.specs.WellFormed.{IsName, IsNamedIfAny, NamedArg, NamedBody, NamedCallee, NamedExpr, NamedItem, NamedStmt}
+pub use Rattle.c_tree.specs.WellFormed.{IsName, IsNamedIfAny, NamedArg, NamedBody, NamedCallee, NamedExpr, NamedItem, NamedStmt, is_name}
 pub use Rattle.c_tree.specs.declared.tree.COp.{COp}
 pub use Rattle.c_tree.specs.declared.tree.CType.{CType}
 pub use Rattle.c_tree.specs.declared.tree.Num.TheVariants.{N32, N64, Plain}
@@ -80,3 +83,13 @@ pub use Rattle.body_definition.specs.Labels.{falls, labels_in, targets, targets_
 pub use Rattle.body_definition.specs.Plain.{Setting, by_way, bytes_stmt, call_helper, if_type, plain_stmts}
 pub use Rattle.body_definition.specs.Stack.{after, occurs, occurs_in, occurs_in_else, peak, stands}
 pub use Rattle.c_prelude.specs.Functions.{helper_type}
+pub use Rattle.w2c_base.proofs.Places.{take_front, take_with}
+pub use Rattle.c_tree.proofs.NumberedLabels.{labels-append, Within, Between, all_differ, Differ}
+pub use Rattle.w2c_base.specs.declared.value.ValType.TheVariants.{I32, I64}
+pub use Rattle.w2c_base.proofs.Lists.{all_weaker, contains_kept, get_numbered}
+pub use Rattle.body_definition.proofs.RulesOfLabels.{body_within, body_labels_differ}
+pub use Rattle.c_tree.specs.DeclaredNames.{vars_in, funcs_in, Variables}
+pub use Rattle.body_definition.proofs.Heights.{after_typed, stands_top, stands_occurs, stands_low, occurs_low}
+pub use Rattle.c_tree.specs.NameClasses.{class, NoneOf}
+pub use Rattle.c_tree.proofs.DeclaredNames.{named_in, past_none}
+pub use Rattle.c_tree.proofs.NameClasses.{GivesNames, lettered, class_lettered, classes_differ}

@@ -3,10 +3,10 @@
 use Rattle.body_rules.proofs.Common.{◌≡◌, true, List, [], ◌∷◌, ◌++◌, map, Some, None, Option, flat_map, bytes_eq, sym, refl, ◌∙◌, subst}
 use Rattle.body_rules.proofs.Common.{append_assoc, or_left, or_right, AllByRecursion, list_all, all_parts, named, arg_uses, expr_uses, Name}
 use Rattle.body_rules.proofs.Common.{Scope, arrays, functions, is_among, variables, IsName, IsNamedIfAny, NamedArg, NamedCallee, NamedExpr}
-use Rattle.body_rules.proofs.Common.{NamedStmt, CType, bytes_equal, both_hold}
+use Rattle.body_rules.proofs.Common.{NamedStmt, CType, bytes_equal, both_hold, Use, AsVariable, AsArray, AsFunction, is_known, callee_uses}
+use Rattle.body_rules.proofs.Common.{target_uses, labels_of}
 use Rattle.w2c_base.proofs.Options.{some_is}
 use Rattle.c_tree.specs.Tree as tree
-use Rattle.c_tree.specs.Rules.{Use, AsVariable, AsArray, AsFunction, is_known, callee_uses, target_uses, labels_of}
 use Rattle.body_rules.proofs.Rules.{Passes}
 use Rattle.body_rules.proofs.RulesOfCode.{Present, left_present, right_present}
 
@@ -55,8 +55,7 @@ module _ (s : Scope) (are : AreNames s) where
   target_named (Some n) k = var_name n (both_hold (is_known s (AsVariable n)) true k).0
 
   cases_named : (cases : List tree.Case) (n : Name) → list_all (λ name. is_among name (labels_of s.body.stmts))
-      (map (λ (c : tree.Case). c.1) cases ++ n ∷ []) ≡ true
-      → AllByRecursion (λ (c : tree.Case). IsName c.1) cases × IsName n
+      (map (λ (c : tree.Case). c.1) cases ++ n ∷ []) ≡ true → AllByRecursion (λ (c : tree.Case). IsName c.1) cases × IsName n
   cases_named [] n k = (tt, are.labels n (both_hold (is_among n (labels_of s.body.stmts)) true k).0)
   cases_named (c ∷ cases) n k =
       let h = both_hold (is_among c.1 (labels_of s.body.stmts))

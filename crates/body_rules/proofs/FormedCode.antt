@@ -1,20 +1,20 @@
 -- The statements of code have numbers within their types, and no deep expressions.
 use Rattle.body_rules.proofs.Common.{◌≡◌, ℕ, suc, ◌+◌, ◌*◌, ◌^◌, ◌<◌, ◌≤◌, Bool, true, false, not, ◌&&◌, ◌||◌, List, [], ◌∷◌, ◌++◌, length}
-use Rattle.body_rules.proofs.Common.{drop, is_some, if◌then◌else◌, ◌==◌, slice_get, Some, None, Option, refl, pow-suc, arith, pow_pos}
+use Rattle.body_rules.proofs.Common.{drop, is_some, if◌then◌else◌, ◌==◌, slice_get, Some, None, Option, refl, pow-suc, arith, pow_pos, Code}
 use Rattle.body_rules.proofs.Common.{pow_mono, AllByRecursion, all_append, at_index, params_digits, result_digit, sig_number_of, type_digit}
-use Rattle.body_rules.proofs.Common.{FuncType, ValType, Code, Kind, Otherwise, else_code, end_code, no_else, then_code, has_wide, Stack}
-use Rattle.body_rules.proofs.Common.{Name, FitsArg, FitsCallee, FitsExpr, FitsNum, FitsStmt, depth_limit, c_params_of, global_name}
-use Rattle.body_rules.proofs.Common.{memory_name, table_name, number, c_func_type, global_imports, memory_imports, table_imports}
-use Rattle.body_rules.proofs.Common.{code_stmts, give_back, names_exit, stmts_of, Aim, behind, branch_if, call_element, call_indirect_stmts}
-use Rattle.body_rules.proofs.Common.{call_named, call_of, call_stmts, cases_from, emit, emit_else, emit_kind, exit_of, if_aim, if_stmts}
-use Rattle.body_rules.proofs.Common.{is_straight, jump, jump_over, label_if, moving_case, moving_cases, operands_from, result_slot, any_in}
-use Rattle.body_rules.proofs.Common.{any_in_else, any_inside, falls, labels_in, targets, targets_else, element_name, label_name, local_name}
-use Rattle.body_rules.proofs.Common.{pointer_name, callee, global_value, memory_arg, set_global, table_arg, Setting, binary_way, by_way}
-use Rattle.body_rules.proofs.Common.{compare_way, if_type, jump_if, operand, plain_stmts, selected, set_slot, after, ends, under, Way}
-use Rattle.body_rules.proofs.Common.{ByHelper, ByOperator, ByShift, or_parts, bits_below, pattern_below}
-use Rattle.w2c_base.specs.declared.value.ValType.TheVariants.{I32, I64}
+use Rattle.body_rules.proofs.Common.{FuncType, ValType, Kind, Otherwise, else_code, end_code, no_else, then_code, has_wide, Stack, Name, ℤ}
+use Rattle.body_rules.proofs.Common.{FitsArg, FitsCallee, FitsExpr, FitsNum, FitsStmt, depth_limit, c_params_of, global_name, memory_name}
+use Rattle.body_rules.proofs.Common.{table_name, number, c_func_type, global_imports, memory_imports, table_imports, code_stmts, give_back}
+use Rattle.body_rules.proofs.Common.{names_exit, stmts_of, Aim, behind, branch_if, call_element, call_indirect_stmts, call_named, call_of}
+use Rattle.body_rules.proofs.Common.{call_stmts, cases_from, emit, emit_else, emit_kind, exit_of, if_aim, if_stmts, is_straight, jump, ends}
+use Rattle.body_rules.proofs.Common.{jump_over, label_if, moving_case, moving_cases, operands_from, result_slot, any_in, any_in_else, falls}
+use Rattle.body_rules.proofs.Common.{any_inside, labels_in, targets, targets_else, element_name, label_name, local_name, pointer_name, Way}
+use Rattle.body_rules.proofs.Common.{callee, global_value, memory_arg, set_global, table_arg, Setting, binary_way, by_way, compare_way, I32}
+use Rattle.body_rules.proofs.Common.{if_type, jump_if, operand, plain_stmts, selected, set_slot, after, under, ByHelper, ByOperator, I64}
+use Rattle.body_rules.proofs.Common.{ByShift, or_parts, bits_below, pattern_below, pattern_of}
 use Rattle.w2c_base.proofs.SignatureNumbers.{result_digit-small, type_digit-small}
 use Rattle.wasm_tree.specs.Instructions as wasm
+use Rattle.wasm_tree.specs.declared.tree.Module.{Module}
 use Rattle.c_tree.specs.declared.tree.COp.TheVariants as op
 use Rattle.c_tree.specs.Tree as tree
 use Rattle.body_definition.specs.Labels.{labels_of as label_count}
@@ -40,6 +40,9 @@ digits_below n k (t ∷ params) less =
         times : (k p : ℕ) → k * (p * 2) ≡ 2 * k * p
         times k p = omega arith
 
+pub pattern_fits : (width : ℕ) (z : ℤ) → pattern_of width z < 2 ^ width
+pattern_fits width z = pattern_below width z
+
 pub signature_below : (params : List ValType) (result : Option ValType) → length params ≤ 60 → sig_number_of params result < 2 ^ 64
 signature_below params result few =
     let digits : params_digits 1 params < 2 * 2 ^ length params = digits_below 1 2 params (omega arith) in
@@ -54,11 +57,11 @@ object_fits : (d : ℕ) (b : Bool) (object : Name) → FitsArg (suc d)
 object_fits d true object = tt
 object_fits d false object = tt
 
-memory_fits : (d : ℕ) (c : Setting) → FitsArg (suc d) (memory_arg c.named.tree)
-memory_fits d c = object_fits d (is_some (slice_get (memory_imports c.named.tree) 0)) memory_name
+pub memory_fits : (d : ℕ) (t : Module) → FitsArg (suc d) (memory_arg t)
+memory_fits d t = object_fits d (is_some (slice_get (memory_imports t) 0)) memory_name
 
-table_fits : (d : ℕ) (c : Setting) → FitsArg (suc d) (table_arg c.named.tree)
-table_fits d c = object_fits d (is_some (slice_get (table_imports c.named.tree) 0)) table_name
+pub table_fits : (d : ℕ) (t : Module) → FitsArg (suc d) (table_arg t)
+table_fits d t = object_fits d (is_some (slice_get (table_imports t) 0)) table_name
 
 binary_fits : (w : Way) (t : ValType) (h : ℕ) → FitsStmt depth_limit (by_way w t t h (λ e. e))
 binary_fits (ByOperator o) t h = (tt, tt)
@@ -80,8 +83,8 @@ if_type_fits : (o : Option ValType) (f : ValType → List tree.Stmt) → ((t : V
 if_type_fits None f g = tt
 if_type_fits (Some t) f g = g t
 
-global_fits : (d : ℕ) (c : Setting) (x : ℕ) → FitsExpr (suc d) (global_value c.named.tree x)
-global_fits d c x = by (is_some (slice_get (global_imports c.named.tree) x))
+pub global_fits : (d : ℕ) (t : Module) (x : ℕ) → FitsExpr (suc d) (global_value t x)
+global_fits d t x = by (is_some (slice_get (global_imports t) x))
   where
     by : (b : Bool) → FitsExpr (suc d) (if b then tree.Star (pointer_name (global_name x)) else tree.Name (global_name x))
     by true = tt
@@ -96,7 +99,7 @@ global_get_fits c types l x = by (slice_get c.context.globals x)
     by : (o : Option (ValType × Bool)) → Fits
         (elim o [ None ↦ [] | Some global ↦ set_slot global.0 (length types) (global_value c.named.tree x) ∷ [] ])
     by None = tt
-    by (Some g) = (set_fits g.0 (length types) (global_value c.named.tree x) (global_fits 99 c x), tt)
+    by (Some g) = (set_fits g.0 (length types) (global_value c.named.tree x) (global_fits 99 c.named.tree x), tt)
 
 global_set_fits : (c : Setting) (types : Stack) (l x : ℕ) → Fits (plain_stmts c types l (wasm.GlobalSet x))
 global_set_fits c types l x = by (slice_get c.context.globals x)
@@ -147,7 +150,7 @@ indirect_fits c types x few = by (slice_get c.context.types x) refl
     by : (o : Option FuncType) → slice_get c.context.types x ≡ o → Fits (elim o [ None ↦ [] | Some ty ↦ call_element c types ty ])
     by None e = tt
     by (Some ty) e = (
-      (tt, (table_fits 98 c, (tt, (signature_below ty.params ty.result (few ty e), tt)))),
+      (tt, (table_fits 98 c.named.tree, (tt, (signature_below ty.params ty.result (few ty e), tt)))),
       (call_fits (tree.Through (c_func_type ty) element_name) ty types (params_there ty.params), tt),
     )
 
@@ -278,14 +281,14 @@ module _ (c : Setting) (few : (x : ℕ) (ty : FuncType) → slice_get c.context.
         (λ t. tree.Set (local_name x) (tree.Value (operand t (under 1 types))) ∷ []) (λ t. (tt, tt))
     kind_fits aims types l (wasm.GlobalGet x) e i = global_get_fits c types l x
     kind_fits aims types l (wasm.GlobalSet x) e i = global_set_fits c types l x
-    kind_fits aims types l (wasm.Load o arg) e i = ((tt, (memory_fits 98 c, (tt, (not_wide arg.offset e, tt)))), tt)
-    kind_fits aims types l (wasm.Store o arg) e i = ((tt, (memory_fits 99 c, (tt, (not_wide arg.offset e, (tt, tt))))), tt)
-    kind_fits aims types l wasm.MemorySize e i = ((tt, (memory_fits 98 c, tt)), tt)
-    kind_fits aims types l wasm.MemoryGrow e i = ((tt, (memory_fits 98 c, (tt, tt))), tt)
-    kind_fits aims types l wasm.MemoryCopy e i = ((tt, (memory_fits 99 c, (tt, (tt, (tt, tt))))), tt)
-    kind_fits aims types l wasm.MemoryFill e i = ((tt, (memory_fits 99 c, (tt, (tt, (tt, tt))))), tt)
-    kind_fits aims types l (wasm.I32Const z) e i = (pattern_below 32 z, tt)
-    kind_fits aims types l (wasm.I64Const z) e i = (pattern_below 64 z, tt)
+    kind_fits aims types l (wasm.Load o arg) e i = ((tt, (memory_fits 98 c.named.tree, (tt, (not_wide arg.offset e, tt)))), tt)
+    kind_fits aims types l (wasm.Store o arg) e i = ((tt, (memory_fits 99 c.named.tree, (tt, (not_wide arg.offset e, (tt, tt))))), tt)
+    kind_fits aims types l wasm.MemorySize e i = ((tt, (memory_fits 98 c.named.tree, tt)), tt)
+    kind_fits aims types l wasm.MemoryGrow e i = ((tt, (memory_fits 98 c.named.tree, (tt, tt))), tt)
+    kind_fits aims types l wasm.MemoryCopy e i = ((tt, (memory_fits 99 c.named.tree, (tt, (tt, (tt, tt))))), tt)
+    kind_fits aims types l wasm.MemoryFill e i = ((tt, (memory_fits 99 c.named.tree, (tt, (tt, (tt, tt))))), tt)
+    kind_fits aims types l (wasm.I32Const z) e i = (pattern_fits 32 z, tt)
+    kind_fits aims types l (wasm.I64Const z) e i = (pattern_fits 64 z, tt)
     kind_fits aims types l (wasm.Eqz t) e i = (eqz_fits t (under 1 types), tt)
     kind_fits aims types l (wasm.Compare t o) e i = (compare_fits (compare_way t o) t (under 2 types), tt)
     kind_fits aims types l (wasm.Binary t o) e i = (binary_fits (binary_way t o) t (under 2 types), tt)

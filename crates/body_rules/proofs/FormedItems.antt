@@ -1,50 +1,33 @@
 -- Functions that keep the rules on statements have names where what is declared has names; so has that of a body.
-use Rattle.w2c_base.proofs.OfEach.{all_from}
-use Rattle.c_tree.specs.WellFormed.{is_name}
-use Rattle.w2c_base.proofs.Tests.{test_at}
-use Rattle.w2c_base.specs.declared.value.ValType.TheVariants.{I32, I64}
-use Rattle.c_tree.specs.declared.tree.CType.TheVariants as type
+use Rattle.body_rules.proofs.Common.{all_from, is_name, test_at, I32, I64, labels_of, all_weaker, body_within, by_test, ◌≡◌, ℕ, suc, ◌+◌}
+use Rattle.body_rules.proofs.Common.{◌^◌, ◌<◌, ◌≤◌, true, false, List, [], ◌∷◌, map, length, slice_get, Some, None}
+use Rattle.body_rules.proofs.Common.{filter_map, bytes_eq, sym, refl, subst, arith, bytes_eq-Decides, AllByRecursion, all_append, named}
+use Rattle.body_rules.proofs.Common.{FuncType, ValType, declared_locals, BodyEntry, has_wide, context_of, primitives, Name, Scope, array_of}
+use Rattle.body_rules.proofs.Common.{arrays, functions, is_among, local_variables, param_variables, variables, FitsItem, FitsNum, IsName}
+use Rattle.body_rules.proofs.Common.{depth_limit, IsNamedIfAny, NamedBody, NamedItem, CType, NamedModule, func_of, most_operands, params_of}
+use Rattle.body_rules.proofs.Common.{params_from, stmts_of, zero_local, any_in, labels_in, label_name, local_name, slot, Setting, Within}
+use Rattle.body_rules.proofs.Common.{Between, vars_in, funcs_in}
 use Rattle.c_tree.specs.Tree as tree
-use Rattle.c_tree.specs.Rules.{labels_of}
 use Rattle.c_tree.proofs.Names.{numbered}
-use Rattle.w2c_base.proofs.Lists.{all_weaker}
-use Rattle.body_definition.proofs.RulesOfLabels.{body_within}
-use Rattle.body_rules.proofs.Common.{◌≡◌, ℕ, suc, ◌+◌, ◌^◌, ◌<◌, ◌≤◌, Bool, true, false, ◌||◌, List, [], ◌∷◌, map, length, if◌then◌else◌}
-use Rattle.body_rules.proofs.Common.{slice_get, Some, None, filter_map, bytes_eq, sym, refl, subst, arith, bytes_eq-Decides, AllByRecursion}
-use Rattle.body_rules.proofs.Common.{all_append, named, FuncType, ValType, declared_locals, BodyEntry, has_wide, Context, context_of}
-use Rattle.body_rules.proofs.Common.{primitives, Name, Scope, array_of, arrays, functions, is_among, local_variables, param_variables}
-use Rattle.body_rules.proofs.Common.{variables, FitsItem, FitsNum, depth_limit, IsName, IsNamedIfAny, NamedBody, NamedItem, CType, Plain}
-use Rattle.body_rules.proofs.Common.{NamedModule, func_of, has_element, locals_from, most_operands, params_from, params_of, slots_of}
-use Rattle.body_rules.proofs.Common.{stmts_of, zero_local, any_in, labels_in, element_name, label_name, local_name, slot, Setting}
 use Rattle.body_rules.proofs.Rules.{Passes}
-use Rattle.c_tree.proofs.NumberedLabels.{Within, Between}
-use Rattle.body_rules.proofs.OwnNames.{body_locals, heights_of, heights_low}
-use Rattle.c_tree.specs.DeclaredNames.{vars_in, funcs_in}
+use Rattle.body_rules.proofs.OwnNames.{body_locals, each_local, with_params}
 use Rattle.body_rules.specs.Declared.{NamedItems}
 use Rattle.body_rules.proofs.Formed.{AreNames, stmts_named}
 use Rattle.body_rules.proofs.FormedCode.{body_fits}
 
 -- ---- names that are found
 
-same_name : (a b : Name) → bytes_eq a b ≡ true → a ≡ b
-same_name a b e = (bytes_eq-Decides a b).0 e
-
-found_is : {A : Type 0} (q : Name) (xs : List (Name × A)) (t : A) → AllByRecursion (λ (v : Name × A). IsName v.0) xs
-    → named q xs ≡ Some t → IsName q
-found_is q [] t all e = absurd cc
-found_is {A = A} q (x ∷ xs) t all e = by (bytes_eq x.0 q) refl e (found_is q xs t all.1)
-  where
-    by : (b : Bool) → bytes_eq x.0 q ≡ b → (if b then Some x.1 else named q xs) ≡ Some t → (named q xs ≡ Some t → IsName q) → IsName q
-    by true f g rest = subst IsName (same_name x.0 q f) all.0
-    by false f g rest = rest g
+-- what holds of all names holds of one that is found
+pub found_name : {A : Type 0} (P : Name → Type 0) (q : Name) (xs : List (Name × A)) (t : A) → AllByRecursion (λ (v : Name × A). P v.0) xs
+    → named q xs ≡ Some t → P q
+found_name P q [] t all e = absurd cc
+found_name P q (x ∷ xs) t all e = by_test (bytes_eq x.0 q) (λ f. subst P ((bytes_eq-Decides x.0 q).0 f) all.0)
+    (λ f. found_name P q xs t all.1 (rw f at e))
 
 among_is : (q : Name) (xs : List Name) → AllByRecursion IsName xs → is_among q xs ≡ true → IsName q
 among_is q [] all e = absurd cc
-among_is q (x ∷ xs) all e = by (bytes_eq q x) refl e (among_is q xs all.1)
-  where
-    by : (b : Bool) → bytes_eq q x ≡ b → b || is_among q xs ≡ true → (is_among q xs ≡ true → IsName q) → IsName q
-    by true f g rest = subst IsName (sym (same_name q x f)) all.0
-    by false f g rest = rest g
+among_is q (x ∷ xs) all e = by_test (bytes_eq q x) (λ f. subst IsName (sym ((bytes_eq-Decides q x).0 f)) all.0)
+    (λ f. among_is q xs all.1 (rw f at e))
 
 -- ---- names that are declared
 
@@ -66,9 +49,6 @@ arrays_named (tree.Array name count bytes ∷ items) all = (all.0, arrays_named 
 arrays_named (tree.Var t name number ∷ items) all = arrays_named items all.1
 arrays_named (tree.Function f ∷ items) all = arrays_named items all.1
 
-abbrev with_params : List tree.Param → tree.Func
-with_params params = record { is_static = true; result = type.Void; name = []; params = params; body = None }
-
 params_named : (params : List tree.Param) → AllByRecursion (λ (p : tree.Param). IsNamedIfAny p.1) params
     → AllByRecursion (λ (v : Name × CType). IsName v.0) (param_variables (with_params params))
 params_named [] all = tt
@@ -87,12 +67,12 @@ primitives_named = all_from (λ (v : Name × tree.FuncType). IsName v.0) primiti
 scope_names : (s : Scope) → NamedItems s.declared → AllByRecursion (λ (p : tree.Param). IsNamedIfAny p.1) s.func.params
     → AllByRecursion (λ (l : tree.Local). IsName l.1) s.body.locals → AllByRecursion IsName (labels_of s.body.stmts) → AreNames s
 scope_names s items params locals labels = record {
-  vars = λ n t e. found_is n (variables s) t
+  vars = λ n t e. found_name IsName n (variables s) t
       (all_append (λ (v : Name × CType). IsName v.0) (param_variables s.func) _ (params_named s.func.params params)
       (all_append (λ (v : Name × CType). IsName v.0) (local_variables s.body) _ (locals_named s.body.locals locals)
       (all_append (λ (v : Name × CType). IsName v.0) (vars_in s.declared) _ (vars_named s.declared items) (refl, tt)))) e;
   arrays_are = λ n e. among_is n (arrays s) (arrays_named s.declared items) e;
-  funcs = λ n t e. found_is n (functions s) t
+  funcs = λ n t e. found_name IsName n (functions s) t
       (all_append (λ (v : Name × tree.FuncType). IsName v.0) (funcs_in s.declared) primitives
       (funcs_named s.declared items) primitives_named) e;
   labels = λ n e. among_is n (labels_of s.body.stmts) labels e;
@@ -134,34 +114,9 @@ params_of_are : (types : List ValType) → length types ≤ 2 ^ 64 → AllByRecu
 params_of_are [] few = (tt, tt)
 params_of_are (t ∷ types) few = params_are 0 (t ∷ types) (omega (arith, few))
 
-locals_are : (P : tree.Local → Type 0) → ((t : ValType) (k : ℕ) → k < 2 ^ 64 → P (zero_local t (local_name k)))
-    → (k : ℕ) (types : List ValType) → k + length types ≤ 2 ^ 64
-    → AllByRecursion P (locals_from k types)
-locals_are P f k [] few = tt
-locals_are P f k (t ∷ types) few = (f t k (omega (arith, few)), locals_are P f (suc k) types (omega (arith, few)))
-
-slots_are : (P : tree.Local → Type 0) (t : ValType) → ((k : ℕ) → k < 2 ^ 64 → P (zero_local t (slot t k))) → (heights : List ℕ)
-    → AllByRecursion (λ h. h < 2 ^ 64) heights
-    → AllByRecursion P (map (λ height. zero_local t (slot t height)) heights)
-slots_are P t f [] low = tt
-slots_are P t f (h ∷ heights) low = (f h low.0, slots_are P t f heights low.1)
-
-element_is : (P : tree.Local → Type 0) (b : Bool) → P (type.FnPtr, element_name, Plain 0)
-    → AllByRecursion P (if b then (type.FnPtr, element_name, Plain 0) ∷ [] else [])
-element_is P true p = (p, tt)
-element_is P false p = tt
-
-body_locals_are : (P : tree.Local → Type 0) (ty : FuncType) (body : BodyEntry) (c : Context)
-    → length ty.params + length (declared_locals body.runs) ≤ 2 ^ 64 → most_operands c body.code ≤ 2 ^ 64
-    → ((t : ValType) (k : ℕ) → k < 2 ^ 64 → P (zero_local t (local_name k)))
-    → ((t : ValType) (k : ℕ) → k < 2 ^ 64 → P (zero_local t (slot t k))) → P (type.FnPtr, element_name, Plain 0)
-    → AllByRecursion P (body_locals ty body c)
-body_locals_are P ty body c few low f g e =
-    all_append P (locals_from (length ty.params) (declared_locals body.runs)) _
-    (locals_are P f (length ty.params) (declared_locals body.runs) few)
-    (all_append P (slots_of I32 c body.code) _ (slots_are P I32 (g I32) (heights_of I32 c body.code) (heights_low I32 c body.code low))
-    (all_append P (slots_of I64 c body.code) _ (slots_are P I64 (g I64) (heights_of I64 c body.code) (heights_low I64 c body.code low))
-    (element_is P (has_element body.code) e)))
+pub params_listed : (types : List ValType) → 0 < length (params_of types)
+params_listed [] = omega arith
+params_listed (t ∷ types) = omega arith
 
 zero_fits : (t : ValType) (name : Name) → FitsNum (zero_local t name).2
 zero_fits I32 name = omega arith
@@ -189,32 +144,25 @@ pub body_named : (m : NamedModule) (index : ℕ) (ty : FuncType) (body : BodyEnt
             stmts = stmts_of (record { named = m; context = context_of m.tree ty body }) body.code;
           };
     }))
-    (stmts_of (record { named = m; context = context_of m.tree ty body }) body.code)
-    → NamedItem (tree.Function (func_of m index ty body))
+    (stmts_of (record { named = m; context = context_of m.tree ty body }) body.code) → NamedItem (tree.Function (func_of m index ty body))
 body_named m index ty body declared name items few low labels all =
     let c : Setting = record { named = m; context = context_of m.tree ty body } in
     function_named declared (func_of m index ty body) (record { locals = body_locals ty body c.context; stmts = stmts_of c body.code })
     refl name items
     (params_of_are ty.params (omega (arith, few)))
-    (body_locals_are (λ (l : tree.Local). IsName l.1) ty body c.context few low (λ t k less. local_is k less)
-    (λ t k less. slot_is t k less) refl)
+    (each_local (λ (l : tree.Local). IsName l.1) ty body (context_of m.tree ty body)
+    (λ t k less. local_is k (omega (arith, less, few))) (λ t h less. slot_is t h (omega (arith, less, low))) refl)
     (within_named 0 (labels_in body.code + 2) (stmts_of c body.code) (omega (arith, labels)) (body_within c body.code))
     all
 
-pub body_item_fits : (m : NamedModule) (index : ℕ) (ty : FuncType) (body : BodyEntry)
-    → length ty.params + length (declared_locals body.runs) ≤ 2 ^ 64 → most_operands (context_of m.tree ty body) body.code ≤ 2 ^ 64
-    → any_in has_wide body.code ≡ false
+pub body_item_fits : (m : NamedModule) (index : ℕ) (ty : FuncType) (body : BodyEntry) → any_in has_wide body.code ≡ false
     → ((x : ℕ) (ty : FuncType) → slice_get (map (λ t. t.ty) m.tree.types) x ≡ Some ty → length ty.params ≤ 60)
     → FitsItem depth_limit (tree.Function (func_of m index ty body))
-body_item_fits m index ty body few low narrow sigs = (
-  params_there ty.params,
+body_item_fits m index ty body narrow sigs = (
+  params_listed ty.params,
   (
-    body_locals_are (λ (l : tree.Local). FitsNum l.2) ty body (context_of m.tree ty body) few low (λ t k less. zero_fits t (local_name k))
-        (λ t k less. zero_fits t (slot t k)) (omega arith),
+    each_local (λ (l : tree.Local). FitsNum l.2) ty body (context_of m.tree ty body) (λ t k less. zero_fits t (local_name k))
+        (λ t h less. zero_fits t (slot t h)) (omega arith),
     body_fits (record { named = m; context = context_of m.tree ty body }) sigs body.code narrow,
   ),
 )
-  where
-    params_there : (types : List ValType) → 0 < length (params_of types)
-    params_there [] = omega arith
-    params_there (t ∷ types) = omega arith

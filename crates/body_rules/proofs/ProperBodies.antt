@@ -1,10 +1,9 @@
 -- The function of a typed body keeps the rules, and is formed.
 use Rattle.body_rules.proofs.Common.{◌+◌, ◌^◌, ◌<◌, ◌≤◌, ◌≡◌, Bool, true, [], ◌∷◌, ◌++◌, length, sym, refl, subst, arith, length-append}
-use Rattle.body_rules.proofs.Common.{list_any, FuncType, declared_locals, Code, BodyEntry, context_of, values, NamedModule, func_of}
-use Rattle.body_rules.proofs.Common.{most_operands, stmts_of, peak}
+use Rattle.body_rules.proofs.Common.{list_any, FuncType, declared_locals, Code, BodyEntry, context_of, values, NamedModule, func_of, peak}
+use Rattle.body_rules.proofs.Common.{most_operands, stmts_of, after_typed}
 use Rattle.std.proofs.lemmas.Map.Keys.{any_passes_from_place}
 use Rattle.c_tree.specs.Tree as tree
-use Rattle.body_definition.proofs.Heights.{after_typed}
 use Rattle.body_definition.proofs.Peaks.{one_value}
 use Rattle.body_rules.specs.BodiesAreProper.{IsTypedBody, BodiesKeepTheRules, BodiesAreFormed}
 use Rattle.body_rules.proofs.RulesOfBodies.{body_passes}
@@ -51,5 +50,5 @@ bodies_are_formed m index ty body declared b few knows named name = (
       (record { named = m; context = context_of m.tree ty body }) body.code
       (scope_knows m index ty body declared knows (few_in_context m ty body b) (is_body m ty body b)) after_typed b.typed refl refl
       (depth_known m index ty body declared knows)),
-  body_item_fits m index ty body (few_locals m ty body b) (few_operands m ty body b) b.within.numbers (λ x u e. few x u (sym e)),
+  body_item_fits m index ty body b.within.numbers (λ x u e. few x u (sym e)),
 )

@@ -2,15 +2,14 @@
 -- form of statement, over lemmas for each form of expression and argument (rules 2, 3, 8 to 11, and that labels
 -- that are named are there).
 use Rattle.body_rules.proofs.Common.{◌≡◌, ℕ, true, false, List, [], ◌∷◌, ◌++◌, map, is_some, Some, None, Option, flat_map, sym, refl, subst}
-use Rattle.body_rules.proofs.Common.{list_all, ⊤, all_join, named, StmtPlace, are_distinct_numbers, arg_uses, case_value, expr_uses}
-use Rattle.body_rules.proofs.Common.{is_own_name, is_result_type, is_value_type, is_void, labels_named, number_suits, proper_types, Name}
-use Rattle.body_rules.proofs.Common.{Scope, arrays, functions, is_among, is_comparison, is_number_type, is_object_type, variables, COp}
-use Rattle.body_rules.proofs.Common.{CType, N32, N64}
+use Rattle.body_rules.proofs.Common.{list_all, ⊤, all_join, named, StmtPlace, are_distinct_numbers, arg_uses, case_value, expr_uses, Name}
+use Rattle.body_rules.proofs.Common.{is_own_name, is_result_type, is_value_type, is_void, labels_named, number_suits, proper_types, Scope}
+use Rattle.body_rules.proofs.Common.{arrays, functions, is_among, is_comparison, is_number_type, is_object_type, variables, COp, CType, N32}
+use Rattle.body_rules.proofs.Common.{N64, is_known, stmt_uses, arg_has_type, arg_suits, args_suit, stmt_is_typed, stmt_suits, label_is_free}
+use Rattle.body_rules.proofs.Common.{written_type_is_proper, labels_of, cases_are_distinct}
 use Rattle.c_tree.specs.declared.tree.CType.TheVariants as type
 use Rattle.c_tree.specs.Tree as tree
 use Rattle.c_tree.specs.Scope.{file_variables, file_functions, pointed_by, pointer_to, typing_of, Typing, HasType, Compares, common_type}
-use Rattle.c_tree.specs.Rules.{is_known, stmt_uses, arg_has_type, arg_suits, args_suit, stmt_is_typed, stmt_suits, label_is_free}
-use Rattle.c_tree.specs.Rules.{written_type_is_proper, labels_of, cases_are_distinct}
 use Rattle.c_tree.proofs.SameTypes.{same_as_itself}
 
 abbrev pub at : Scope → tree.Stmt → StmtPlace
@@ -102,59 +101,42 @@ AreArgs s [] [] = ⊤
 AreArgs s (t ∷ types) (a ∷ args) = IsArg s t a × AreArgs s types args
 AreArgs s _ _ = ⊥
 
-args_known : (s : Scope) (types : List CType) (args : List tree.Arg) → AreArgs s types args
-    → list_all (is_known s) (flat_map arg_uses args) ≡ true
-args_known s [] [] h = refl
-args_known s (t ∷ types) (a ∷ args) h = all_join (is_known s) (arg_uses a) (flat_map arg_uses args) h.0.known (args_known s types args h.1)
-args_known s [] (a ∷ args) h = absurd h
-args_known s (t ∷ types) [] h = absurd h
-
-args_typed : (s : Scope) (types : List CType) (args : List tree.Arg) → AreArgs s types args → list_all (arg_has_type s) args ≡ true
-args_typed s [] [] h = refl
-args_typed s (t ∷ types) (a ∷ args) h = rw (h.0.typed, args_typed s types args h.1) refl
-args_typed s [] (a ∷ args) h = absurd h
-args_typed s (t ∷ types) [] h = absurd h
-
-suited : (s : Scope) (types : List CType) (args : List tree.Arg) → AreArgs s types args → args_suit s types args ≡ true
-suited s [] [] h = refl
-suited s (t ∷ types) (a ∷ args) h = rw (h.0.suits, suited s types args h.1) refl
-suited s [] (a ∷ args) h = absurd h
-suited s (t ∷ types) [] h = absurd h
+are_args : (s : Scope) (types : List CType) (args : List tree.Arg) → AreArgs s types args
+    → (list_all (is_known s) (flat_map arg_uses args) ≡ true) × (list_all (arg_has_type s) args ≡ true) × (args_suit s types args ≡ true)
+are_args s [] [] h = (refl, refl, refl)
+are_args s (t ∷ types) (a ∷ args) h =
+    let rest = are_args s types args h.1 in
+    (all_join (is_known s) (arg_uses a) (flat_map arg_uses args) h.0.known rest.0, rw (h.0.typed, rest.1) refl, rw (h.0.suits, rest.2) refl)
+are_args s [] (a ∷ args) h = absurd h
+are_args s (t ∷ types) [] h = absurd h
 
 -- ---- statements
 
+-- what the rules ask, in this order: labels and cases that differ, a proper type, labels that are there, known names, types that fit
+passes : (s : Scope) (stmt : tree.Stmt) → label_is_free (at s stmt) ≡ true → cases_are_distinct (at s stmt) ≡ true
+    → written_type_is_proper (at s stmt) ≡ true → list_all (λ name. is_among name (labels_of s.body.stmts)) (labels_named stmt) ≡ true
+    → list_all (is_known s) (stmt_uses stmt) ≡ true → stmt_is_typed s stmt ≡ true → stmt_suits s stmt ≡ true → Passes s stmt
+passes s stmt free cases written there known typed suits =
+    record { free = free; written = written; there = there; known = known; typed = typed; suits = suits; cases = cases }
+
 pub label_passes : (s : Scope) (n : Name) → is_own_name n ≡ true → Passes s (tree.Label n)
-label_passes s n e = record { free = e; written = refl; there = refl; known = refl; typed = refl; suits = refl; cases = refl }
+label_passes s n e = passes s (tree.Label n) e refl refl refl refl refl refl
 
 pub null_passes : (s : Scope) → Passes s tree.Null
-null_passes s = record { free = refl; written = refl; there = refl; known = refl; typed = refl; suits = refl; cases = refl }
+null_passes s = passes s tree.Null refl refl refl refl refl refl refl
 
 pub goto_passes : (s : Scope) (n : Name) → is_among n (labels_of s.body.stmts) ≡ true → Passes s (tree.Goto n)
-goto_passes s n e = record { free = refl; written = refl; there = rw e refl; known = refl; typed = refl; suits = refl; cases = refl }
+goto_passes s n e = passes s (tree.Goto n) refl refl refl (rw e refl) refl refl refl
 
 pub set_passes : (s : Scope) (n : Name) (a : tree.Arg) (t : CType) → named n (variables s) ≡ Some t → is_object_type t ≡ false → IsArg s t a
     → Passes s (tree.Set n a)
-set_passes s n a t e o p = record {
-  free = refl;
-  written = refl;
-  there = refl;
-  known = rw (e, p.known) refl;
-  typed = rw e (rw (o, p.typed) refl);
-  suits = rw e (rw p.suits refl);
-  cases = refl;
-}
+set_passes s n a t e o p =
+    passes s (tree.Set n a) refl refl refl refl (rw (e, p.known) refl) (rw e (rw (o, p.typed) refl)) (rw e (rw p.suits refl))
 
 pub set_star_passes : (s : Scope) (n : Name) (e : tree.Expr) (p t : CType) → named n (variables s) ≡ Some p → pointed_by p ≡ Some t
     → IsTyped s e (HasType t) → Passes s (tree.SetStar n e)
-set_star_passes s n e p t k o typed = record {
-  free = refl;
-  written = refl;
-  there = refl;
-  known = rw (k, typed.known) refl;
-  typed = rw k (rw (o, typed.typed) refl);
-  suits = rw k (rw (o, typed.typed) (same_as_itself t));
-  cases = refl;
-}
+set_star_passes s n e p t k o typed = passes s (tree.SetStar n e) refl refl refl refl (rw (k, typed.known) refl)
+    (rw k (rw (o, typed.typed) refl)) (rw k (rw (o, typed.typed) (same_as_itself t)))
 
 -- what a call's value is assigned to
 abbrev pub TakesResult : Scope → CType → Option Name → Type 0
@@ -164,87 +146,43 @@ TakesResult s t (Some n) = (named n (variables s) ≡ Some t) × (is_object_type
 pub call_passes : (s : Scope) (target : Option Name) (name : Name) (args : List tree.Arg) (ty : tree.FuncType)
     → named name (functions s) ≡ Some ty → AreArgs s (proper_types ty.params) args → TakesResult s ty.result target
     → Passes s (tree.Call target (tree.Called name) args)
-call_passes s None name args ty e as_args takes = record {
-  free = refl;
-  written = refl;
-  there = refl;
-  known = rw (e, args_known s (proper_types ty.params) args as_args) refl;
-  typed = args_typed s (proper_types ty.params) args as_args;
-  suits = rw e (rw (suited s (proper_types ty.params) args as_args) refl);
-  cases = refl;
-}
-call_passes s (Some n) name args ty e as_args takes = record {
-  free = refl;
-  written = refl;
-  there = refl;
-  known = rw (takes.0, e, args_known s (proper_types ty.params) args as_args) refl;
-  typed = rw takes.0 (rw (takes.1, args_typed s (proper_types ty.params) args as_args) refl);
-  suits = rw e (rw (suited s (proper_types ty.params) args as_args) (rw (takes.2, takes.0) (same_as_itself ty.result)));
-  cases = refl;
-}
+call_passes s None name args ty e as_args takes =
+    let are = are_args s (proper_types ty.params) args as_args in
+    passes s (tree.Call None (tree.Called name) args) refl refl refl refl (rw (e, are.0) refl) are.1 (rw e (rw are.2 refl))
+call_passes s (Some n) name args ty e as_args takes =
+    let are = are_args s (proper_types ty.params) args as_args in
+    passes s (tree.Call (Some n) (tree.Called name) args) refl refl refl refl (rw (takes.0, e, are.0) refl)
+    (rw takes.0 (rw (takes.1, are.1) refl)) (rw e (rw are.2 (rw (takes.2, takes.0) (same_as_itself ty.result))))
 
 pub through_passes : (s : Scope) (target : Option Name) (name : Name) (args : List tree.Arg) (ty : tree.FuncType)
     → named name (variables s) ≡ Some type.FnPtr → is_result_type ty.result ≡ true → list_all is_value_type (proper_types ty.params) ≡ true
-    → AreArgs s (proper_types ty.params) args → TakesResult s ty.result target
-    → Passes s (tree.Call target (tree.Through ty name) args)
-through_passes s None name args ty e r v as_args takes = record {
-  free = refl;
-  written = rw (r, v) refl;
-  there = refl;
-  known = rw (e, args_known s (proper_types ty.params) args as_args) refl;
-  typed = rw e (args_typed s (proper_types ty.params) args as_args);
-  suits = rw (suited s (proper_types ty.params) args as_args) refl;
-  cases = refl;
-}
-through_passes s (Some n) name args ty e r v as_args takes = record {
-  free = refl;
-  written = rw (r, v) refl;
-  there = refl;
-  known = rw (takes.0, e, args_known s (proper_types ty.params) args as_args) refl;
-  typed = rw (takes.0, e) (rw (takes.1, args_typed s (proper_types ty.params) args as_args) refl);
-  suits = rw (suited s (proper_types ty.params) args as_args) (rw (takes.2, takes.0) (same_as_itself ty.result));
-  cases = refl;
-}
+    → AreArgs s (proper_types ty.params) args → TakesResult s ty.result target → Passes s (tree.Call target (tree.Through ty name) args)
+through_passes s None name args ty e r v as_args takes =
+    let are = are_args s (proper_types ty.params) args as_args in
+    passes s (tree.Call None (tree.Through ty name) args) refl refl (rw (r, v) refl) refl (rw (e, are.0) refl) (rw e are.1) (rw are.2 refl)
+through_passes s (Some n) name args ty e r v as_args takes =
+    let are = are_args s (proper_types ty.params) args as_args in
+    passes s (tree.Call (Some n) (tree.Through ty name) args) refl refl (rw (r, v) refl) refl (rw (takes.0, e, are.0) refl)
+    (rw (takes.0, e) (rw (takes.1, are.1) refl)) (rw are.2 (rw (takes.2, takes.0) (same_as_itself ty.result)))
 
 pub if_passes : (s : Scope) (o : COp) (a b : tree.Expr) (n : Name) (t : CType) → is_comparison o ≡ true → is_number_type t ≡ true
     → IsTyped s a (HasType t) → IsTyped s b (HasType t) → is_among n (labels_of s.body.stmts) ≡ true → Passes s (tree.If o a b n)
-if_passes s o a b n t c k p q there = record {
-  free = refl;
-  written = refl;
-  there = rw there refl;
-  known = all_join (is_known s) (expr_uses a) (expr_uses b) p.known q.known;
-  typed = rw (c, common t (typing_of s a) (typing_of s b) k p.typed q.typed) refl;
-  suits = refl;
-  cases = refl;
-}
+if_passes s o a b n t c k p q there = passes s (tree.If o a b n) refl refl refl (rw there refl)
+    (all_join (is_known s) (expr_uses a) (expr_uses b) p.known q.known)
+    (rw (c, common t (typing_of s a) (typing_of s b) k p.typed q.typed) refl) refl
 
 pub switch_passes : (s : Scope) (e : tree.Expr) (cases : List tree.Case) (n : Name) → IsTyped s e (HasType type.U32)
     → list_all (λ (c : tree.Case). number_suits type.U32 c.0) cases ≡ true → are_distinct_numbers (map case_value cases) ≡ true
     → list_all (λ name. is_among name (labels_of s.body.stmts)) (map (λ (c : tree.Case). c.1) cases ++ n ∷ []) ≡ true
     → Passes s (tree.Switch e cases n)
-switch_passes s e cases n p suit distinct there = record {
-  free = refl;
-  written = refl;
-  there = there;
-  known = p.known;
-  typed = rw p.typed refl;
-  suits = refl;
-  cases = rw p.typed (rw (suit, distinct) refl);
-}
+switch_passes s e cases n p suit distinct there = passes s (tree.Switch e cases n) refl (rw p.typed (rw (suit, distinct) refl)) refl there
+    p.known (rw p.typed refl) refl
 
 pub return_none_passes : (s : Scope) → is_void s.func.result ≡ true → Passes s tree.ReturnNone
-return_none_passes s e = record { free = refl; written = refl; there = refl; known = refl; typed = refl; suits = e; cases = refl }
+return_none_passes s e = passes s tree.ReturnNone refl refl refl refl refl refl e
 
 pub return_passes : (s : Scope) (a : tree.Arg) → is_void s.func.result ≡ false → IsArg s s.func.result a → Passes s (tree.Return a)
-return_passes s a e p = record {
-  free = refl;
-  written = refl;
-  there = refl;
-  known = p.known;
-  typed = p.typed;
-  suits = rw (e, p.suits) refl;
-  cases = refl;
-}
+return_passes s a e p = passes s (tree.Return a) refl refl refl refl p.known p.typed (rw (e, p.suits) refl)
 
 -- the parameters of the type by another list
 pub call_passes_as : (s : Scope) (target : Option Name) (name : Name) (args : List tree.Arg) (ty : tree.FuncType) (types : List CType)

@@ -4,14 +4,13 @@ use Rattle.c_tree.specs.declared.tree.CType.TheVariants as type
 use Rattle.c_tree.specs.declared.tree.COp.TheVariants as op
 use Rattle.c_tree.specs.Tree as tree
 use Rattle.c_tree.specs.Scope as scope
-use Rattle.c_tree.specs.Rules.{labels_of}
+use Rattle.body_rules.proofs.Common.{labels_of, ◌≡◌, ℕ, zero, suc, true, false, List, [], ◌∷◌, ◌++◌, slice_get, Some, None}
+use Rattle.body_rules.proofs.Common.{codes, Option, sym, refl, ap, ◌∙◌, subst, append_assoc, or_left, or_right, same_Some, AllByRecursion}
+use Rattle.body_rules.proofs.Common.{all_append, named, ValType, Code, BodyHasType, values, ends_body, Scope, is_among, variables, COp, N32}
+use Rattle.body_rules.proofs.Common.{CType, bytes_equal, c_result_of, c_type_of, depth_name, change_depth, code_stmts, give_back, has_slot}
+use Rattle.body_rules.proofs.Common.{is_return, names_exit, stmts_of, Aim, entry_label, exit_label, exit_of, first_label, label_if, any_in}
+use Rattle.body_rules.proofs.Common.{targets, label_name, Setting, operand, occurs, stands}
 use Rattle.c_tree.specs.Makers as makers
-use Rattle.body_rules.proofs.Common.{◌≡◌, ℕ, zero, suc, ◌+◌, ◌^◌, ◌<◌, true, false, List, [], ◌∷◌, ◌++◌, slice_get, Some, None, codes}
-use Rattle.body_rules.proofs.Common.{Option, sym, refl, ap, ◌∙◌, subst, append_assoc, or_left, or_right, same_Some, AllByRecursion}
-use Rattle.body_rules.proofs.Common.{all_append, named, ValType, Code, BodyHasType, values, ends_body, Scope, is_among, variables, COp}
-use Rattle.body_rules.proofs.Common.{CType, N32, bytes_equal, c_result_of, c_type_of, depth_name, change_depth, code_stmts, give_back}
-use Rattle.body_rules.proofs.Common.{has_slot, is_return, names_exit, stmts_of, Aim, entry_label, exit_label, exit_of, first_label}
-use Rattle.body_rules.proofs.Common.{label_if, any_in, targets, label_name, Setting, operand, occurs, stands}
 use Rattle.body_rules.proofs.Rules.{Passes, name_typed, n32_typed, op_typed, value_arg, set_passes, if_passes, label_passes, call_passes_as}
 use Rattle.body_rules.proofs.Rules.{return_none_passes, return_passes, IsArg}
 use Rattle.body_rules.proofs.RulesOfKinds.{Knows, no_void, operand_arg}

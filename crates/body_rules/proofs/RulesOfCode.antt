@@ -1,33 +1,30 @@
 -- The statements of code keep the rules on statements, in a scope that knows what the body needs and a body that
 -- has the labels.
-use Rattle.w2c_base.specs.declared.value.ValType.TheVariants.{I32, I64}
+use Rattle.body_rules.proofs.Common.{I32, I64, labels_of, labels-append, stands_top, stands_occurs, ◌≡◌, ℕ, zero, suc, ◌+◌, ◌<◌, Bool, true}
+use Rattle.body_rules.proofs.Common.{false, not, ◌&&◌, ◌||◌, List, [], ◌∷◌, ◌++◌, map, reverse, ap, length, drop, if◌then◌else◌, ◌==◌, Some}
+use Rattle.body_rules.proofs.Common.{slice_get, None, codes, Option, bytes_eq, sym, refl, ◌∙◌, N64, subst, append_assoc, arith, or_left}
+use Rattle.body_rules.proofs.Common.{or_right, length-reverse, reverse-append, list_any-append, named, same_Some, AllByRecursion, list_all}
+use Rattle.body_rules.proofs.Common.{list_any, all_append, at_index, sig_number_of, FuncType, ValType, Code, Kind, Otherwise, else_code}
+use Rattle.body_rules.proofs.Common.{end_code, no_else, then_code, Context, Labels, ElseHasType, HasTable, HasType, KindHasType, Stack, Aim}
+use Rattle.body_rules.proofs.Common.{Turns, values, are_distinct_numbers, case_value, is_result_type, Name, is_value_type, number_suits}
+use Rattle.body_rules.proofs.Common.{Scope, functions, is_among, bytes_equal, c_result_of, c_type_of, c_func_type, is_indirect, is_return}
+use Rattle.body_rules.proofs.Common.{behind, branch_if, branch_table, call_element, call_named, emit, call_indirect_stmts, call_stmts, jump}
+use Rattle.body_rules.proofs.Common.{case_label, cases_from, emit_else, emit_kind, exit_label, exit_of, if_aim, if_stmts, is_straight, ends}
+use Rattle.body_rules.proofs.Common.{jump_over, label_if, moving_case, moving_cases, operands_from, result_slot, any_in, any_in_else, falls}
+use Rattle.body_rules.proofs.Common.{any_inside, labels_in, targets, targets_else, targets_in, element_name, label_name, callee, table_arg}
+use Rattle.body_rules.proofs.Common.{Setting, jump_if, operand, plain_stmts, set_slot, after, occurs, occurs_in, occurs_in_else, stands}
+use Rattle.body_rules.proofs.Common.{under, zero-add, one_moves}
 use Rattle.w2c_base.specs.declared.trap.TrapKind.TheVariants as trap
 use Rattle.wasm_tree.specs.Instructions as wasm
 use Rattle.c_tree.specs.declared.tree.CType.TheVariants as type
 use Rattle.c_tree.specs.declared.tree.COp.TheVariants as op
 use Rattle.c_tree.specs.Tree as tree
-use Rattle.c_tree.specs.Rules.{labels_of}
 use Rattle.c_tree.specs.Makers as makers
 use Rattle.body_definition.specs.Labels.{labels_of as label_count}
 use Rattle.body_rules.proofs.RulesOfKinds.{plain_kept, Knows, HasSlots, IsWithinCode, same_number, stands_under, shaped, operand_typed}
 use Rattle.body_rules.proofs.RulesOfKinds.{operand_arg, set_slot_passes, slot_takes, jump_if_passes, call_helper_passes, helper_in}
 use Rattle.body_rules.proofs.RulesOfKinds.{select_kept}
-use Rattle.c_tree.proofs.NumberedLabels.{labels-append}
-use Rattle.body_definition.proofs.Heights.{stands_top, stands_occurs}
 use Rattle.c_tree.proofs.TypesInC.{proper_params}
-use Rattle.body_rules.proofs.Common.{◌≡◌, ℕ, zero, suc, ◌+◌, ◌<◌, Bool, true, false, not, ◌&&◌, ◌||◌, List, [], ◌∷◌, ◌++◌, map, reverse, ap}
-use Rattle.body_rules.proofs.Common.{length, drop, if◌then◌else◌, ◌==◌, slice_get, Some, None, codes, Option, bytes_eq, sym, refl, ◌∙◌, N64}
-use Rattle.body_rules.proofs.Common.{subst, append_assoc, arith, or_left, or_right, length-reverse, reverse-append, list_any-append, named}
-use Rattle.body_rules.proofs.Common.{same_Some, AllByRecursion, list_all, list_any, all_append, at_index, sig_number_of, FuncType, ValType}
-use Rattle.body_rules.proofs.Common.{Code, Kind, Otherwise, else_code, end_code, no_else, then_code, Context, Labels, ElseHasType, HasTable}
-use Rattle.body_rules.proofs.Common.{HasType, KindHasType, Stack, Turns, values, are_distinct_numbers, case_value, is_result_type, Name}
-use Rattle.body_rules.proofs.Common.{is_value_type, number_suits, Scope, functions, is_among, bytes_equal, c_result_of, c_type_of, Aim}
-use Rattle.body_rules.proofs.Common.{c_func_type, is_indirect, is_return, behind, branch_if, branch_table, call_element, call_named, emit}
-use Rattle.body_rules.proofs.Common.{call_indirect_stmts, call_stmts, case_label, cases_from, emit_else, emit_kind, exit_label, exit_of}
-use Rattle.body_rules.proofs.Common.{if_aim, if_stmts, is_straight, jump, jump_over, label_if, moving_case, moving_cases, operands_from}
-use Rattle.body_rules.proofs.Common.{result_slot, any_in, any_in_else, any_inside, falls, labels_in, targets, targets_else, targets_in}
-use Rattle.body_rules.proofs.Common.{element_name, label_name, callee, table_arg, Setting, jump_if, operand, plain_stmts, set_slot, after}
-use Rattle.body_rules.proofs.Common.{ends, occurs, occurs_in, occurs_in_else, stands, under, zero-add, one_moves}
 use Rattle.c_helpers.specs.declared.operation.Helper.TheVariants as helper
 use Rattle.body_rules.proofs.Rules.{Passes, AreArgs, TakesResult, call_passes_as, through_passes, switch_passes, goto_passes, label_passes}
 use Rattle.body_rules.proofs.Rules.{null_passes, n32_typed, n64_typed, value_arg}
@@ -98,10 +95,6 @@ under_params : (params low : Stack) → under (length params) (reverse params ++
 under_params params low = ap (λ n. length (drop n (reverse params ++ low))) (sym (length-reverse params))
     ∙ ap length (drop_all (reverse params) low)
 
-values_reverse : (t : Option ValType) (low : Stack) → reverse (values t) ++ low ≡ values t ++ low
-values_reverse None low = refl
-values_reverse (Some t) low = refl
-
 -- ---- types of calls
 
 pub value_types : (params : List ValType) → list_all is_value_type (map c_type_of params) ≡ true
@@ -144,6 +137,10 @@ module _ (s : Scope) (c : Setting) (whole : Code) (slots : ValType → ℕ → B
   abbrev pub Here : List tree.Stmt → Type 0
   Here stmts = Present s.body.stmts stmts
 
+  -- they keep the rules where their labels are the body's
+  abbrev pub Passing : List tree.Stmt → Type 0
+  Passing stmts = Here stmts → All stmts
+
   abbrev pub There : ℕ → Type 0
   There l = is_among (label_name l) (labels_of s.body.stmts) ≡ true
 
@@ -179,12 +176,10 @@ module _ (s : Scope) (c : Setting) (whole : Code) (slots : ValType → ℕ → B
   top_is (Some u) low has t e = subst (λ t. slots t (length low) ≡ true) (same_Some u t e) (has u (length low) (stands_top u low))
 
   pub branch_if_passes : (types : Stack) (l : ℕ) (aim : Aim) → slots I32 (length types) ≡ true → There aim.label → All (jump aim types)
-      → Here (branch_if types l aim) → All (branch_if types l aim)
-  branch_if_passes types l aim has there jumps here = by (is_straight aim types) here
+      → Passing (branch_if types l aim)
+  branch_if_passes types l aim has there jumps = by (is_straight aim types)
     where
-      by : (b : Bool) → Here (if b then jump_if op.Ne (length types) aim.label ∷ [] else jump_if op.Eq (length types) l ∷
-          (jump aim types ++ tree.Label (label_name l) ∷ []))
-          → All (if b then jump_if op.Ne (length types) aim.label ∷ [] else jump_if op.Eq (length types) l ∷
+      by : (b : Bool) → Passing (if b then jump_if op.Ne (length types) aim.label ∷ [] else jump_if op.Eq (length types) l ∷
           (jump aim types ++ tree.Label (label_name l) ∷ []))
       by true h = (jump_if_passes s c whole slots k op.Ne (length types) aim.label refl has there, tt)
       by false h = (
@@ -216,8 +211,7 @@ module _ (s : Scope) (c : Setting) (whole : Code) (slots : ValType → ℕ → B
   aim_at (a ∷ aims) v (suc i) e = aim_at aims v i e
 
   aim_jumps : (aim : Aim) (v : Option ValType) (is_named : Bool) (types : Stack) → IsAim s slots is_named aim → aim.value ≡ v
-      → TopIs v types → is_named ≡ true
-      → All (jump aim types)
+      → TopIs v types → is_named ≡ true → All (jump aim types)
   aim_jumps aim v is_named types is e top named_here = jump_passes aim types (is.there named_here)
       (λ t f. (is.slot_is t f, top t (sym e ∙ f)))
 
@@ -272,10 +266,8 @@ module _ (s : Scope) (c : Setting) (whole : Code) (slots : ValType → ℕ → B
       (right_present s.body.stmts (if_aim (slice_get aims i) (moving_case types l)) (moving_cases aims types (suc l) ks) here))
 
   pub branch_table_passes : (aims : List Aim) (v : Option ValType) (is_named : ℕ → Bool) (types : Stack) (l : ℕ) (labels : List ℕ)
-      (default : ℕ)
-      → slots I32 (length types) ≡ true → AreAims s slots aims is_named → AreTyped aims v (labels ++ default ∷ [])
-      → AreNamed is_named (labels ++ default ∷ []) → TopIs v types
-      → Here (branch_table aims types l labels default) → All (branch_table aims types l labels default)
+      (default : ℕ) → slots I32 (length types) ≡ true → AreAims s slots aims is_named → AreTyped aims v (labels ++ default ∷ [])
+      → AreNamed is_named (labels ++ default ∷ []) → TopIs v types → Passing (branch_table aims types l labels default)
   branch_table_passes aims v is_named types l labels default has are typed named_are top here = (
     switch_passes s (operand I32 (length types)) (cases_from aims types 0 l labels)
         (case_label types (length labels + l) (slice_get aims default))
@@ -318,8 +310,7 @@ module _ (s : Scope) (c : Setting) (whole : Code) (slots : ValType → ℕ → B
       let found : at_index c.context.funcs x ≡ Some ty = rw e refl in
       subst (λ o. All (elim o [
         | None ↦ []
-        | Some found_ty ↦ call_named (callee c.named x) found_ty
-            (reverse ty.params ++ low)
+        | Some found_ty ↦ call_named (callee c.named x) found_ty (reverse ty.params ++ low)
       ])) (sym found)
       (by (callee c.named x) (λ name f. k.callees x ty name found f))
     where
@@ -382,8 +373,10 @@ module _ (s : Scope) (c : Setting) (whole : Code) (slots : ValType → ℕ → B
   below_top : (types : Stack) → HasSlots slots (I32 ∷ types) → HasSlots slots types
   below_top types has t h e = has t h (stands_under t I32 h types e)
 
-  values_have : (v : Option ValType) (low : Stack) → HasSlots slots (reverse (values v) ++ low) → HasSlots slots (values v ++ low)
-  values_have v low has = subst (HasSlots slots) (values_reverse v low) has
+  -- a value that a branch carries stands on top
+  top_of : (v : Option ValType) (low : Stack) → HasSlots slots (reverse (values v) ++ low) → TopIs v (reverse (values v) ++ low)
+  top_of None low has = top_is None low has
+  top_of (Some t) low has = top_is (Some t) low has
 
   abbrev Inside : Kind → Type 0
   Inside kind = (test : Kind → Bool) → any_inside test kind ≡ true → any_in test whole ≡ true
@@ -401,39 +394,33 @@ module _ (s : Scope) (c : Setting) (whole : Code) (slots : ValType → ℕ → B
   labels_at aims = map (λ (a : Aim). a.value) aims
 
   return_passes_on : (v : Option ValType) (own base rest : Stack) → own ≡ reverse (values v) ++ rest → v ≡ c.context.result
-      → There exit_label
-      → HasSlots slots (own ++ base) → All (jump (exit_of c.context.result) (own ++ base))
+      → There exit_label → HasSlots slots (own ++ base) → All (jump (exit_of c.context.result) (own ++ base))
   return_passes_on v own base rest e same there = taken (λ types. HasSlots slots types → All (jump (exit_of c.context.result) types))
       (values v) own base rest e
       (λ low has. jump_passes (exit_of c.context.result) (reverse (values v) ++ low) there
-      (λ t f. (k.result_slot t f, subst (TopIs v) (sym (values_reverse v low)) (top_is v low (values_have v low has)) t (same ∙ f))))
+      (λ t f. (k.result_slot t f, top_of v low has t (same ∙ f))))
 
   br_passes : (aims : List Aim) (label : ℕ) (is_named : ℕ → Bool) (v : Option ValType) (own base rest : Stack)
-      → slice_get (labels_at aims) label ≡ Some v
-      → own ≡ reverse (values v) ++ rest → AreAims s slots aims is_named → is_named label ≡ true
+      → slice_get (labels_at aims) label ≡ Some v → own ≡ reverse (values v) ++ rest → AreAims s slots aims is_named → is_named label ≡ true
       → HasSlots slots (own ++ base) → All (if_aim (slice_get aims label) (λ aim. jump aim (own ++ base)))
   br_passes aims label is_named v own base rest found e are here has =
       let aim = aim_at aims v label found in
       subst (λ o. All (if_aim o (λ a. jump a (own ++ base)))) (sym aim.1)
       (taken (λ types. HasSlots slots types → All (jump aim.0 types)) (values v) own base rest e
-      (λ low have. aim_jumps aim.0 v (is_named label) (reverse (values v) ++ low) (are label aim.0 aim.1) aim.2
-      (subst (TopIs v) (sym (values_reverse v low)) (top_is v low (values_have v low have))) here)
+      (λ low have. aim_jumps aim.0 v (is_named label) (reverse (values v) ++ low) (are label aim.0 aim.1) aim.2 (top_of v low have) here)
       has)
 
   br_if_passes : (aims : List Aim) (label l : ℕ) (is_named : ℕ → Bool) (v : Option ValType) (own base rest : Stack)
       → slice_get (labels_at aims) label ≡ Some v
       → own ≡ reverse (values v ++ I32 ∷ []) ++ rest → AreAims s slots aims is_named → is_named label ≡ true
-      → HasSlots slots (own ++ base) → Here (if_aim (slice_get aims label) (branch_if (drop 1 (own ++ base)) l))
-      → All (if_aim (slice_get aims label) (branch_if (drop 1 (own ++ base)) l))
+      → HasSlots slots (own ++ base) → Passing (if_aim (slice_get aims label) (branch_if (drop 1 (own ++ base)) l))
   br_if_passes aims label l is_named v own base rest found e are here =
       let aim = aim_at aims v label found in
-      taken (λ types. HasSlots slots types → Here (if_aim (slice_get aims label) (branch_if (drop 1 types) l))
-      → All (if_aim (slice_get aims label) (branch_if (drop 1 types) l)))
+      taken (λ types. HasSlots slots types → Passing (if_aim (slice_get aims label) (branch_if (drop 1 types) l)))
       (values v ++ I32 ∷ []) own base rest e
-      (λ low. subst (λ types. HasSlots slots types → Here (if_aim (slice_get aims label) (branch_if (drop 1 types) l))
-      → All (if_aim (slice_get aims label) (branch_if (drop 1 types) l)))
+      (λ low. subst (λ types. HasSlots slots types → Passing (if_aim (slice_get aims label) (branch_if (drop 1 types) l)))
       (sym (value_and_i32 v low))
-      (λ have. subst (λ o. Here (if_aim o (branch_if (values v ++ low) l)) → All (if_aim o (branch_if (values v ++ low) l))) (sym aim.1)
+      (λ have. subst (λ o. Passing (if_aim o (branch_if (values v ++ low) l))) (sym aim.1)
       (branch_if_passes (values v ++ low) l aim.0 (have I32 _ (stands_top I32 (values v ++ low))) ((are label aim.0 aim.1).there here)
       (aim_jumps aim.0 v (is_named label) (values v ++ low) (are label aim.0 aim.1) aim.2
       (top_is v low (below_top (values v ++ low) have)) here))))
@@ -441,14 +428,11 @@ module _ (s : Scope) (c : Setting) (whole : Code) (slots : ValType → ℕ → B
   br_table_passes : (aims : List Aim) (labels : List ℕ) (default l : ℕ) (is_named : ℕ → Bool) (v : Option ValType) (own base rest : Stack)
       → AreTyped aims v (labels ++ default ∷ []) → AreNamed is_named (labels ++ default ∷ [])
       → own ≡ reverse (values v ++ I32 ∷ []) ++ rest → AreAims s slots aims is_named
-      → HasSlots slots (own ++ base) → Here (branch_table aims (drop 1 (own ++ base)) l labels default)
-      → All (branch_table aims (drop 1 (own ++ base)) l labels default)
+      → HasSlots slots (own ++ base) → Passing (branch_table aims (drop 1 (own ++ base)) l labels default)
   br_table_passes aims labels default l is_named v own base rest typed named_are e are =
-      taken (λ types. HasSlots slots types → Here (branch_table aims (drop 1 types) l labels default)
-      → All (branch_table aims (drop 1 types) l labels default))
+      taken (λ types. HasSlots slots types → Passing (branch_table aims (drop 1 types) l labels default))
       (values v ++ I32 ∷ []) own base rest e
-      (λ low. subst (λ types. HasSlots slots types → Here (branch_table aims (drop 1 types) l labels default)
-      → All (branch_table aims (drop 1 types) l labels default))
+      (λ low. subst (λ types. HasSlots slots types → Passing (branch_table aims (drop 1 types) l labels default))
       (sym (value_and_i32 v low))
       (λ have. branch_table_passes aims v is_named (values v ++ low) l labels default
       (have I32 _ (stands_top I32 (values v ++ low))) are typed named_are
@@ -472,16 +456,14 @@ module _ (s : Scope) (c : Setting) (whole : Code) (slots : ValType → ℕ → B
 
   -- the statements of an `if`, over what its branches are
   if_kept : (otherwise : Otherwise) (height l : ℕ) (goes_on is_named : Bool) (first second : List tree.Stmt) → slots I32 height ≡ true
-      → Here (if_stmts otherwise height l goes_on is_named first second)
-      → (Here first → All first) → (Here second → All second)
-      → All (if_stmts otherwise height l goes_on is_named first second)
-  if_kept no_else height l goes_on is_named first second has here one two = (
+      → Passing first → Passing second → Passing (if_stmts otherwise height l goes_on is_named first second)
+  if_kept no_else height l goes_on is_named first second has one two here = (
     jump_if_passes s c whole slots k op.Eq height (suc l) refl has
         (first_present s.body.stmts (label_name (suc l)) [] (right_present s.body.stmts first (tree.Label (label_name (suc l)) ∷ []) here)),
     all_append (Passes s) first (tree.Label (label_name (suc l)) ∷ [])
         (one (left_present s.body.stmts first (tree.Label (label_name (suc l)) ∷ []) here)) (label_passes s (label_name (suc l)) refl, tt),
   )
-  if_kept (else_code place code) height l goes_on is_named first second has here one two =
+  if_kept (else_code place code) height l goes_on is_named first second has one two here =
       let b = s.body.stmts in
       let end = label_if (goes_on || is_named) (suc l) in
       let from_label = tree.Label (label_name l) ∷ (second ++ end) in
@@ -547,7 +529,7 @@ module _ (s : Scope) (c : Setting) (whole : Code) (slots : ValType → ℕ → B
     mutual
       pub code_passes : (aims : List Aim) (l : ℕ) (own outs base : Stack) (code : Code) → HasType c.context (labels_at aims) code own outs
           → AreAims s slots aims (λ i. targets i code) → Occur (own ++ base) code → CodeInside code
-          → Here (emit c aims (own ++ base) l code) → All (emit c aims (own ++ base) l code)
+          → Passing (emit c aims (own ++ base) l code)
       code_passes aims l own outs base end_code typed are occur inside here = tt
       code_passes aims l own outs base (then_code place kind code) typed are occur inside here =
           let types : Stack = own ++ base in
@@ -569,7 +551,7 @@ module _ (s : Scope) (c : Setting) (whole : Code) (slots : ValType → ℕ → B
           (left_present s.body.stmts (emit_kind c aims types l kind) (behind (ends kind) rest) here))
           (continued (ends kind) rest (λ e.
           let same = after_is c.context (labels_at aims) kind own typed.0 base typed.1 e in
-          subst (λ ts. Here (emit c aims ts (label_count kind + l) code) → All (emit c aims ts (label_count kind + l) code)) (sym same)
+          subst (λ ts. Passing (emit c aims ts (label_count kind + l) code)) (sym same)
           (code_passes aims (label_count kind + l) typed.0 outs base code typed.2
           (fewer_aims s slots aims (λ i. targets i (then_code place kind code)) (λ i. targets i code)
           (λ i t. second (targets_in i kind) (ends kind) (targets i code) e t) are)
@@ -582,8 +564,7 @@ module _ (s : Scope) (c : Setting) (whole : Code) (slots : ValType → ℕ → B
           → KindHasType c.context (labels_at aims) kind own outs
           → AreAims s slots aims (λ i. targets_in i kind) → HasSlots slots (own ++ base)
           → (ends kind ≡ false → HasSlots slots (outs ++ base))
-          → Occurring (own ++ base) kind → IsWithinCode kind whole → Inside kind
-          → Here (emit_kind c aims (own ++ base) l kind) → All (emit_kind c aims (own ++ base) l kind)
+          → Occurring (own ++ base) kind → IsWithinCode kind whole → Inside kind → Passing (emit_kind c aims (own ++ base) l kind)
       kind_passes aims l own outs base (wasm.Block t code end_place) typed are below next occur within inside here =
           let inner : Aim = record { label = l; height = length (own ++ base); value = t } in
           let stmts : List tree.Stmt = emit c (inner ∷ aims) (own ++ base) (suc l) code in
@@ -614,8 +595,7 @@ module _ (s : Scope) (c : Setting) (whole : Code) (slots : ValType → ℕ → B
           occur inside (right_present s.body.stmts begun stmts here))
       kind_passes aims l own outs base (wasm.If t code otherwise end_place) typed are below next occur within inside here =
           shaped (λ types os. HasSlots slots types → HasSlots slots os → Occurring types (wasm.If t code otherwise end_place)
-          → Here (emit_kind c aims types l (wasm.If t code otherwise end_place))
-          → All (emit_kind c aims types l (wasm.If t code otherwise end_place)))
+          → Passing (emit_kind c aims types l (wasm.If t code otherwise end_place)))
           (I32 ∷ []) (values t) own outs base typed.2
           (λ low have behind_it occurs_there present.
           let inner : Aim = record { label = suc l; height = length low; value = t } in
@@ -627,7 +607,7 @@ module _ (s : Scope) (c : Setting) (whole : Code) (slots : ValType → ℕ → B
             slot_is = values_slot t low behind_it;
           }
           in
-          if_kept otherwise (length low) l (falls code) is_named first other (have I32 (length low) (stands_top I32 low)) present
+          if_kept otherwise (length low) l (falls code) is_named first other (have I32 (length low) (stands_top I32 low))
           (code_passes (inner ∷ aims) (suc (suc l)) [] (values t) low code typed.0
           (inner_aims s slots inner aims (λ i. targets_in i (wasm.If t code otherwise end_place)) (λ i. targets i code)
           (inner_is (targets 0 code) (λ e. or_left (targets 0 code) _ e)) (λ i e. or_left (targets (suc i) code) _ e) are)
@@ -637,7 +617,7 @@ module _ (s : Scope) (c : Setting) (whole : Code) (slots : ValType → ℕ → B
           (inner_aims s slots inner aims (λ i. targets_in i (wasm.If t code otherwise end_place)) (λ i. targets_else i otherwise)
           (inner_is (targets_else 0 otherwise) (λ e. or_right (targets 0 code) _ e)) (λ i e. or_right (targets (suc i) code) _ e) are)
           (λ u h e. occurs_there u h (or_right (occurs u h c.context low code) _ e))
-          (λ test e. inside test (or_right (any_in test code) _ e))))
+          (λ test e. inside test (or_right (any_in test code) _ e))) present)
           below (next refl) occur here
       kind_passes aims l own outs base (wasm.Br label) typed are below next occur within inside here =
           br_passes aims label (λ i. targets_in i (wasm.Br label)) typed.0 own base typed.2.0 typed.1 typed.2.1 are
@@ -663,8 +643,7 @@ module _ (s : Scope) (c : Setting) (whole : Code) (slots : ValType → ℕ → B
           → All (call_indirect_stmts c (drop 1 types) x))
           (sym (params_and_i32 typed.0.params low)) (call_indirect_kept x typed.0 low typed.1 typed.2 within)) below (next refl)
       kind_passes aims l own outs base wasm.Select typed are below next occur within inside here =
-          shaped (λ types os. HasSlots slots types → HasSlots slots os → Here (plain_stmts c types l wasm.Select)
-          → All (plain_stmts c types l wasm.Select))
+          shaped (λ types os. HasSlots slots types → HasSlots slots os → Passing (plain_stmts c types l wasm.Select))
           (typed.0 ∷ typed.0 ∷ I32 ∷ []) (typed.0 ∷ []) own outs base typed.1
           (λ low have behind_it present. select_kept s c whole slots k typed.0 l low
           (first_present s.body.stmts (label_name l) [] present) have behind_it)
@@ -673,11 +652,10 @@ module _ (s : Scope) (c : Setting) (whole : Code) (slots : ValType → ℕ → B
           plain_kept s c whole slots k kind (labels_at aims) l own outs base refl typed within below (next refl)
 
       pub else_passes : (aims : List Aim) (l : ℕ) (t : Option ValType) (base : Stack) (otherwise : Otherwise)
-          → ElseHasType c.context (labels_at aims) otherwise t
-          → AreAims s slots aims (λ i. targets_else i otherwise)
+          → ElseHasType c.context (labels_at aims) otherwise t → AreAims s slots aims (λ i. targets_else i otherwise)
           → ((u : ValType) (h : ℕ) → occurs_in_else u h c.context base otherwise ≡ true → slots u h ≡ true)
           → ((test : Kind → Bool) → any_in_else test otherwise ≡ true → any_in test whole ≡ true)
-          → Here (emit_else c aims base l otherwise) → All (emit_else c aims base l otherwise)
+          → Passing (emit_else c aims base l otherwise)
       else_passes aims l t base no_else typed are occur inside here = tt
       else_passes aims l t base (else_code place code) typed are occur inside here =
           code_passes aims l [] (values t) base code typed are occur inside here

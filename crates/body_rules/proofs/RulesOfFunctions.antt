@@ -1,16 +1,14 @@
 -- A function's body keeps the rules on statements where each of its statements passes them, its labels are distinct
 -- and its last statement ends it. And lists: what holds at each place of a list holds of its numbered items.
-use Rattle.body_rules.proofs.Common.{◌≡◌, ℕ, suc, ◌+◌, ◌-◌, Bool, true, false, not, ◌&&◌, ◌||◌, List, [], ◌∷◌, ◌++◌, map, length, take}
-use Rattle.body_rules.proofs.Common.{◌==◌, Some, None, Option, zip, flat_map, bytes_eq, sym, refl, ap, ◌∙◌, subst, append_assoc, arith}
-use Rattle.body_rules.proofs.Common.{length-append, AllByRecursion, list_all, range_with_len, BrokenAt, broken_in_body, broken_in_stmt}
-use Rattle.body_rules.proofs.Common.{broken_of, StmtPlace, are_distinct, ends_body, labels_named, Name, Scope, is_among, or-true}
-use Rattle.body_rules.proofs.Common.{right_fails, unlike_back}
+use Rattle.body_rules.proofs.Common.{both_hold, not-true, or_parts, ◌≡◌, ℕ, suc, ◌+◌, ◌-◌, Bool, true, false, not, ◌&&◌, List, [], ap}
+use Rattle.body_rules.proofs.Common.{◌∷◌, ◌++◌, map, length, take, ◌==◌, Some, None, Option, zip, flat_map, bytes_eq, sym, refl, ◌∙◌, subst}
+use Rattle.body_rules.proofs.Common.{append_assoc, arith, length-append, AllByRecursion, list_all, range_with_len, BrokenAt, broken_in_body}
+use Rattle.body_rules.proofs.Common.{broken_in_stmt, broken_of, StmtPlace, are_distinct, ends_body, labels_named, Name, Scope, is_among}
+use Rattle.body_rules.proofs.Common.{or-true, unlike_back, take_front, stmt_rules, labels_of, label_of, if_any, earlier_stmts}
+use Rattle.body_rules.proofs.Common.{labels_are_there, last_ends_body, labels-append}
 use Rattle.w2c_base.specs.Lookup.{numbered}
-use Rattle.w2c_base.proofs.Places.{take_front}
 use Rattle.c_tree.specs.Tree as tree
-use Rattle.c_tree.specs.Rules.{stmt_rules, labels_of, label_of, if_any, earlier_stmts, labels_are_there, last_ends_body}
 use Rattle.body_rules.proofs.Rules.{Passes}
-use Rattle.c_tree.proofs.NumberedLabels.{labels-append}
 
 -- ---- lists
 
@@ -45,12 +43,7 @@ all_at P (y ∷ before) x behind all = all_at P before x behind all.1
 pub none_broken : {P : Type 0} (rules : List (ℕ × (P → Bool))) (p : P) → list_all (λ (r : ℕ × (P → Bool)). r.1 p) rules ≡ true
     → broken_of rules p ≡ []
 none_broken [] p all = refl
-none_broken {P = P} (r ∷ rules) p all = by (r.1 p) refl all (λ more. none_broken rules p more)
-  where
-    by : (b : Bool) → r.1 p ≡ b → b && list_all (λ (r : ℕ × (P → Bool)). r.1 p) rules ≡ true
-        → (list_all (λ (r : ℕ × (P → Bool)). r.1 p) rules ≡ true → broken_of rules p ≡ []) → broken_of (r ∷ rules) p ≡ []
-    by true e more rest = rw e (rest more)
-    by false e more rest = absurd cc
+none_broken (r ∷ rules) p all = let h = both_hold (r.1 p) _ all in rw h.0 (none_broken rules p h.1)
 
 -- ---- names that differ
 
@@ -58,21 +51,14 @@ none_broken {P = P} (r ∷ rules) p all = by (r.1 p) refl all (λ more. none_bro
 distinct_before : (before : List Name) (name : Name) (behind : List Name) → are_distinct (before ++ name ∷ behind) ≡ true
     → is_among name before ≡ false
 distinct_before [] name behind e = refl
-distinct_before (other ∷ before) name behind e = by (is_among other (before ++ name ∷ behind)) refl e
-    (λ rest. distinct_before before name behind rest)
+distinct_before (other ∷ before) name behind e =
+    let h = both_hold (not (is_among other (before ++ name ∷ behind))) _ e in
+    rw (unlike_back other name (apart before (not-true (is_among other (before ++ name ∷ behind)) h.0)))
+    (distinct_before before name behind h.1)
   where
     apart : (before : List Name) → is_among other (before ++ name ∷ behind) ≡ false → bytes_eq other name ≡ false
-    apart [] f = left (bytes_eq other name) (is_among other behind) f
-      where
-        left : (a b : Bool) → a || b ≡ false → a ≡ false
-        left true b f = absurd cc
-        left false b f = refl
-    apart (x ∷ before) f = apart before (right_fails (bytes_eq other x) (is_among other (before ++ name ∷ behind)) f)
-
-    by : (b : Bool) → is_among other (before ++ name ∷ behind) ≡ b → not b && are_distinct (before ++ name ∷ behind) ≡ true
-        → (are_distinct (before ++ name ∷ behind) ≡ true → is_among name before ≡ false) → is_among name (other ∷ before) ≡ false
-    by true f g rest = absurd cc
-    by false f g rest = rw (unlike_back other name (apart before f)) (rest g)
+    apart [] f = (or_parts (bytes_eq other name) (is_among other behind) f).0
+    apart (x ∷ before) f = apart before (or_parts (bytes_eq other x) (is_among other (before ++ name ∷ behind)) f).1
 
 -- ---- statements
 
@@ -101,8 +87,7 @@ label_first before behind stmt e = by (label_of stmt) refl
         (sym (ap are_distinct (labels-append before (stmt ∷ behind) ∙ ap (λ names. labels_of before ++ names) (rw f refl))) ∙ e))
 
 last_is : (s : Scope) (before behind : List tree.Stmt) (stmt : tree.Stmt) → s.body.stmts ≡ before ++ stmt ∷ behind
-    → ends_well s.body.stmts ≡ true
-    → last_ends_body (place s (length before + 1) stmt) ≡ true
+    → ends_well s.body.stmts ≡ true → last_ends_body (place s (length before + 1) stmt) ≡ true
 last_is s before [] stmt e ends = rw (sym (last_ends before stmt) ∙ (sym (ap ends_well e) ∙ ends))
     (or-true (not (length before + 1 == length s.body.stmts)))
 last_is s before (next ∷ behind) stmt e ends = rw (shorter (length before) (length s.body.stmts) (length behind)
@@ -136,8 +121,7 @@ stmt_keeps s item before behind stmt e p distinct ends =
 pub body_keeps : (unit : List tree.Item) (item : ℕ) (declared : List tree.Item) (f : tree.Func) (b : tree.Body) → f.body ≡ Some b
     → take (item + 1) unit ≡ declared
     → AllByRecursion (Passes (record { declared = declared; func = f; body = b })) b.stmts → are_distinct (labels_of b.stmts) ≡ true
-    → ends_well b.stmts ≡ true
-    → broken_in_body unit item (tree.Function f) ≡ []
+    → ends_well b.stmts ≡ true → broken_in_body unit item (tree.Function f) ≡ []
 body_keeps unit item declared f b e d all distinct ends =
     subst (λ o. broken o ≡ []) (sym e)
     (subst (λ ds. flat_map (broken_in_stmt (scope ds) item) (numbered b.stmts) ≡ []) (sym d)

@@ -1,18 +1,17 @@
 -- The statements of instructions that hold no code and do not jump keep the rules on statements, in a scope that
 -- knows what the body needs.
-use Rattle.body_rules.proofs.Common.{KindHasType, Labels, binary_typing, compare_typing, eqz_typing, extend_typing, load_typing}
-use Rattle.body_rules.proofs.Common.{store_typing, unary_typing, ◌≡◌, ℕ, suc, ◌+◌, Bool, true, false, ◌&&◌, List, [], ◌∷◌, ◌++◌, reverse}
-use Rattle.body_rules.proofs.Common.{length, ◌==◌, slice_get, Some, None, codes, Option, sym, refl, ap, ◌∙◌, subst, append_assoc, arith}
-use Rattle.body_rules.proofs.Common.{AllByRecursion, at_index, named, bits, equal_type, FuncType, ValType, extend_type, load_access}
-use Rattle.body_rules.proofs.Common.{store_access, of_types, Code, Kind, BinaryOp, CompareOp, ExtendOp, LoadOp, StoreOp, UnaryOp, HasMemory}
-use Rattle.body_rules.proofs.Common.{HasTable, Stack, Turns, TurnsAsTabled, table_type, is_void, proper_types, Name, Scope, functions}
-use Rattle.body_rules.proofs.Common.{is_among, is_comparison, is_number_type, is_object_type, variables, COp, CType, N32, pattern_of}
-use Rattle.body_rules.proofs.Common.{bytes_equal, c_type_of, helper_type, helper_of, number, Helper, NumOp, c_func_type, has_element}
-use Rattle.body_rules.proofs.Common.{is_return, exit_label, any_in, element_name, label_name, local_name, slot, calls_helper, callee}
-use Rattle.body_rules.proofs.Common.{global_value, memory_arg, set_global, table_arg, Setting, binary_way, by_way, bytes_stmt, call_helper}
-use Rattle.body_rules.proofs.Common.{compare_way, extend_helper, helper_for, jump_if, operand, plain_stmts, set_slot, unary_helper, stands}
-use Rattle.body_rules.proofs.Common.{Way, ByHelper, ByOperator, ByShift, or-true, one-add}
-use Rattle.w2c_base.specs.declared.value.ValType.TheVariants.{I32, I64}
+use Rattle.body_rules.proofs.Common.{KindHasType, Labels, binary_typing, compare_typing, eqz_typing, extend_typing, load_typing, ◌≡◌, ℕ, []}
+use Rattle.body_rules.proofs.Common.{store_typing, unary_typing, suc, ◌+◌, Bool, true, false, ◌&&◌, List, ◌∷◌, ◌++◌, reverse, length, ◌==◌}
+use Rattle.body_rules.proofs.Common.{slice_get, Some, None, codes, Option, sym, refl, ap, ◌∙◌, subst, append_assoc, arith, AllByRecursion}
+use Rattle.body_rules.proofs.Common.{at_index, named, bits, equal_type, FuncType, ValType, extend_type, load_access, store_access, of_types}
+use Rattle.body_rules.proofs.Common.{Code, Kind, BinaryOp, CompareOp, ExtendOp, LoadOp, StoreOp, UnaryOp, HasMemory, HasTable, Stack, Turns}
+use Rattle.body_rules.proofs.Common.{TurnsAsTabled, table_type, is_void, proper_types, Name, Scope, functions, is_among, is_comparison, COp}
+use Rattle.body_rules.proofs.Common.{is_number_type, is_object_type, variables, CType, N32, pattern_of, bytes_equal, c_type_of, helper_type}
+use Rattle.body_rules.proofs.Common.{helper_of, number, Helper, NumOp, c_func_type, has_element, is_return, exit_label, any_in, label_name}
+use Rattle.body_rules.proofs.Common.{element_name, local_name, slot, calls_helper, callee, global_value, memory_arg, set_global, table_arg}
+use Rattle.body_rules.proofs.Common.{Setting, binary_way, by_way, bytes_stmt, call_helper, compare_way, extend_helper, helper_for, jump_if}
+use Rattle.body_rules.proofs.Common.{operand, plain_stmts, set_slot, unary_helper, stands, Way, ByHelper, ByOperator, ByShift, or-true, I32}
+use Rattle.body_rules.proofs.Common.{one-add, I64, labels_of, stands_top}
 use Rattle.wasm_tree.specs.Instructions as wasm
 use Rattle.wasm_tree.specs.declared.operators.UnaryOp.TheVariants as unary_op
 use Rattle.wasm_tree.specs.declared.operators.BinaryOp.TheVariants as binary_op
@@ -24,8 +23,6 @@ use Rattle.c_tree.specs.declared.tree.CType.TheVariants as type
 use Rattle.c_tree.specs.declared.tree.COp.TheVariants as op
 use Rattle.c_tree.specs.Tree as tree
 use Rattle.c_tree.specs.Scope as scope
-use Rattle.c_tree.specs.Rules.{labels_of}
-use Rattle.body_definition.proofs.Heights.{stands_top}
 use Rattle.c_helpers.specs.declared.operation.NumOp.TheVariants as num
 use Rattle.c_helpers.specs.declared.operation.Helper.TheVariants as helper
 use Rattle.body_rules.proofs.Rules.{Passes, IsTyped, name_typed, n32_typed, n64_typed, op_typed, compare_typed, flag_typed, narrow_typed}
@@ -39,8 +36,7 @@ pub record Knows (s : Scope) (c : Setting) (whole : Code) (slots : ValType → �
   pub global_values : (k : ℕ) (g : ValType × Bool) → slice_get c.context.globals k ≡ Some g
       → IsTyped s (global_value c.named.tree k) (scope.HasType (c_type_of g.0))
   pub global_sets : (k : ℕ) (g : ValType × Bool) (e : tree.Expr) → slice_get c.context.globals k ≡ Some g
-      → IsTyped s e (scope.HasType (c_type_of g.0))
-      → Passes s (set_global c.named.tree k e)
+      → IsTyped s e (scope.HasType (c_type_of g.0)) → Passes s (set_global c.named.tree k e)
   pub memory : HasMemory c.context → IsArg s type.PtrMem (memory_arg c.named.tree)
   pub table : HasTable c.context → IsArg s type.PtrTab (table_arg c.named.tree)
   pub traps : named (codes "w2c_trap") (functions s) ≡ Some (record { params = type.U32 ∷ []; result = type.Void })
@@ -122,8 +118,7 @@ extend_helper_type : (o : ExtendOp) → helper_type (helper.Num (extend_helper o
 extend_helper_type extension_op.I32Extend8S = refl
 extend_helper_type _ = refl
 
-load_type : (o : LoadOp) → helper_type (helper.Load o) ≡ signature (c_type_of (load_access o).ty)
-    (type.PtrMem ∷ type.U32 ∷ type.U32 ∷ [])
+load_type : (o : LoadOp) → helper_type (helper.Load o) ≡ signature (c_type_of (load_access o).ty) (type.PtrMem ∷ type.U32 ∷ type.U32 ∷ [])
 load_type load_op.I32Load = refl
 load_type _ = refl
 
@@ -176,16 +171,14 @@ module _ (s : Scope) (c : Setting) (whole : Code) (slots : ValType → ℕ → B
   slot_takes t h e = (k.slots_are t h e, no_object t, no_void t)
 
   pub jump_if_passes : (o : COp) (h l : ℕ) → is_comparison o ≡ true → slots I32 h ≡ true
-      → is_among (label_name l) (labels_of s.body.stmts) ≡ true
-      → Passes s (jump_if o h l)
+      → is_among (label_name l) (labels_of s.body.stmts) ≡ true → Passes s (jump_if o h l)
   jump_if_passes o h l compares is there =
       if_passes s o (operand I32 h) (tree.Number (N32 0)) (label_name l) type.U32 compares refl (operand_typed I32 h is)
       (n32_typed s 0) there
 
   pub call_helper_passes : (target : Option Name) (which : Helper) (args : List tree.Arg) (ty : tree.FuncType) (types : List CType)
       → any_in (calls_helper which) whole ≡ true → helper_type which ≡ ty → proper_types ty.params ≡ types → AreArgs s types args
-      → TakesResult s ty.result target
-      → Passes s (call_helper target which args)
+      → TakesResult s ty.result target → Passes s (call_helper target which args)
   call_helper_passes target which args ty types called typed proper are takes =
       call_passes_as s target (helper_of which).name args ty types (k.helpers which called ∙ ap (λ t. Some t) typed) proper are takes
 

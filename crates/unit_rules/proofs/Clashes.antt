@@ -1,16 +1,12 @@
 -- Items that do not clash with earlier ones of their unit. Where none does, each function is found under its name.
-use Rattle.unit_rules.proofs.Common.{◌≡◌, ℕ, zero, suc, Bool, true, false, not, ◌||◌, ◌≢◌, ◌⊎◌, List, [], ◌∷◌, ◌++◌, map, if◌then◌else◌}
-use Rattle.unit_rules.proofs.Common.{◌==◌, slice_get, Some, flat_map, filter_map, bytes_eq, sym, refl, ap, ◌∙◌, subst, inl, inr, arith}
-use Rattle.unit_rules.proofs.Common.{or_right, not-true, AllByRecursion, list_all, both_hold, all_front, all_weaker, all_append, all_at}
-use Rattle.unit_rules.proofs.Common.{all_from, all_map, named, is_runtime_name, may_both_stand, same_func_type, array_of, func_type_of}
-use Rattle.unit_rules.proofs.Common.{is_among, name_of, bytes_equal, classes_differ, at, funcs_in, class}
+use Rattle.unit_rules.proofs.Common.{◌≡◌, ℕ, zero, suc, Bool, true, false, not, ◌||◌, ◌≢◌, ◌⊎◌, List, [], ◌∷◌, ◌++◌, map, if◌then◌else◌, ap}
+use Rattle.unit_rules.proofs.Common.{◌==◌, slice_get, Some, flat_map, filter_map, bytes_eq, sym, refl, ◌∙◌, subst, inl, inr, arith, all_at}
+use Rattle.unit_rules.proofs.Common.{or_right, not-true, AllByRecursion, list_all, both_hold, all_front, all_weaker, all_append, all_from}
+use Rattle.unit_rules.proofs.Common.{all_map, named, is_runtime_name, may_both_stand, same_func_type, array_of, func_type_of, is_among, at}
+use Rattle.unit_rules.proofs.Common.{name_of, bytes_equal, classes_differ, funcs_in, class, are_alike, func_types_same, AllPairs, AllClass}
 use Rattle.std.specs.Prelude.{⊤}
 use Rattle.body_rules.proofs.RulesOfFunctions.{all_at as all_around}
 use Rattle.c_tree.specs.Tree as tree
-use Rattle.c_tree.specs.Rules.{are_alike}
-use Rattle.c_tree.proofs.SameTypes.{func_types_same}
-use Rattle.unit_definition.proofs.Pairs.{AllPairs}
-use Rattle.unit_definition.proofs.Sections.{AllClass}
 
 -- ---- what is so of the names of items
 
@@ -141,11 +137,6 @@ found_first (tree.Function f) items = rw (bytes_equal f.name) refl
 
 found_behind : (o x : tree.Item) (items : List tree.Item) → MayFollow o x → IsFound items x → IsFound (o ∷ items) x
 found_behind (tree.Array other n bs) (tree.Array name count bytes) items h found = or_right (bytes_eq name other) _ found
-found_behind (tree.Var ty other number) (tree.Array name count bytes) items h found = found
-found_behind (tree.Function g) (tree.Array name count bytes) items h found = found
-found_behind o (tree.Var ty name number) items h found = tt
-found_behind (tree.Array name count bytes) (tree.Function f) items h found = found
-found_behind (tree.Var ty name number) (tree.Function f) items h found = found
 found_behind (tree.Function g) (tree.Function f) items h found = by (bytes_eq g.name f.name) h
   where
     by : (b : Bool) → not b || may_both_stand (tree.Function g) (tree.Function f) ≡ true
@@ -155,6 +146,8 @@ found_behind (tree.Function g) (tree.Function f) items h found = by (bytes_eq g.
         ap Some (func_types_same (func_type_of g) (func_type_of f)
         (both_hold _ (same_func_type (func_type_of g) (func_type_of f)) alike.0).1)
     by false h = found
+found_behind _ (tree.Var ty name number) items h found = tt
+found_behind _ _ items h found = found
 
 found_at : (items : List tree.Item) (i : ℕ) (x : tree.Item) → AllPairs MayFollow items → slice_get items i ≡ Some x → IsFound items x
 found_at [] i x apart at = absurd cc

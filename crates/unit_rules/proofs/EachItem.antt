@@ -5,13 +5,10 @@ use Rattle.unit_rules.proofs.Common.{all_weaker, all_append, all_at, all_flat, a
 use Rattle.unit_rules.proofs.Common.{is_global_import, Import, ImportKind, ImportGlobal, SegmentEntry, Module, global_name, memory_name}
 use Rattle.unit_rules.proofs.Common.{table_name, pointer_name, c_type_of, CType, declared_symbols, firsts, global_imports, import_symbol}
 use Rattle.unit_rules.proofs.Common.{memory_imports, pointer_type, symbol_type, table_imports, data_name, data_of, declaration, IsAccepted}
-use Rattle.c_symbols.specs.Symbols.{declared_type}
+use Rattle.unit_rules.proofs.Common.{declared_type, all_images, all_pass, declarations, global_item, globals, mems, objects, pointer_item}
+use Rattle.unit_rules.proofs.Common.{pointers, tabs, few_globals, few_imports, pointers_are, data_item}
 use Rattle.c_tree.specs.declared.tree.CType.TheVariants as type
 use Rattle.c_tree.specs.Tree as tree
-use Rattle.c_init.proofs.Small.{all_images, all_pass}
-use Rattle.unit_definition.proofs.SectionLists.{declarations, global_item, globals, mems, objects, pointer_item, pointers, tabs}
-use Rattle.unit_definition.proofs.Sections.{few_globals, few_imports, pointers_are}
-use Rattle.unit_definition.specs.Items.{data_item}
 
 -- ---- lists
 

@@ -1,22 +1,17 @@
 -- The exports of an accepted module: their symbols differ, each has its type in the unit, and what they name is there.
 use Rattle.unit_rules.proofs.Common.{◌≡◌, ℕ, zero, suc, Bool, false, List, [], ◌∷◌, ◌++◌, map, is_none, slice_get, Some, None, All, Option}
-use Rattle.unit_rules.proofs.Common.{flat_map, bytes_eq, sym, refl, ap, ◌∙◌, arith, true≢false, list_any-append, bytes_eq-Decides}
-use Rattle.unit_rules.proofs.Common.{AllByRecursion, list_any, all_weaker, get_mapped, all_append, all_at, all_flat, all_from, all_map}
-use Rattle.unit_rules.proofs.Common.{at_index, if_found, named, FuncType, ValType, export_symbol_of-injective, export_symbol_of, SymbolKind}
-use Rattle.unit_rules.proofs.Common.{func_of_import, func_space, func_type_in, global_type_in, type_in, NamedModule, Export, ExportKind}
-use Rattle.unit_rules.proofs.Common.{ExportFunc, ExportGlobal, ExportMemory, ExportTable, FuncEntry, Import, ImportKind, ImportFunc}
-use Rattle.unit_rules.proofs.Common.{ImportGlobal, ImportMemory, ImportTable, Module, duplicate_exports, fault_if, unknown_import_type}
-use Rattle.unit_rules.proofs.Common.{Name, bytes_equal, Typed, export_symbol, export_type, global_kind, global_symbol, import_symbol}
-use Rattle.unit_rules.proofs.Common.{imported_symbols, symbol_type, IsAccepted}
+use Rattle.unit_rules.proofs.Common.{flat_map, bytes_eq, sym, refl, ap, ◌∙◌, arith, true≢false, list_any-append, bytes_eq-Decides, list_any}
+use Rattle.unit_rules.proofs.Common.{AllByRecursion, all_weaker, get_mapped, all_append, all_at, all_flat, all_from, all_map, at_index}
+use Rattle.unit_rules.proofs.Common.{if_found, named, FuncType, ValType, export_symbol_of-injective, export_symbol_of, SymbolKind, type_in}
+use Rattle.unit_rules.proofs.Common.{func_of_import, func_space, func_type_in, global_type_in, NamedModule, Export, ExportKind, ExportFunc}
+use Rattle.unit_rules.proofs.Common.{ExportGlobal, ExportMemory, ExportTable, FuncEntry, Import, ImportKind, ImportFunc, ImportGlobal, Name}
+use Rattle.unit_rules.proofs.Common.{ImportMemory, ImportTable, Module, duplicate_exports, fault_if, unknown_import_type, bytes_equal}
+use Rattle.unit_rules.proofs.Common.{Typed, export_symbol, export_type, global_kind, global_symbol, import_symbol, imported_symbols}
+use Rattle.unit_rules.proofs.Common.{symbol_type, IsAccepted, module_faults, AllPairs, rows_of, each_none, no_fault, no_left, no_right}
+use Rattle.unit_rules.proofs.Common.{there_is, or_parts, by_test}
 use Rattle.w2c_mangle.specs.declared.symbol.SymbolKind.TheVariants as symbol
 use Rattle.wasm_typing.specs.declared.fault.ValidCause.TheVariants as cause
-use Rattle.wasm_typing.specs.ModuleFaults.{module_faults}
 use Rattle.c_tree.specs.Tree as tree
-use Rattle.unit_definition.proofs.Pairs.{AllPairs}
-use Rattle.c_init.proofs.NoFaults.{rows_of}
-use Rattle.c_init.proofs.Small.{each_none, no_fault, no_left, no_right, there_is}
-use Rattle.std.proofs.lemmas.Bool.{or_parts}
-use Rattle.w2c_base.proofs.Tests.{by_test}
 use Rattle.unit_rules.proofs.Clashes.{pairs_weaker}
 
 -- ---- names differ, and so do symbols
@@ -61,8 +56,7 @@ symbol_kind m e = by e.kind
     global None = (symbol.Const, refl)
     global (Some g) = (global_kind g.1, refl)
 
-    by : (kind : ExportKind) → (k : SymbolKind) × (export_symbol m (record e { kind = kind })
-        ≡ export_symbol_of m.name k e.name)
+    by : (kind : ExportKind) → (k : SymbolKind) × (export_symbol m (record e { kind = kind }) ≡ export_symbol_of m.name k e.name)
     by ExportFunc = (symbol.Func, refl)
     by ExportTable = (symbol.Table, refl)
     by ExportMemory = (symbol.Memory, refl)
@@ -104,8 +98,7 @@ import_typed : (m : Module) (i : Import) → unknown_import_type m i ≡ []
     → AllByRecursion (λ x. is_none (type_in m x) ≡ false) (func_of_import i)
 import_typed m i e = by i.kind e
   where
-    by : (kind : ImportKind) → unknown_import_type m (record i { kind = kind }) ≡ []
-        → AllByRecursion (λ x. is_none (type_in m x) ≡ false)
+    by : (kind : ImportKind) → unknown_import_type m (record i { kind = kind }) ≡ [] → AllByRecursion (λ x. is_none (type_in m x) ≡ false)
         (func_of_import (record i { kind = kind }))
     by (ImportFunc x) e = (no_fault (is_none (type_in m x)) i.place cause.UnknownType e, tt)
     by _ e = tt

@@ -1,26 +1,19 @@
 -- The functions of exports: each passes a call on, or gives a pointer to an object, which may be imported.
 use Rattle.unit_rules.proofs.Common.{◌≡◌, ℕ, zero, suc, ◌^◌, ◌≤◌, Bool, true, false, List, [], ◌∷◌, map, length, is_some, is_none, IsSome}
-use Rattle.unit_rules.proofs.Common.{slice_get, Some, None, Option, sym, refl, ap, ◌∙◌, subst, arith, length-append, length-map}
-use Rattle.unit_rules.proofs.Common.{slice_get_within, AllByRecursion, all_at, get_front, named, FuncType, ValType, global_count}
-use Rattle.unit_rules.proofs.Common.{func_space, func_type_in, global_space, imported_global_space, is_global_import, is_memory_import}
-use Rattle.unit_rules.proofs.Common.{is_table_import, memory_space, table_space, NamedModule, Export, ExportKind, ExportFunc, ExportGlobal}
-use Rattle.unit_rules.proofs.Common.{ExportMemory, ExportTable, GlobalEntry, Import, Module, unknown_export, global_name, memory_name}
-use Rattle.unit_rules.proofs.Common.{table_name, is_void, proper_types, Name, is_among, is_object_type, c_params_of, c_type_of, IsName}
-use Rattle.unit_rules.proofs.Common.{CType, callee, accessor_type, c_func_type_if, export_symbol, export_type, global_accessor_type}
-use Rattle.unit_rules.proofs.Common.{global_imports, global_symbol, import_symbol, import_type, memory_imports, pointer_type, table_imports}
-use Rattle.unit_rules.proofs.Common.{at, vars_in, accessor, export_func, passes_on, IsAccepted}
-use Rattle.w2c_base.specs.declared.value.ValType.TheVariants.{I32, I64}
+use Rattle.unit_rules.proofs.Common.{slice_get, Some, None, Option, sym, refl, ap, ◌∙◌, subst, arith, length-append, length-map, all_at, at}
+use Rattle.unit_rules.proofs.Common.{slice_get_within, AllByRecursion, get_front, named, FuncType, ValType, global_count, func_space, Name}
+use Rattle.unit_rules.proofs.Common.{func_type_in, global_space, imported_global_space, is_global_import, is_memory_import, is_table_import}
+use Rattle.unit_rules.proofs.Common.{memory_space, table_space, NamedModule, Export, ExportKind, ExportFunc, ExportGlobal, ExportMemory}
+use Rattle.unit_rules.proofs.Common.{ExportTable, GlobalEntry, Import, Module, unknown_export, global_name, memory_name, table_name, IsName}
+use Rattle.unit_rules.proofs.Common.{is_void, proper_types, is_among, is_object_type, c_params_of, c_type_of, CType, callee, accessor_type}
+use Rattle.unit_rules.proofs.Common.{c_func_type_if, export_symbol, export_type, global_accessor_type, global_imports, global_symbol, I32}
+use Rattle.unit_rules.proofs.Common.{import_symbol, import_type, memory_imports, pointer_type, table_imports, vars_in, accessor, passes_on}
+use Rattle.unit_rules.proofs.Common.{export_func, IsAccepted, I64, pointer_to, rows_of, each_none, no_fault, some_same, imported_global}
+use Rattle.unit_rules.proofs.Common.{own_global, own_memory_is, own_table_is, objects, few_globals}
 use Rattle.wasm_typing.specs.declared.fault.ValidCause.TheVariants as cause
 use Rattle.c_tree.specs.declared.tree.CType.TheVariants as type
 use Rattle.c_tree.specs.Tree as tree
-use Rattle.c_tree.specs.Scope.{pointer_to}
 use Rattle.c_init.proofs.Countable.{few_memories, few_tables}
-use Rattle.c_init.proofs.NoFaults.{rows_of}
-use Rattle.c_init.proofs.Small.{each_none, no_fault, some_same}
-use Rattle.unit_definition.proofs.KnownNames.{imported_global}
-use Rattle.unit_definition.proofs.Knowledge.{own_global, own_memory_is, own_table_is}
-use Rattle.unit_definition.proofs.SectionLists.{objects}
-use Rattle.unit_definition.proofs.Sections.{few_globals}
 use Rattle.unit_rules.proofs.ExportTypes.{HasShape, accessor_is, accessor_shape, object_import_type, passes_shape, pointer_is}
 use Rattle.unit_rules.proofs.ExportTypes.{wrapper_types}
 use Rattle.unit_rules.proofs.KnownFuncs.{kept_among}

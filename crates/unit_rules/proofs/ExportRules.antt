@@ -1,63 +1,32 @@
 -- A function that passes a call on keeps the rules where the function that it calls is declared with its type; and one that gives an
 -- address.
-use Rattle.unit_rules.proofs.Common.{◌≡◌, ℕ, zero, suc, ◌+◌, ◌^◌, ◌<◌, ◌≤◌, true, false, not, List, [], ◌∷◌, ◌++◌, map, length, is_some}
-use Rattle.unit_rules.proofs.Common.{slice_get, Some, None, codes, Option, bytes_eq, sym, refl, ap, ◌∙◌, subst, arith, not-true, map-append}
-use Rattle.unit_rules.proofs.Common.{slice_get_within, AllByRecursion, list_all, range_with_len, both_hold, all_append, test_at, named}
-use Rattle.unit_rules.proofs.Common.{zero_number, are_distinct, is_own_name, is_result_type, is_symbol, is_value_type, is_void, labels_of}
-use Rattle.unit_rules.proofs.Common.{number_suits, proper_params, proper_types, primitives, Name, Scope, is_among, is_object_type}
-use Rattle.unit_rules.proofs.Common.{local_variables, param_variables, variables, CType, bytes_equal, accessor_type, all_true, named_in}
-use Rattle.unit_rules.proofs.Common.{class_lettered, lettered, distinct_joined, range_differ, range_high, Avoid, named_past, AreArgs}
-use Rattle.unit_rules.proofs.Common.{Passes, address_arg, call_passes, name_typed, null_passes, return_none_passes, return_passes}
-use Rattle.unit_rules.proofs.Common.{value_arg, ends_well, no_object, no_void, all_differ, funcs_in, vars_in, Variables, class, args_from}
-use Rattle.unit_rules.proofs.Common.{call_if, external, named_params, param_name, params_from, passes_on, result_name}
+use Rattle.unit_rules.proofs.Common.{return_none_passes, local_variables, param_variables, distinct_joined, AllByRecursion, range_with_len}
+use Rattle.unit_rules.proofs.Common.{is_result_type, is_object_type, class_lettered, is_value_type, proper_params, accessor_type, vars_from}
+use Rattle.unit_rules.proofs.Common.{return_passes, are_distinct, number_suits, proper_types, range_differ, named_params, with_params, true}
+use Rattle.unit_rules.proofs.Common.{zero_number, is_own_name, address_arg, call_passes, null_passes, params_from, result_name, TakesResult}
+use Rattle.unit_rules.proofs.Common.{vars_avoid, vars_named, vars_names, map-append, all_append, primitives, range_high, named_past, length}
+use Rattle.unit_rules.proofs.Common.{name_typed, all_differ, param_name, pointer_to, slice_get, both_hold, is_symbol, labels_of, variables}
+use Rattle.unit_rules.proofs.Common.{value_arg, ends_well, no_object, Variables, args_from, passes_on, all_range, one_moves, not-true, List}
+use Rattle.unit_rules.proofs.Common.{list_all, is_among, all_true, named_in, lettered, funcs_in, external, is_some, test_at, is_void, false}
+use Rattle.unit_rules.proofs.Common.{AreArgs, no_void, vars_in, call_if, Option, Passes, codes, subst, arith, named, Scope, CType, class, ℕ}
+use Rattle.unit_rules.proofs.Common.{◌++◌, Some, None, refl, Name, ◌≡◌, suc, ◌+◌, ◌^◌, ◌<◌, ◌≤◌, not, ◌∷◌, map, sym, ◌∙◌, [], ap}
 use Rattle.c_tree.specs.declared.tree.CType.TheVariants as type
 use Rattle.c_tree.specs.Tree as tree
-use Rattle.unit_definition.proofs.Pairs.{all_range}
 use Rattle.unit_rules.proofs.ItemRules.{IsFunction, own_of, names_of_vars}
 use Rattle.std.proofs.Math.Nat.{zero-add}
-use Rattle.body_rules.proofs.Rules.{TakesResult}
-use Rattle.c_tree.specs.Scope.{pointer_to}
-use Rattle.w2c_base.proofs.Numbers.{one_moves}
 
-abbrev vars_from : ℕ → List CType → Variables
-vars_from k [] = []
-vars_from k (t ∷ types) = (param_name k, t) ∷ vars_from (suc k) types
+-- the parameters as variables
+abbrev param_vars : List CType → Variables
+param_vars types = vars_from param_name (λ (t : CType). t) 0 types
 
-abbrev with_params : List tree.Param → tree.Func
-with_params params = record { is_static = true; result = type.Void; name = []; params = params; body = None }
-
-from_are : (k : ℕ) (types : List CType) → param_variables (with_params (params_from k types)) ≡ vars_from k types
+from_are : (k : ℕ) (types : List CType) → param_variables (with_params (params_from k types))
+    ≡ vars_from param_name (λ (t : CType). t) k types
 from_are k [] = refl
 from_are k (t ∷ types) = ap (λ vars. (param_name k, t) ∷ vars) (from_are (suc k) types)
 
-params_are : (types : List CType) → param_variables (with_params (named_params types)) ≡ vars_from 0 types
+params_are : (types : List CType) → param_variables (with_params (named_params types)) ≡ param_vars types
 params_are [] = refl
 params_are (t ∷ types) = from_are 0 (t ∷ types)
-
-vars_named : (k i j : ℕ) (types : List CType) (t : CType) → slice_get types i ≡ Some t → i + k ≡ j → k + length types ≤ 2 ^ 64
-    → named (param_name j) (vars_from k types) ≡ Some t
-vars_named k i j [] t e same few = absurd cc
-vars_named k zero j (u ∷ types) t e same few = rw (ap (bytes_eq (param_name k)) (ap param_name (sym same ∙ zero-add k)) ∙ bytes_equal
-    (param_name k)) e
-vars_named k (suc i) j (u ∷ types) t e same few =
-    let low = slice_get_within types i t e in
-    rw (lettered 97 k j (omega arith) (omega (arith, same, low)) (λ f. absurd (omega (arith, same, f))))
-    (vars_named (suc k) i j types t e (omega (arith, same)) (omega arith))
-
-avoids : (q : Name) (k : ℕ) (types : List CType) → ((k : ℕ) → bytes_eq (param_name k) q ≡ false) → Avoid q (vars_from k types)
-avoids q k [] f = tt
-avoids q k (t ∷ types) f = (f k, avoids q (suc k) types f)
-
-vars_names : (k : ℕ) (types : List CType) → names_of_vars (vars_from k types) ≡ map param_name (range_with_len k (length types))
-vars_names k [] = refl
-vars_names k (t ∷ types) = ap (λ ns. param_name k ∷ ns)
-    (vars_names (suc k) types ∙ ap (λ n. map param_name (range_with_len n (length types))) (one k))
-  where
-    one : (k : ℕ) → suc k ≡ k + 1
-    one k = omega arith
-
-value_no_object : (t : CType) → is_value_type t ≡ true → is_object_type t ≡ false
-value_no_object t e = not-true (is_object_type t) (both_hold (not (is_void t)) (not (is_object_type t)) e).1
 
 args_are : (s : Scope) (k : ℕ) (types : List CType) →
     ((i : ℕ) (t : CType) → slice_get types i ≡ Some t → (named (param_name (i + k)) (variables s) ≡ Some t) × (is_object_type t ≡ false))
@@ -133,8 +102,8 @@ module _ (declared : List tree.Item) (ty : tree.FuncType) (symbol : Name) (targe
 
     names_are : names_of_vars (own_of func body) ≡ map param_name (range_with_len 0 (length types)) ++ local_names
     names_are = ap (λ o. names_of_vars (o ++ local_variables body)) (params_are types)
-        ∙ (map-append (λ (v : Name × CType). v.0) (vars_from 0 types) (local_variables body) ∙ ap (λ o. o ++ local_names)
-        (vars_names 0 types))
+        ∙ (map-append (λ (v : Name × CType). v.0) (param_vars types) (local_variables body) ∙ ap (λ o. o ++ local_names)
+        (vars_names param_name (λ (t : CType). t) 0 types))
 
     own_all : (P : Name → Type 0) → ((k : ℕ) → k < 2 ^ 64 → P (param_name k)) → AllByRecursion P local_names
         → AllByRecursion P (names_of_vars (own_of func body))
@@ -146,8 +115,9 @@ module _ (declared : List tree.Item) (ty : tree.FuncType) (symbol : Name) (targe
         (λ i t e. (
           ap (λ o. named (param_name (i + 0)) (o ++ (local_variables body ++ (vars_in declared ++ (codes "w2c_depth", type.U32) ∷ []))))
               (params_are types)
-              ∙ named_in (param_name (i + 0)) (vars_from 0 types) _ t (vars_named 0 i (i + 0) types t e refl (omega (arith, few))),
-          value_no_object t (test_at is_value_type types i t values e),
+              ∙ named_in (param_name (i + 0)) (param_vars types) _ t
+              (vars_named param_name (lettered 97) (λ (t : CType). t) 0 i (i + 0) types t e refl (omega (arith, few))),
+          not-true (is_object_type t) (both_hold (not (is_void t)) (not (is_object_type t)) (test_at is_value_type types i t values e)).1,
         ))
 
     passes_on_are : is_symbol symbol ≡ true → CalleeKnown declared target ty → EndsWell → IsFunction declared func body
@@ -217,7 +187,8 @@ passes_on_is declared params result symbol target few values r s known =
     let there : named result_name (variables here) ≡ Some result =
     ap (λ o. named result_name (o ++ ((result_name, result) ∷ (vars_in declared ++ (codes "w2c_depth", type.U32) ∷ []))))
     (params_are (proper_types params))
-    ∙ named_past result_name (vars_from 0 (proper_types params)) _ (avoids result_name 0 (proper_types params) (λ k. refl)) in
+    ∙ named_past result_name (param_vars (proper_types params)) _
+    (vars_avoid result_name param_name (λ (t : CType). t) 0 (proper_types params) (λ k. refl)) in
     record {
       body = _;
       body_is = refl;
@@ -240,8 +211,7 @@ passes_on_is declared params result symbol target few values r s known =
 -- ---- an accessor of an own object
 
 pub address_is : (declared : List tree.Item) (pointer u : CType) (object symbol : Name) → is_symbol symbol ≡ true
-    → named object (vars_in declared) ≡ Some u → pointer_to u ≡ Some pointer
-    → is_void pointer ≡ false → is_object_type pointer ≡ false
+    → named object (vars_in declared) ≡ Some u → pointer_to u ≡ Some pointer → is_void pointer ≡ false → is_object_type pointer ≡ false
     → IsExternal declared (external (accessor_type pointer) symbol [] (tree.Return (tree.Address object) ∷ []))
 address_is declared pointer u object symbol s found p no_void no_object = record {
   body = body;

@@ -1,16 +1,12 @@
 -- The functions of exports keep the rules, since what each passes on or gives is declared before it.
-use Rattle.unit_rules.proofs.Common.{◌≡◌, ℕ, Bool, true, false, not, List, [], ◌∷◌, ◌++◌, is_none, if◌then◌else◌, slice_get, Some, None}
-use Rattle.unit_rules.proofs.Common.{Option, sym, refl, ap, ◌∙◌, subst, arith, AllByRecursion, all_weaker, all_map, named, func_space}
-use Rattle.unit_rules.proofs.Common.{func_type_in, NamedModule, Export, Import, Module, unknown_export, is_symbol, primitives, Name, CType}
-use Rattle.unit_rules.proofs.Common.{callee, accessor_type, c_func_type_if, import_symbol, is_usable, named_in, funcs_in, accessor}
-use Rattle.unit_rules.proofs.Common.{export_func, passes_on, usable_symbol, IsAccepted}
+use Rattle.unit_rules.proofs.Common.{◌≡◌, ℕ, Bool, true, false, not, List, [], ◌∷◌, ◌++◌, is_none, if◌then◌else◌, slice_get, Some, None, ap}
+use Rattle.unit_rules.proofs.Common.{Option, sym, refl, ◌∙◌, subst, arith, AllByRecursion, all_weaker, all_map, named, func_space, Export}
+use Rattle.unit_rules.proofs.Common.{func_type_in, NamedModule, Import, Module, unknown_export, is_symbol, primitives, Name, CType, callee}
+use Rattle.unit_rules.proofs.Common.{accessor_type, c_func_type_if, import_symbol, is_usable, named_in, funcs_in, accessor, export_func}
+use Rattle.unit_rules.proofs.Common.{passes_on, usable_symbol, IsAccepted, some_same, accepted_limits, few_found, exports}
 use Rattle.unit_rules.proofs.ExportGiven.{IsGiven, each_export, few_types, valid_exports}
 use Rattle.c_tree.specs.declared.tree.CType.TheVariants as type
 use Rattle.c_tree.specs.Tree as tree
-use Rattle.c_init.proofs.Small.{some_same}
-use Rattle.unit_definition.proofs.AcceptedLimits.{accepted_limits}
-use Rattle.unit_definition.proofs.BodiesAt.{few_found}
-use Rattle.unit_definition.proofs.SectionLists.{exports}
 use Rattle.unit_definition.proofs.Sections.{of_export, symbol_is}
 use Rattle.unit_rules.proofs.ExportFacts.{func_typed}
 use Rattle.unit_rules.proofs.ExportRules.{IsExternal, address_is, passes_on_is}

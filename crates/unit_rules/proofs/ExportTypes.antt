@@ -1,13 +1,11 @@
 -- The types of functions that pass calls on, and of accessors that are imported.
 use Rattle.unit_rules.proofs.Common.{◌≡◌, ℕ, suc, Bool, true, false, List, [], ◌∷◌, map, Some, None, Option, refl, ap, FuncType, ValType}
-use Rattle.unit_rules.proofs.Common.{is_memory_import, is_table_import, NamedModule, Import, ImportKind, ImportGlobal, ImportMemory}
-use Rattle.unit_rules.proofs.Common.{ImportTable, Module, is_void, proper_types, Name, func_type_of, is_object_type, c_params_of, c_type_of}
-use Rattle.unit_rules.proofs.Common.{CType, accessor_type, c_func_type_if, import_type, pointer_type, accessor, named_params, params_from}
-use Rattle.unit_rules.proofs.Common.{passes_on, usable_symbol}
-use Rattle.w2c_base.specs.declared.value.ValType.TheVariants.{I32, I64}
+use Rattle.unit_rules.proofs.Common.{is_memory_import, is_table_import, NamedModule, Import, ImportKind, ImportGlobal, ImportMemory, Module}
+use Rattle.unit_rules.proofs.Common.{ImportTable, is_void, proper_types, Name, func_type_of, is_object_type, c_params_of, c_type_of, CType}
+use Rattle.unit_rules.proofs.Common.{accessor_type, c_func_type_if, import_type, pointer_type, accessor, named_params, params_from, I32}
+use Rattle.unit_rules.proofs.Common.{passes_on, usable_symbol, I64, pointer_to}
 use Rattle.c_tree.specs.declared.tree.CType.TheVariants as type
 use Rattle.c_tree.specs.Tree as tree
-use Rattle.c_tree.specs.Scope.{pointer_to}
 
 -- ---- types of functions with names for their parameters
 

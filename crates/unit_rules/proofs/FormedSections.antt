@@ -1,30 +1,20 @@
 -- Each section of a module's unit has names that are words of C, and is well formed up to the parts of the init function.
-use Rattle.unit_rules.proofs.Common.{◌≡◌, ℕ, suc, ◌+◌, ◌^◌, ◌<◌, ◌≤◌, Bool, true, false, List, [], ◌∷◌, map, length, is_none, if◌then◌else◌}
-use Rattle.unit_rules.proofs.Common.{slice_get, Some, None, Option, option_map, flat_map, sym, refl, ap, ◌∙◌, subst, arith, length-append}
-use Rattle.unit_rules.proofs.Common.{length-map, slice_get_within, AllByRecursion, all_weaker, get_unmapped, all_at, all_from, all_map}
-use Rattle.unit_rules.proofs.Common.{of_contained, numbered, FuncType, ValType, func_count, func_of_import, func_space, func_type_in}
-use Rattle.unit_rules.proofs.Common.{is_func_import, NamedModule, Export, Import, SegmentEntry, TypeEntry, Module, unknown_export}
-use Rattle.unit_rules.proofs.Common.{func_name, zero_number, proper_types, Name, is_among, name_of, FitsArg, FitsItem, FitsNum, FitsStmt}
-use Rattle.unit_rules.proofs.Common.{depth_limit, IsName, IsNamedIfAny, NamedArg, NamedItem, NamedStmt, CType, helper_of, helpers_of}
-use Rattle.unit_rules.proofs.Common.{callee, accessor_type, c_func_type_if, export_symbol, firsts, func_imports, import_symbol, is_usable}
-use Rattle.unit_rules.proofs.Common.{symbol_type, params_of, at, NamedItems, accessor, args_from, call_if, export_func, external}
-use Rattle.unit_rules.proofs.Common.{named_params, param_name, params_from, passes_on, result_name, usable_symbol, data_name, bodies}
-use Rattle.unit_rules.proofs.Common.{data_of, items, prototype, IsAccepted}
-use Rattle.c_symbols.specs.Symbols.{declared_type}
+use Rattle.unit_rules.proofs.Common.{params_listed, ◌≡◌, ℕ, suc, ◌+◌, ◌^◌, ◌<◌, ◌≤◌, Bool, true, false, List, [], ◌∷◌, map, length, is_none}
+use Rattle.unit_rules.proofs.Common.{if◌then◌else◌, slice_get, Some, None, Option, option_map, flat_map, sym, refl, ap, ◌∙◌, subst, arith}
+use Rattle.unit_rules.proofs.Common.{length-append, length-map, slice_get_within, AllByRecursion, all_weaker, get_unmapped, all_at, all_map}
+use Rattle.unit_rules.proofs.Common.{all_from, at, of_contained, numbered, FuncType, func_count, func_of_import, func_space, func_type_in}
+use Rattle.unit_rules.proofs.Common.{Name, is_func_import, NamedModule, Export, Import, SegmentEntry, TypeEntry, Module, unknown_export}
+use Rattle.unit_rules.proofs.Common.{is_among, func_name, zero_number, proper_types, name_of, FitsArg, FitsItem, FitsNum, FitsStmt, IsName}
+use Rattle.unit_rules.proofs.Common.{depth_limit, IsNamedIfAny, NamedArg, NamedItem, NamedStmt, CType, helper_of, helpers_of, callee, items}
+use Rattle.unit_rules.proofs.Common.{firsts, accessor_type, c_func_type_if, export_symbol, func_imports, import_symbol, is_usable, accessor}
+use Rattle.unit_rules.proofs.Common.{symbol_type, params_of, NamedItems, args_from, call_if, export_func, external, named_params, passes_on}
+use Rattle.unit_rules.proofs.Common.{param_name, params_from, result_name, usable_symbol, data_name, bodies, data_of, prototype, IsAccepted}
+use Rattle.unit_rules.proofs.Common.{declared_type, params_there, BodiesAreFormed, few_parts, all_images, there_is, part_func, parts_of}
+use Rattle.unit_rules.proofs.Common.{part_name, accepted_limits, few_found, few_params, firsts_all, declarations, exports, functions_of}
+use Rattle.unit_rules.proofs.Common.{helpers, objects, prototypes, export_name, few_funcs}
 use Rattle.c_tree.specs.declared.tree.CType.TheVariants as type
 use Rattle.c_tree.specs.Tree as tree
 use Rattle.c_tree.proofs.Names.{numbered as numbered_name}
-use Rattle.body_rules.proofs.FormedCode.{params_there}
-use Rattle.body_rules.specs.BodiesAreProper.{BodiesAreFormed}
-use Rattle.c_init.proofs.FewParts.{few_parts}
-use Rattle.c_init.proofs.Small.{all_images, there_is}
-use Rattle.c_init.specs.Init.{part_func, parts_of}
-use Rattle.c_tree.specs.DefinedNames.{part_name}
-use Rattle.unit_definition.proofs.AcceptedLimits.{accepted_limits}
-use Rattle.unit_definition.proofs.BodiesAt.{few_found, few_params}
-use Rattle.unit_definition.proofs.Pairs.{firsts_all}
-use Rattle.unit_definition.proofs.SectionLists.{declarations, exports, functions_of, helpers, objects, prototypes}
-use Rattle.unit_definition.proofs.Sections.{export_name, few_funcs}
 use Rattle.unit_rules.proofs.EachItem.{IsObject, each_data, each_declared, each_numbered, each_object, global_pointer, memory_pointer}
 use Rattle.unit_rules.proofs.EachItem.{own_global, own_memory, own_table, table_pointer}
 use Rattle.unit_rules.proofs.ExportFacts.{each_of}
@@ -51,10 +41,6 @@ func_has (Some ty) = params_there ty.params
 mapped_has : {A B : Type 0} (f : A → B) (xs : List A) → 0 < length xs → 0 < length (map f xs)
 mapped_has f [] h = h
 mapped_has f (x ∷ xs) h = omega arith
-
-body_has : (types : List ValType) → 0 < length (params_of types)
-body_has [] = omega arith
-body_has (x ∷ types) = omega arith
 
 -- ---- functions that pass a call on
 
@@ -115,8 +101,7 @@ passes_formed ty symbol o few name known = by ty.result
     by r = value r
 
 accessor_formed : (m : NamedModule) (pointer : CType) (symbol : Name) (o : Option Import) (object : Name) → IsName symbol → IsName object
-    → ((i : Import) → o ≡ Some i → IsName (import_symbol i))
-    → IsFormed (tree.Function (accessor m (accessor_type pointer) symbol o object))
+    → ((i : Import) → o ≡ Some i → IsName (import_symbol i)) → IsFormed (tree.Function (accessor m (accessor_type pointer) symbol o object))
 accessor_formed m pointer symbol None object name own imported = ((name, (tt, tt), (tt, (own, tt))), (omega arith, (tt, (tt, tt))))
 accessor_formed m pointer symbol (Some i) object name own imported =
     passes_formed (accessor_type pointer) symbol (usable_symbol m i) (omega arith) name (by (is_usable m i))
@@ -209,7 +194,7 @@ module _ (m : NamedModule) (a : IsAccepted m) where
           all_images (λ (p : tree.Param). IsNamedIfAny p.1) (λ (p : tree.Param). (p.0, None)) (params_of b.ty.params) (λ p. tt),
           tt,
         ),
-        (mapped_has (λ (p : tree.Param). (p.0, None)) (params_of b.ty.params) (body_has b.ty.params), tt),
+        (mapped_has (λ (p : tree.Param). (p.0, None)) (params_of b.ty.params) (params_listed b.ty.params), tt),
       )))
 
   pub helpers_formed : AllByRecursion IsFormed (helpers m)

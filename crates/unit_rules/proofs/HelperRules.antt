@@ -1,16 +1,15 @@
 -- The helpers keep the rules in every unit: what their own names and the runtime's stand for is the same there.
-use Rattle.unit_rules.proofs.Common.{◌≡◌, Bool, true, false, not, ◌&&◌, List, [], ◌∷◌, ◌++◌, map, is_some, Some, None, Option, flat_map}
-use Rattle.unit_rules.proofs.Common.{filter_map, sym, refl, ap, ◌∙◌, subst, false≢true, list_all, both_hold, some_is, all_parts, if_found}
-use Rattle.unit_rules.proofs.Common.{named, AsArray, AsFunction, AsVariable, Use, are_distinct_numbers, arg_has_type, arg_suits, arg_uses}
-use Rattle.unit_rules.proofs.Common.{args_suit, callee_type, callee_uses, case_value, cases_are_distinct, cases_suit, expr_uses}
-use Rattle.unit_rules.proofs.Common.{has_same_type, if_any, is_known, is_void, labels_named, labels_of, may_be_assigned, may_be_called}
-use Rattle.unit_rules.proofs.Common.{points_to_number, proper_types, stmt_is_typed, stmt_suits, stmt_uses, target_suits, target_uses}
-use Rattle.unit_rules.proofs.Common.{same_type, HasType, Name, Scope, array_of, function_of, functions, is_among, is_object_type}
-use Rattle.unit_rules.proofs.Common.{pointed_by, variable_of, variables, CType, Passes, at}
+use Rattle.unit_rules.proofs.Common.{◌≡◌, true, false, not, ◌&&◌, List, [], ◌∷◌, ◌++◌, map, is_some, Some, None, Option, flat_map, ap, sym}
+use Rattle.unit_rules.proofs.Common.{filter_map, refl, ◌∙◌, subst, false≢true, list_all, both_hold, some_is, all_parts, if_found, Use, Name}
+use Rattle.unit_rules.proofs.Common.{named, AsArray, AsFunction, AsVariable, are_distinct_numbers, arg_has_type, arg_suits, arg_uses, at}
+use Rattle.unit_rules.proofs.Common.{args_suit, callee_type, callee_uses, case_value, cases_are_distinct, cases_suit, expr_uses, if_any}
+use Rattle.unit_rules.proofs.Common.{has_same_type, is_known, is_void, labels_named, labels_of, may_be_assigned, may_be_called, stmt_suits}
+use Rattle.unit_rules.proofs.Common.{points_to_number, proper_types, stmt_is_typed, stmt_uses, target_suits, target_uses, same_type, Scope}
+use Rattle.unit_rules.proofs.Common.{HasType, array_of, function_of, functions, is_among, is_object_type, pointed_by, variable_of, CType}
+use Rattle.unit_rules.proofs.Common.{variables, Passes, file_variables, file_functions, typing_of, type_of, name_typing, value_typing}
+use Rattle.unit_rules.proofs.Common.{number_type, typed_if, may_be_narrowed, common_type, op_typing, is_comparison, value_type}
 use Rattle.c_tree.specs.declared.tree.CType.TheVariants as type
 use Rattle.c_tree.specs.Tree as tree
-use Rattle.c_tree.specs.Scope.{file_variables, file_functions, typing_of, type_of, name_typing, value_typing, number_type, typed_if}
-use Rattle.c_tree.specs.Scope.{may_be_narrowed, common_type, op_typing, is_comparison, value_type}
 
 -- a scope that knows all that a smaller one knows, and whose function is the same. The smaller one has no items
 pub record Grows (small large : Scope) : Type 0 where
@@ -63,10 +62,6 @@ module _ (s l : Scope) (g : Grows s l) where
   no_file_func : (n : Name) → is_some (named n (file_functions s)) ≡ false
   no_file_func n = ap (λ items. is_some (named n (filter_map function_of items))) g.no_items
 
-  not_both : (b : Bool) → b ≡ false → b ≡ true → ⊥
-  not_both true e f = cc
-  not_both false e f = cc
-
   arg_kept : (t : CType) (x : tree.Arg) → Known (arg_uses x)
       → (arg_suits s t x ≡ true → arg_suits l t x ≡ true) × (arg_has_type l x ≡ arg_has_type s x)
   arg_kept t (tree.Value e) k = (λ f. ap (λ o. has_same_type o t) (type_same e k) ∙ f, ap is_some (type_same e k))
@@ -75,7 +70,7 @@ module _ (s l : Scope) (g : Grows s l) where
       none : (o : Option CType) → o ≡ None → arg_suits s t (tree.Address n) ≡ true → ⊥
       none o e f = absurd (false≢true (rw (no_file_var n, arg_suits) at f))
   arg_kept t (tree.OfFunction n) k = (
-    λ f. absurd (not_both (is_some (named n (file_functions s))) (no_file_func n) (both_hold (is_some (named n (file_functions s))) _ f).0),
+    λ f. absurd (false≢true (sym (no_file_func n) ∙ (both_hold (is_some (named n (file_functions s))) _ f).0)),
     refl,
   )
 

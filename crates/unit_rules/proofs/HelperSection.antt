@@ -1,22 +1,18 @@
 -- The section of helpers keeps the rules in a module's unit.
-use Rattle.unit_rules.proofs.Common.{◌≡◌, ℕ, Bool, true, false, not, ◌&&◌, List, [], ◌∷◌, ◌++◌, map, if◌then◌else◌, ◌==◌, Some, None, codes}
-use Rattle.unit_rules.proofs.Common.{filter, Option, bytes_eq, sym, refl, ap, ◌∙◌, subst, append_assoc, arith, not-true, bytes_eq-Decides}
-use Rattle.unit_rules.proofs.Common.{AllByRecursion, list_all, list_any, both_hold, all_front, all_weaker, all_from, all_filtered, test_at}
-use Rattle.unit_rules.proofs.Common.{named, NamedModule, BodyEntry, LoadOp, StoreOp, Module, are_distinct, cases_are_distinct, is_known}
-use Rattle.unit_rules.proofs.Common.{is_runtime_name, label_is_free, labels_named, labels_of, stmt_is_typed, stmt_suits, stmt_uses}
-use Rattle.unit_rules.proofs.Common.{written_type_is_proper, primitives, Name, Scope, is_among, local_variables, param_variables, helper_of}
-use Rattle.unit_rules.proofs.Common.{calls_helper, helpers_of, any_in, Helper, NumOp, HELPERS, past_none, Passes, at, ends_well, funcs_in}
-use Rattle.unit_rules.proofs.Common.{vars_in, class}
+use Rattle.unit_rules.proofs.Common.{by_test, found_name, ◌≡◌, ℕ, Bool, true, false, not, ◌&&◌, List, [], ◌∷◌, ◌++◌, map, if◌then◌else◌, ap}
+use Rattle.unit_rules.proofs.Common.{◌==◌, Some, None, codes, filter, Option, bytes_eq, sym, refl, ◌∙◌, subst, append_assoc, arith, test_at}
+use Rattle.unit_rules.proofs.Common.{not-true, AllByRecursion, list_all, list_any, both_hold, all_front, all_weaker, all_from, all_filtered}
+use Rattle.unit_rules.proofs.Common.{named, NamedModule, BodyEntry, LoadOp, StoreOp, Module, are_distinct, cases_are_distinct, is_known, at}
+use Rattle.unit_rules.proofs.Common.{is_runtime_name, label_is_free, labels_named, labels_of, stmt_is_typed, stmt_suits, stmt_uses, Name}
+use Rattle.unit_rules.proofs.Common.{written_type_is_proper, primitives, Scope, is_among, local_variables, param_variables, helper_of}
+use Rattle.unit_rules.proofs.Common.{calls_helper, helpers_of, any_in, Helper, NumOp, HELPERS, past_none, Passes, ends_well, funcs_in}
+use Rattle.unit_rules.proofs.Common.{vars_in, class, helpers, AllPairs, all_images, or_parts}
 use Rattle.c_tree.specs.declared.tree.CType.TheVariants as type
 use Rattle.c_tree.specs.Tree as tree
 use Rattle.wasm_tree.specs.declared.operators.LoadOp.TheVariants as load
 use Rattle.wasm_tree.specs.declared.operators.StoreOp.TheVariants as store
-use Rattle.unit_definition.proofs.SectionLists.{helpers}
-use Rattle.unit_definition.proofs.Pairs.{AllPairs}
 use Rattle.c_helpers.specs.declared.operation.Helper.TheVariants as helper
 use Rattle.c_helpers.specs.declared.operation.NumOp.TheVariants as num
-use Rattle.c_init.proofs.Small.{all_images}
-use Rattle.std.proofs.lemmas.Bool.{or_parts}
 use Rattle.unit_rules.proofs.Clashes.{NoRuntime, NotSame, pairs_mapped}
 use Rattle.unit_rules.proofs.HelperRules.{Grows, passes_kept}
 use Rattle.unit_rules.proofs.ItemRules.{IsFunction, KeepsBehind, func_tested, function_keeps, names_of_vars, own_of}
@@ -102,30 +98,12 @@ pairs_kept R test (x ∷ xs) h = by (test x) (pairs_kept R test xs h.1)
     by true rest = (all_filtered (R x) test xs h.0, rest)
     by false rest = rest
 
-helpers_differ : are_distinct (map (λ (w : Helper). (helper_of w).name) HELPERS) ≡ true
-helpers_differ = refl
-
 -- ---- what a larger scope knows
-
-found_name : {A : Type 0} (P : Name → Type 0) (q : Name) (xs : List (Name × A)) (t : A) → AllByRecursion (λ (v : Name × A). P v.0) xs
-    → named q xs ≡ Some t → P q
-found_name P q [] t h e = absurd cc
-found_name {A = A} P q (x ∷ xs) t h e = by (bytes_eq x.0 q) refl e (found_name P q xs t h.1)
-  where
-    by : (b : Bool) → bytes_eq x.0 q ≡ b → (if b then Some x.1 else named q xs) ≡ Some t → (named q xs ≡ Some t → P q) → P q
-    by true f g rest = subst P ((bytes_eq-Decides x.0 q).0 f) h.0
-    by false f g rest = rest g
 
 grown : {A : Type 0} (q : Name) (xs more last : List (Name × A)) (t : A) → (named q last ≡ Some t → named q more ≡ None)
     → named q (xs ++ last) ≡ Some t → named q (xs ++ (more ++ last)) ≡ Some t
 grown q [] more last t f e = past_none q more last (f e) ∙ e
-grown {A = A} q (x ∷ xs) more last t f e = by (bytes_eq x.0 q) e (grown q xs more last t f)
-  where
-    by : (b : Bool) → (if b then Some x.1 else named q (xs ++ last)) ≡ Some t
-        → (named q (xs ++ last) ≡ Some t → named q (xs ++ (more ++ last)) ≡ Some t)
-        → (if b then Some x.1 else named q (xs ++ (more ++ last))) ≡ Some t
-    by true g rest = g
-    by false g rest = rest g
+grown q (x ∷ xs) more last t f e = by_test (bytes_eq x.0 q) (λ g. rw g (rw g at e)) (λ g. rw g (grown q xs more last t f (rw g at e)))
 
 primitives_runtime : AllByRecursion (λ (v : Name × tree.FuncType). is_runtime_name v.0 ≡ true) primitives
 primitives_runtime = all_from (λ (v : Name × tree.FuncType). is_runtime_name v.0 ≡ true) primitives (λ i v is.
@@ -175,7 +153,7 @@ pub helpers_pairs : (t : Module) → AllPairs NotSame (map (λ which. tree.Funct
 helpers_pairs t = pairs_mapped NotSame (λ which. tree.Function (helper_of which)) (helpers_of t)
     (pairs_kept (λ (x y : Helper). bytes_eq (helper_of x).name (helper_of y).name ≡ false)
     (λ which. list_any (λ (b : BodyEntry). any_in (calls_helper which) b.code) t.bodies) HELPERS
-    (differ_all (λ (w : Helper). (helper_of w).name) HELPERS helpers_differ))
+    (differ_all (λ (w : Helper). (helper_of w).name) HELPERS refl))
 
 helper_keeps : (m : NamedModule) (which : Helper) → KeepsBehind m [] (tree.Function (helper_of which))
 helper_keeps m which before behind = function_keeps m (helper_of which) (helper_body which) (has_body which) before behind (λ whole.

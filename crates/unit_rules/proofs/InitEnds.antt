@@ -1,9 +1,9 @@
 -- The init function ends by a return or by a trap, and so do its parts.
 use Rattle.unit_rules.proofs.Common.{◌≡◌, ℕ, zero, suc, Bool, true, false, not, List, [], ◌∷◌, ◌++◌, map, length, filter, flat_map, refl}
-use Rattle.unit_rules.proofs.Common.{range_with_len, numbered, is_func_import, NamedModule, ends_well, bounds_label, init_stmts}
-use Rattle.unit_rules.proofs.Common.{limits_label, make_global, make_memory, make_table, start_stmts, takes_from, test_data, test_elements}
-use Rattle.unit_rules.proofs.Common.{tests_bounds, tests_limits, trap_if, write_data, write_elements}
-use Rattle.c_init.specs.Init.{Part, begun, call_part, ended, part_stmts, parts_of, stmts_with}
+use Rattle.unit_rules.proofs.Common.{range_with_len, numbered, is_func_import, NamedModule, ends_well, bounds_label, init_stmts, make_table}
+use Rattle.unit_rules.proofs.Common.{limits_label, make_global, make_memory, start_stmts, takes_from, test_data, test_elements, trap_if}
+use Rattle.unit_rules.proofs.Common.{tests_bounds, tests_limits, write_data, write_elements, Part, begun, call_part, ended, part_stmts}
+use Rattle.unit_rules.proofs.Common.{parts_of, stmts_with}
 use Rattle.w2c_base.specs.declared.trap.TrapKind.TheVariants as trap
 use Rattle.c_tree.specs.Tree as tree
 use Rattle.c_tree.specs.Makers as makers

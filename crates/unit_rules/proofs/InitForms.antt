@@ -1,48 +1,38 @@
 -- The statements of the init function keep the rules in a scope that knows what they name, and their numbers fit: those that take
 -- imports and make what the module defines.
-use Rattle.unit_rules.proofs.Common.{◌≡◌, ℕ, zero, suc, ◌+◌, ◌^◌, ◌<◌, Bool, true, false, not, ◌||◌, List, [], ◌∷◌, map, length, is_some}
-use Rattle.unit_rules.proofs.Common.{is_none, if◌then◌else◌, IsSome, nat_lt, slice_get, Some, None, codes, filter, Option, flat_map, sym}
-use Rattle.unit_rules.proofs.Common.{bytes_eq, refl, ap, ◌∙◌, subst, arith, zero-add, or_left, or_right, slice_get_within, AllByRecursion}
-use Rattle.unit_rules.proofs.Common.{list_any, all_behind, all_front, get_mapped, all_append, all_at, all_from, all_map, get_front, named}
-use Rattle.unit_rules.proofs.Common.{at_index, FuncType, ValType, global_count, func_space, global_space, imported_global_space, type_in}
-use Rattle.unit_rules.proofs.Common.{imported_globals, is_func_import, is_global_import, is_memory_import, is_table_import, memory_space}
-use Rattle.unit_rules.proofs.Common.{memory_of_import, table_of_import, table_space, Code, GlobalGet, I32Const, I64Const, end_code, Import}
-use Rattle.unit_rules.proofs.Common.{then_code, NamedModule, IsMaximum, GlobalEntry, ImportKind, ImportFunc, ImportGlobal, ImportMemory, at}
-use Rattle.unit_rules.proofs.Common.{ImportTable, Limits, LimitsEntry, SegmentEntry, Module, shape_of, shape_of_global, global_name, Name}
-use Rattle.unit_rules.proofs.Common.{memory_name, table_name, label_name, pointer_name, is_runtime_name, is_void, labels_of, proper_types}
-use Rattle.unit_rules.proofs.Common.{primitives, HasType, Scope, arrays, functions, is_among, is_object_type, variables, FitsStmt, CType}
-use Rattle.unit_rules.proofs.Common.{depth_limit, c_type_of, bytes_equal, callee, function_name, global_value, memory_arg, table_arg, IsArg}
-use Rattle.unit_rules.proofs.Common.{accessor_type, c_func_type, global_imports, import_symbol, import_type, is_usable, memory_imports, n32}
-use Rattle.unit_rules.proofs.Common.{pointer_type, table_imports, pointer_points, IsTyped, Passes, call_passes, call_passes_as, if_passes}
-use Rattle.unit_rules.proofs.Common.{n32_typed, n64_typed, name_typed, null_passes, op_typed, set_passes, star_typed, value_arg, wide_typed}
-use Rattle.unit_rules.proofs.Common.{no_object, byte_name, constant_expr, data_name, has_bytes, has_test, limits_label, make_global, n64}
-use Rattle.unit_rules.proofs.Common.{make_memory, make_table, max_number, place_expr, set_pointer, size_name, take_stmts, takes_from}
-use Rattle.unit_rules.proofs.Common.{test_max, test_min, tests_bounds, tests_limits, IsAccepted}
-use Rattle.w2c_base.specs.declared.value.ValType.TheVariants.{I32}
-use Rattle.w2c_base.proofs.Lists.{all_unmapped, contains_kept, get_behind}
-use Rattle.w2c_base.proofs.Numbers.{one_moves}
-use Rattle.w2c_base.proofs.Places.{some_first}
-use Rattle.std.proofs.lemmas.Option.{slice_get_past}
+use Rattle.unit_rules.proofs.Common.{imported_global_space, slice_get_within, imported_globals, is_global_import, is_memory_import, is_some}
+use Rattle.unit_rules.proofs.Common.{memory_of_import, is_table_import, table_of_import, shape_of_global, is_runtime_name, imported_global}
+use Rattle.unit_rules.proofs.Common.{AllByRecursion, is_func_import, is_object_type, global_imports, memory_imports, pointer_points, length}
+use Rattle.unit_rules.proofs.Common.{call_passes_as, slice_get_past, asks_something, if◌then◌else◌, function_name, accessor_type, slice_get}
+use Rattle.unit_rules.proofs.Common.{import_symbol, table_imports, constant_expr, contains_kept, global_count, global_space, memory_space}
+use Rattle.unit_rules.proofs.Common.{ImportGlobal, ImportMemory, SegmentEntry, pointer_name, proper_types, global_value, pointer_type, zero}
+use Rattle.unit_rules.proofs.Common.{limits_label, tests_bounds, tests_limits, all_unmapped, table_space, NamedModule, GlobalEntry, is_none}
+use Rattle.unit_rules.proofs.Common.{ImportTable, LimitsEntry, global_name, memory_name, depth_limit, bytes_equal, c_func_type, import_type}
+use Rattle.unit_rules.proofs.Common.{call_passes, null_passes, make_global, make_memory, set_pointer, test_limits, all_behind, get_mapped}
+use Rattle.unit_rules.proofs.Common.{all_append, func_space, ImportKind, ImportFunc, table_name, label_name, primitives, memory_arg, IsSome}
+use Rattle.unit_rules.proofs.Common.{name_typed, set_passes, star_typed, wide_typed, make_table, max_number, place_expr, take_stmts, nat_lt}
+use Rattle.unit_rules.proofs.Common.{takes_from, IsAccepted, get_behind, some_first, all_front, get_front, GlobalGet, then_code, IsMaximum}
+use Rattle.unit_rules.proofs.Common.{labels_of, functions, variables, c_type_of, table_arg, is_usable, if_passes, n32_typed, n64_typed, ◌≡◌}
+use Rattle.unit_rules.proofs.Common.{value_arg, no_object, byte_name, data_name, has_bytes, size_name, one_moves, ShapeFits, primitive, suc}
+use Rattle.unit_rules.proofs.Common.{flat_map, bytes_eq, zero-add, or_right, list_any, all_from, at_index, FuncType, I32Const, I64Const, []}
+use Rattle.unit_rules.proofs.Common.{end_code, shape_of, is_among, FitsStmt, op_typed, has_test, test_max, test_min, or_left, all_map, Bool}
+use Rattle.unit_rules.proofs.Common.{ValType, type_in, is_void, HasType, IsTyped, filter, Option, all_at, Import, Limits, Module, arrays, ℕ}
+use Rattle.unit_rules.proofs.Common.{callee, Passes, false, codes, subst, arith, named, Scope, CType, IsArg, true, ◌||◌, List, Some, None}
+use Rattle.unit_rules.proofs.Common.{refl, Code, Name, ◌+◌, ◌^◌, ◌<◌, not, ◌∷◌, map, sym, ◌∙◌, n32, n64, I32, ap, at}
 use Rattle.c_tree.specs.declared.tree.CType.TheVariants as type
 use Rattle.c_tree.specs.declared.tree.COp.TheVariants as op
 use Rattle.c_tree.specs.Tree as tree
-use Rattle.unit_definition.proofs.KnownNames.{imported_global}
-use Rattle.c_init.specs.Fitting.{ShapeFits}
-use Rattle.c_init.specs.Init.{asks_something, primitive, test_limits}
 use Rattle.unit_rules.proofs.EachItem.{all_unflat}
 use Rattle.unit_rules.proofs.ExportTypes.{accessor_is, pointer_is}
-use Rattle.unit_rules.proofs.InitNumbers.{AreLimits, constant_fits, maximum_fits, memories_limits, one_fits, page_fits, tables_limits}
-use Rattle.unit_rules.proofs.InitNumbers.{wider}
+use Rattle.unit_rules.proofs.InitNumbers.{AreLimits, constant_fits, maximum_fits, memories_limits, one_fits, tables_limits, wider}
 use Rattle.unit_rules.proofs.KnownFuncs.{any_at}
 
 -- what the init function's statements need of their scope
 pub record InitKnows (m : NamedModule) (s : Scope) : Type 0 where
   pub own_globals : (k : ℕ) (g : ValType × Bool) → slice_get (global_space m.tree) k ≡ Some g
-      → is_some (slice_get (global_imports m.tree) k) ≡ false
-      → named (global_name k) (variables s) ≡ Some (c_type_of g.0)
+      → is_some (slice_get (global_imports m.tree) k) ≡ false → named (global_name k) (variables s) ≡ Some (c_type_of g.0)
   pub pointed : (k : ℕ) (g : ValType × Bool) → slice_get (global_space m.tree) k ≡ Some g
-      → is_some (slice_get (global_imports m.tree) k) ≡ true
-      → named (pointer_name (global_name k)) (variables s) ≡ Some (pointer_type g.0)
+      → is_some (slice_get (global_imports m.tree) k) ≡ true → named (pointer_name (global_name k)) (variables s) ≡ Some (pointer_type g.0)
   pub memory : IsSome (slice_get (memory_space m.tree) 0) → IsArg s type.PtrMem (memory_arg m.tree)
   pub table : IsSome (slice_get (table_space m.tree) 0) → IsArg s type.PtrTab (table_arg m.tree)
   pub memory_pointer : is_some (slice_get (memory_imports m.tree) 0) ≡ true
@@ -53,8 +43,7 @@ pub record InitKnows (m : NamedModule) (s : Scope) : Type 0 where
   pub accessors : (i : Import) → is_among (import_symbol i) (map import_symbol m.tree.imports) ≡ true → is_usable m i ≡ true
       → named (import_symbol i) (functions s) ≡ Some (import_type m.tree i)
   pub callees : (k : ℕ) (ty : FuncType) (name : Name) → at_index (map (type_in m.tree) (func_space m.tree)) k ≡ Some ty
-      → callee m k ≡ Some name
-      → named name (functions s) ≡ Some (c_func_type ty)
+      → callee m k ≡ Some name → named name (functions s) ≡ Some (c_func_type ty)
   pub elements : (k : ℕ) → is_none (slice_get (func_space m.tree) k) ≡ false → IsArg s type.FnPtr (tree.OfFunction (function_name m.tree k))
   pub runtime : (q : Name) → is_runtime_name q ≡ true → named q (functions s) ≡ named q primitives
   pub size : tests_limits m.tree || tests_bounds m.tree ≡ true → named size_name (variables s) ≡ Some type.U64
@@ -146,8 +135,7 @@ module _ (m : NamedModule) (a : IsAccepted m) (s : Scope) (k : InitKnows m s) wh
   limits_good : (object : Name) (p : CType) (len_of max_of : List ℕ) (unit : ℕ) (l : Limits) → unit < 2 ^ 64 → AreLimits l
       → named (pointer_name object) (variables s) ≡ Some p → is_object_type p ≡ false
       → named len_of (functions s) ≡ Some (record { params = p ∷ []; result = type.U64 })
-      → named max_of (functions s) ≡ Some (record { params = p ∷ []; result = type.U64 })
-      → proper_types (p ∷ []) ≡ p ∷ []
+      → named max_of (functions s) ≡ Some (record { params = p ∷ []; result = type.U64 }) → proper_types (p ∷ []) ≡ p ∷ []
       → (asks_something l ≡ true → (named size_name (variables s) ≡ Some type.U64) ×
       (is_among (label_name limits_label) (labels_of s.body.stmts) ≡ true))
       → AllByRecursion Good (test_limits object len_of max_of unit l)
@@ -194,8 +182,7 @@ module _ (m : NamedModule) (a : IsAccepted m) (s : Scope) (k : InitKnows m s) wh
 
   pointer_good : (i : Import) (object : Name) (p : CType) → is_among (import_symbol i) (map import_symbol t.imports) ≡ true
       → import_type t i ≡ accessor_type p
-      → named (pointer_name object) (variables s) ≡ Some p → is_object_type p ≡ false → is_void p ≡ false
-      → Good (set_pointer m i object)
+      → named (pointer_name object) (variables s) ≡ Some p → is_object_type p ≡ false → is_void p ≡ false → Good (set_pointer m i object)
   pointer_good i object p there typed found o v = by (is_usable m i) refl
     where
       by : (b : Bool) → is_usable m i ≡ b → Good
@@ -208,8 +195,7 @@ module _ (m : NamedModule) (a : IsAccepted m) (s : Scope) (k : InitKnows m s) wh
       by false u = (null_passes s, tt)
 
   global_pointer_good : (i : Import) (number : ℕ) → is_among (import_symbol i) (map import_symbol t.imports) ≡ true
-      → slice_get (global_imports t) number ≡ Some i
-      → Good (set_pointer m i (global_name number))
+      → slice_get (global_imports t) number ≡ Some i → Good (set_pointer m i (global_name number))
   global_pointer_good i number there at =
       let found = imported_global t.imports number i at in
       let plain = pointer_is found.1 in
@@ -257,7 +243,7 @@ module _ (m : NamedModule) (a : IsAccepted m) (s : Scope) (k : InitKnows m s) wh
           let found = k.memory_pointer (is.memory refl) in
           all_append Good (take_stmts m number (of_kind i (ImportMemory l))) _ (
             pointer_good (of_kind i (ImportMemory l)) memory_name type.PtrMem is.there refl found refl refl,
-            limits_good memory_name type.PtrMem (codes "w2c_mem_len") (codes "w2c_mem_max") 65536 l page_fits is.memories.0 found refl
+            limits_good memory_name type.PtrMem (codes "w2c_mem_len") (codes "w2c_mem_max") 65536 l (omega arith) is.memories.0 found refl
                 (k.runtime (codes "w2c_mem_len") refl) (k.runtime (codes "w2c_mem_max") refl) refl (λ e. needs (is.tested e)),
           )
           (rest number glob)

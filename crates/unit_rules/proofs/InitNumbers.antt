@@ -1,33 +1,17 @@
 -- The numbers of the init function's expressions fit their types.
-use Rattle.unit_rules.proofs.Common.{◌≡◌, ℕ, suc, ◌^◌, ◌<◌, ◌≤◌, Bool, true, false, List, [], ◌∷◌, length, ℤ, pos, negsuc, is_some}
-use Rattle.unit_rules.proofs.Common.{if◌then◌else◌, slice_get, Some, None, Option, refl, arith, AllByRecursion, all_behind, all_front}
-use Rattle.unit_rules.proofs.Common.{if_found, code_of, pattern_of, FuncType, TrapKind, func_space, func_type_in, memory_space, table_space}
-use Rattle.unit_rules.proofs.Common.{type_in, Code, GlobalGet, I32Const, I64Const, end_code, then_code, NamedModule, IsMaximum, Limits}
-use Rattle.unit_rules.proofs.Common.{Module, global_name, memory_name, table_name, pointer_name, Name, FitsArg, FitsExpr, memory_arg}
-use Rattle.unit_rules.proofs.Common.{table_arg, global_imports, memory_imports, table_imports, constant_expr, max_number, place_expr}
-use Rattle.unit_rules.proofs.Common.{signature, IsAccepted}
+use Rattle.unit_rules.proofs.Common.{◌≡◌, ℕ, suc, ◌^◌, ◌<◌, ◌≤◌, List, [], ◌∷◌, length, slice_get, Some, None, Option, refl}
+use Rattle.unit_rules.proofs.Common.{arith, AllByRecursion, all_behind, all_front, if_found, code_of, FuncType, TrapKind, func_space, Code}
+use Rattle.unit_rules.proofs.Common.{func_type_in, memory_space, table_space, type_in, GlobalGet, I32Const, I64Const, end_code, then_code}
+use Rattle.unit_rules.proofs.Common.{NamedModule, IsMaximum, Limits, Module, FitsExpr, constant_expr, max_number, place_expr, signature}
+use Rattle.unit_rules.proofs.Common.{IsAccepted, global_fits, pattern_fits, signature_below, accepted_limits, few_params}
 use Rattle.c_tree.specs.Tree as tree
 use Rattle.w2c_base.specs.declared.trap.TrapKind.TheVariants as trap
-use Rattle.body_rules.proofs.FormedCode.{signature_below}
-use Rattle.unit_definition.proofs.AcceptedLimits.{accepted_limits}
-use Rattle.unit_definition.proofs.BodiesAt.{few_params}
-
-pattern_32 : (z : ℤ) → pattern_of 32 z < 2 ^ 32
-pattern_32 (pos a) = omega arith
-pattern_32 (negsuc a) = omega arith
-
-pattern_64 : (z : ℤ) → pattern_of 64 z < 2 ^ 64
-pattern_64 (pos a) = omega arith
-pattern_64 (negsuc a) = omega arith
 
 pub zero_fits : 0 < 2 ^ 64
 zero_fits = omega arith
 
 pub one_fits : 1 < 2 ^ 64
 one_fits = omega arith
-
-pub page_fits : 65536 < 2 ^ 64
-page_fits = omega arith
 
 pub wider : (n : ℕ) → n < 2 ^ 32 → n < 2 ^ 64
 wider n less = omega (arith, less)
@@ -48,29 +32,14 @@ module _ (m : NamedModule) (a : IsAccepted m) where
   -- ---- expressions, within so many others
 
   pub constant_fits : (d : ℕ) (code : Code) → FitsExpr (suc d) (constant_expr t code)
-  constant_fits d (then_code place (I32Const z) end_code) = pattern_32 z
-  constant_fits d (then_code place (I64Const z) end_code) = pattern_64 z
-  constant_fits d (then_code place (GlobalGet index) end_code) = by (is_some (slice_get (global_imports t) index))
-    where
-      by : (b : Bool) → FitsExpr (suc d) (if b then tree.Star (pointer_name (global_name index)) else tree.Name (global_name index))
-      by true = tt
-      by false = tt
+  constant_fits d (then_code place (I32Const z) end_code) = pattern_fits 32 z
+  constant_fits d (then_code place (I64Const z) end_code) = pattern_fits 64 z
+  constant_fits d (then_code place (GlobalGet index) end_code) = global_fits d t index
   constant_fits d _ = omega arith
 
   pub place_fits : (d : ℕ) (offset : Code) (number : tree.Expr) → FitsExpr (suc (suc d)) number
       → FitsExpr (suc (suc (suc d))) (place_expr t offset number)
   place_fits d offset number fits = (constant_fits d offset, fits)
-
-  either_fits : (object : Name) (d : ℕ) (imported : Bool)
-      → FitsArg (suc d) (if imported then tree.Value (tree.Name (pointer_name object)) else tree.Address object)
-  either_fits object d true = tt
-  either_fits object d false = tt
-
-  pub memory_fits : (d : ℕ) → FitsArg (suc d) (memory_arg t)
-  memory_fits d = either_fits memory_name d (is_some (slice_get (memory_imports t) 0))
-
-  pub table_fits : (d : ℕ) → FitsArg (suc d) (table_arg t)
-  table_fits d = either_fits table_name d (is_some (slice_get (table_imports t) 0))
 
   pub signature_fits : (func : ℕ) → signature (func_type_in t func) < 2 ^ 64
   signature_fits func = by (slice_get (func_space t) func)

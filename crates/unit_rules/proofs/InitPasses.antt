@@ -1,39 +1,28 @@
 -- The statements of the init function, and of its parts, keep the rules in their unit, and their numbers fit: what they name is declared
 -- before them, or is a local variable where it is used.
-use Rattle.unit_rules.proofs.Common.{◌≡◌, ℕ, zero, suc, ◌+◌, ◌<◌, ◌≤◌, Bool, true, false, not, ◌||◌, List, [], ◌∷◌, ◌++◌, map, length}
-use Rattle.unit_rules.proofs.Common.{is_some, is_none, if◌then◌else◌, slice_get, Some, None, codes, filter, Option, flat_map, bytes_eq}
-use Rattle.unit_rules.proofs.Common.{refl, ap, ◌∙◌, subst, arith, slice_get_within, AllByRecursion, list_any, range_with_len, all_behind}
-use Rattle.unit_rules.proofs.Common.{all_front, all_weaker, get_mapped, all_append, all_at, all_flat, all_from, all_map, named, numbered}
-use Rattle.unit_rules.proofs.Common.{func_space, imported_global_space, is_func_import, NamedModule, ElementEntry, FuncRef, GlobalEntry}
-use Rattle.unit_rules.proofs.Common.{Import, LimitsEntry, Module, shape_of, func_name, global_name, memory_name, table_name, label_name}
-use Rattle.unit_rules.proofs.Common.{pointer_name, labels_of, primitives, Name, Scope, is_among, variables, CType, bytes_equal}
-use Rattle.unit_rules.proofs.Common.{function_name, func_imports, import_symbol, is_usable, memory_imports, table_imports}
-use Rattle.unit_rules.proofs.Common.{past_none, named_in, IsArg, address_arg, call_passes_as, function_arg, name_typed, null_passes}
-use Rattle.unit_rules.proofs.Common.{return_none_passes, value_arg, Present, first_present, left_present, right_present, funcs_in, vars_in}
-use Rattle.unit_rules.proofs.Common.{bounds_label, byte_name, has_bytes, init_stmts, limits_label, local_if, make_global, make_memory}
-use Rattle.unit_rules.proofs.Common.{make_table, size_name, start_stmts, takes_from, test_data, test_elements, tests_bounds, tests_limits}
-use Rattle.unit_rules.proofs.Common.{trap_if, write_data, write_element, write_elements, IsAccepted}
-use Rattle.w2c_base.proofs.Options.{some_is}
-use Rattle.w2c_base.proofs.NumberedLists.{numbered_at}
-use Rattle.w2c_base.proofs.Places.{get_within}
+use Rattle.unit_rules.proofs.Common.{◌≡◌, ℕ, zero, suc, ◌+◌, ◌<◌, ◌≤◌, Bool, true, false, not, ◌||◌, List, [], ◌∷◌, ◌++◌, map, length, Some}
+use Rattle.unit_rules.proofs.Common.{is_some, is_none, if◌then◌else◌, slice_get, None, codes, filter, Option, flat_map, bytes_eq, refl, ap}
+use Rattle.unit_rules.proofs.Common.{◌∙◌, subst, arith, slice_get_within, AllByRecursion, list_any, range_with_len, all_behind, all_front}
+use Rattle.unit_rules.proofs.Common.{all_weaker, get_mapped, all_append, all_at, all_flat, all_from, all_map, named, numbered, func_space}
+use Rattle.unit_rules.proofs.Common.{imported_global_space, is_func_import, NamedModule, ElementEntry, FuncRef, GlobalEntry, Import, Module}
+use Rattle.unit_rules.proofs.Common.{LimitsEntry, shape_of, func_name, global_name, memory_name, table_name, label_name, pointer_name, Name}
+use Rattle.unit_rules.proofs.Common.{labels_of, primitives, Scope, is_among, variables, CType, bytes_equal, function_name, func_imports}
+use Rattle.unit_rules.proofs.Common.{import_symbol, is_usable, memory_imports, table_imports, past_none, named_in, IsArg, address_arg, Part}
+use Rattle.unit_rules.proofs.Common.{call_passes_as, function_arg, name_typed, null_passes, return_none_passes, value_arg, Present, vars_in}
+use Rattle.unit_rules.proofs.Common.{first_present, left_present, right_present, funcs_in, bounds_label, byte_name, has_bytes, init_stmts}
+use Rattle.unit_rules.proofs.Common.{limits_label, local_if, make_global, make_memory, make_table, size_name, start_stmts, takes_from, Kind}
+use Rattle.unit_rules.proofs.Common.{test_data, test_elements, tests_bounds, tests_limits, trap_if, write_data, write_element, IsAccepted}
+use Rattle.unit_rules.proofs.Common.{write_elements, some_is, numbered_at, get_within, part_name, begun, call_part, calling_stmts, ended}
+use Rattle.unit_rules.proofs.Common.{elements_in, part_func, parts_of, stmts_with, whole_stmts, ShapeFits, DataIsValid, ElementIsValid}
+use Rattle.unit_rules.proofs.Common.{IsInstantiable, rows_of, used_by_elements, used_by_segments, parts_are, accepted_limits, in_vars, mems}
+use Rattle.unit_rules.proofs.Common.{no_var, past_vars, own_global, imported_global_is, own_memory_is, own_table_is, imported_memory_is}
+use Rattle.unit_rules.proofs.Common.{imported_table_is, exports, functions_of, objects, parts, tabs, tabs_class}
 use Rattle.w2c_base.specs.declared.trap.TrapKind.TheVariants as trap
 use Rattle.c_tree.specs.declared.tree.CType.TheVariants as type
-use Rattle.c_tree.specs.DefinedNames.{part_name}
 use Rattle.c_tree.specs.Makers as makers
 use Rattle.c_tree.specs.Scope as scope
 use Rattle.c_tree.specs.Tree as tree
-use Rattle.c_init.specs.Init.{Part, begun, call_part, calling_stmts, elements_in, ended, part_func, parts_of, stmts_with, whole_stmts}
-use Rattle.c_init.specs.Fitting.{ShapeFits}
-use Rattle.c_init.specs.Instantiable.{DataIsValid, ElementIsValid, IsInstantiable}
-use Rattle.c_init.proofs.NoFaults.{rows_of, used_by_elements, used_by_segments}
-use Rattle.c_init.proofs.PartsOf.{Kind, parts_are}
-use Rattle.unit_definition.proofs.AcceptedLimits.{accepted_limits}
 use Rattle.unit_definition.proofs.Instantiable.{modules_are_instantiable}
-use Rattle.unit_definition.proofs.KnownNames.{in_vars, no_var, past_vars}
-use Rattle.unit_definition.proofs.Knowledge.{own_global, imported_global_is, own_memory_is, own_table_is, imported_memory_is}
-use Rattle.unit_definition.proofs.Knowledge.{imported_table_is}
-use Rattle.unit_definition.proofs.SectionLists.{exports, functions_of, mems, objects, parts, tabs}
-use Rattle.unit_definition.proofs.Sections.{tabs_class}
 use Rattle.unit_rules.proofs.Clashes.{IsFound, all_found}
 use Rattle.unit_rules.proofs.EachItem.{each_numbered}
 use Rattle.unit_rules.proofs.ExportFacts.{func_typed}
@@ -90,8 +79,7 @@ module _ (m : NamedModule) (a : IsAccepted m) (declared : List tree.Item) (d : I
       ∙ named_in q (vars_in declared) ((codes "w2c_depth", type.U32) ∷ []) ty (object_known m a declared d q ty found)
 
   object_arg : (object : Name) (u p : CType) → scope.pointer_to u ≡ Some p → bytes_eq size_name object ≡ false
-      → bytes_eq byte_name object ≡ false → named object (vars_in (objects m)) ≡ Some u
-      → IsArg s p (tree.Address object)
+      → bytes_eq byte_name object ≡ false → named object (vars_in (objects m)) ≡ Some u → IsArg s p (tree.Address object)
   object_arg object u p to e f found =
       address_arg s object u p (ap is_some (in_scope object u e f found)) (object_known m a declared d object u found) to
 
@@ -116,8 +104,7 @@ module _ (m : NamedModule) (a : IsAccepted m) (declared : List tree.Item) (d : I
           ap is_some (callee_known m a declared d index typed.0 (func_name index) typed.2
           (ap (λ (o : Option Import). elim o [
             | None ↦ Some (func_name index)
-            | Some i ↦ if is_usable m i then Some
-                (import_symbol i) else None
+            | Some i ↦ if is_usable m i then Some (import_symbol i) else None
           ]) e))
       by (Some i) e = ap is_some
           (symbol_known m a declared d (import_symbol i) (kept_among import_symbol is_func_import t.imports index i e).0)

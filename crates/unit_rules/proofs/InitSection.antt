@@ -3,9 +3,8 @@
 use Rattle.unit_rules.proofs.Common.{◌≡◌, Bool, true, false, ◌||◌, List, [], ◌∷◌, ◌++◌, map, length, if◌then◌else◌, nat_le, refl, arith}
 use Rattle.unit_rules.proofs.Common.{AllByRecursion, list_any, all_weaker, named, NamedModule, Module, are_distinct, is_own_name, is_symbol}
 use Rattle.unit_rules.proofs.Common.{labels_of, Name, Scope, FitsNum, IsName, CType, function_named, ends_well, class, byte_name, has_bytes}
-use Rattle.unit_rules.proofs.Common.{local_if, size_name, tests_bounds, tests_limits, items, IsAccepted}
+use Rattle.unit_rules.proofs.Common.{local_if, size_name, tests_bounds, tests_limits, items, IsAccepted, own_func, own_locals}
 use Rattle.c_tree.specs.Tree as tree
-use Rattle.c_init.specs.Init.{own_func, own_locals}
 use Rattle.unit_rules.proofs.FormedSections.{IsFormed, unit_named}
 use Rattle.unit_rules.proofs.InitForms.{IsGood}
 use Rattle.unit_rules.proofs.InitNumbers.{zero_fits}
@@ -17,8 +16,7 @@ own_scope declared static name m stmts =
 
 -- by the variables that are there
 by_locals : (P : List tree.Local → Type 0) → P (local_if true size_name ++ local_if true byte_name) → P (local_if true size_name)
-    → P (local_if true byte_name) → P []
-    → (m : Module) → P (own_locals m)
+    → P (local_if true byte_name) → P [] → (m : Module) → P (own_locals m)
 by_locals P both size byte none m = by (tests_limits m || tests_bounds m) (list_any has_bytes m.segments)
   where
     by : (b c : Bool) → P (local_if b size_name ++ local_if c byte_name)

@@ -9,21 +9,18 @@ use Rattle.unit_rules.proofs.Common.{proper_types, HasType, Scope, arrays, funct
 use Rattle.unit_rules.proofs.Common.{CType, callee, function_name, memory_arg, table_arg, c_func_type, IsArg, IsTyped, call_passes, Present}
 use Rattle.unit_rules.proofs.Common.{call_passes_as, element_typed, if_passes, label_passes, n32_typed, n64_typed, name_typed, null_passes}
 use Rattle.unit_rules.proofs.Common.{op_typed, set_passes, value_arg, first_present, left_present, right_present, bounds_label, byte_name}
-use Rattle.unit_rules.proofs.Common.{call_start, data_name, has_bytes, loop_label, n64, place_expr, signature, size_name, start_stmts}
+use Rattle.unit_rules.proofs.Common.{call_start, data_name, has_bytes, loop_label, n64, place_expr, signature, size_name, start_stmts, I32}
 use Rattle.unit_rules.proofs.Common.{test_bounds, test_data, test_elements, tests_bounds, tests_limits, trap_if, write_data, IsAccepted}
-use Rattle.w2c_base.specs.declared.value.ValType.TheVariants.{I32}
+use Rattle.unit_rules.proofs.Common.{memory_fits, table_fits, ShapeFits, Element, write_one, DataIsValid, ElementIsValid, no_left, no_right}
+use Rattle.unit_rules.proofs.Common.{no_fault}
 use Rattle.wasm_typing.specs.declared.fault.ValidCause.TheVariants as cause
 use Rattle.c_tree.specs.declared.tree.CType.TheVariants as type
 use Rattle.c_tree.specs.declared.tree.COp.TheVariants as op
 use Rattle.c_tree.specs.Tree as tree
 use Rattle.c_tree.specs.Makers as makers
-use Rattle.c_init.specs.Fitting.{ShapeFits}
-use Rattle.c_init.specs.Init.{Element, write_one}
-use Rattle.c_init.specs.Instantiable.{DataIsValid, ElementIsValid}
-use Rattle.c_init.proofs.Small.{no_left, no_right, no_fault}
 use Rattle.unit_rules.proofs.ExportFacts.{func_typed}
 use Rattle.unit_rules.proofs.InitForms.{InitKnows, IsGood, place_typed}
-use Rattle.unit_rules.proofs.InitNumbers.{code_fits, memory_fits, one_fits, place_fits, signature_fits, table_fits, wider, zero_fits}
+use Rattle.unit_rules.proofs.InitNumbers.{code_fits, one_fits, place_fits, signature_fits, wider, zero_fits}
 
 -- ---- lists
 
@@ -61,13 +58,9 @@ module _ (m : NamedModule) (a : IsAccepted m) (s : Scope) (k : InitKnows m s) wh
   abbrev pub BoundsLabel : Type 0
   BoundsLabel = tests_bounds t ≡ true → is_among (label_name bounds_label) (labels_of s.body.stmts) ≡ true
 
-  sized : tests_bounds t ≡ true → IsTyped s (tree.Name size_name) (HasType type.U64)
-  sized e = name_typed s size_name type.U64 (k.size (or_right (tests_limits t) _ e)) refl
-
   bounds_good : (len_of : List ℕ) (p : CType) (object : tree.Arg) (end_of_segment : tree.Expr) → BoundsLabel → tests_bounds t ≡ true
       → named len_of (functions s) ≡ Some (record { params = p ∷ []; result = type.U64 }) → proper_types (p ∷ []) ≡ p ∷ []
-      → IsArg s p object → FitsArg 99 object
-      → IsTyped s end_of_segment (HasType type.U64) → FitsExpr 100 end_of_segment
+      → IsArg s p object → FitsArg 99 object → IsTyped s end_of_segment (HasType type.U64) → FitsExpr 100 end_of_segment
       → AllByRecursion Good (test_bounds len_of object end_of_segment)
   bounds_good len_of p object end_of_segment label tested len proper arg fits typed end_fits = (
     (
@@ -77,8 +70,8 @@ module _ (m : NamedModule) (a : IsAccepted m) (s : Scope) (k : InitKnows m s) wh
     ),
     (
       (
-        if_passes s op.Gt end_of_segment (tree.Name size_name) (label_name bounds_label) type.U64 refl refl typed (sized tested)
-            (label tested),
+        if_passes s op.Gt end_of_segment (tree.Name size_name) (label_name bounds_label) type.U64 refl refl typed
+            (name_typed s size_name type.U64 (k.size (or_right (tests_limits t) _ tested)) refl) (label tested),
         (end_fits, tt),
       ),
       tt,
@@ -91,7 +84,7 @@ module _ (m : NamedModule) (a : IsAccepted m) (s : Scope) (k : InitKnows m s) wh
       (all_weaker (ElementIs t) (λ e. AllByRecursion Good (test_elements t e)) xs
       (λ e h.
       bounds_good (codes "w2c_tab_len") type.PtrTab (table_arg t) (place_expr t e.offset (n64 (length e.funcs))) label h.tested
-      (k.runtime (codes "w2c_tab_len") refl) refl (k.table h.valid.there) (table_fits m a 98)
+      (k.runtime (codes "w2c_tab_len") refl) refl (k.table h.valid.there) (table_fits 98 t)
       (place_typed m a s k e.offset (n64 (length e.funcs)) h.valid.offset (n64_typed s (length e.funcs)))
       (place_fits m a 97 e.offset (n64 (length e.funcs)) (wider (length e.funcs) h.valid.few))) all)
 
@@ -101,7 +94,7 @@ module _ (m : NamedModule) (a : IsAccepted m) (s : Scope) (k : InitKnows m s) wh
       (all_weaker (SegmentIs t) (λ d. AllByRecursion Good (test_data t d)) xs
       (λ d h.
       bounds_good (codes "w2c_mem_len") type.PtrMem (memory_arg t) (place_expr t d.offset (n64 (length d.bytes))) label h.tested
-      (k.runtime (codes "w2c_mem_len") refl) refl (k.memory h.valid.there) (memory_fits m a 98)
+      (k.runtime (codes "w2c_mem_len") refl) refl (k.memory h.valid.there) (memory_fits 98 t)
       (place_typed m a s k d.offset (n64 (length d.bytes)) h.valid.offset (n64_typed s (length d.bytes)))
       (place_fits m a 97 d.offset (n64 (length d.bytes)) (wider (length d.bytes) h.valid.few))) all)
 
@@ -116,7 +109,7 @@ module _ (m : NamedModule) (a : IsAccepted m) (s : Scope) (k : InitKnows m s) wh
             (k.elements x.1.1.index h.known, (value_arg s _ type.U64 (n64_typed s (signature (func_type_in t x.1.1.index))), tt)),
           ),
         ) tt,
-    (tt, (table_fits m a 99, (place_fits m a 97 x.0.offset (n64 x.1.0) (wider x.1.0 h.small), (tt, (signature_fits m a x.1.1.index, tt))))),
+    (tt, (table_fits 99 t, (place_fits m a 97 x.0.offset (n64 x.1.0) (wider x.1.0 h.small), (tt, (signature_fits m a x.1.1.index, tt))))),
   )
 
   -- the loop over a segment's bytes
@@ -146,7 +139,7 @@ module _ (m : NamedModule) (a : IsAccepted m) (s : Scope) (k : InitKnows m s) wh
                       (value_arg s _ type.U32 (element_typed s (data_name n) (tree.Name byte_name) type.U64 there refl byte), tt),
                     ),
                   ) tt,
-              (tt, (memory_fits m a 99, (place_fits m a 97 offset (tree.Name byte_name) tt, (tt, tt)))),
+              (tt, (memory_fits 99 t, (place_fits m a 97 offset (tree.Name byte_name) tt, (tt, tt)))),
             ),
             (
               (

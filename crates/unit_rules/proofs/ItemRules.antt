@@ -1,17 +1,15 @@
 -- A unit keeps the rules where each of its items does at its place, in a unit of which some things are so of all items
 -- together; and what items owe there, with a body and without.
-use Rattle.unit_rules.proofs.Common.{◌≡◌, ℕ, suc, ◌+◌, ◌<◌, ◌≤◌, Bool, true, false, not, ◌&&◌, ◌||◌, ◌≢◌, ◌⊎◌, List, [], ◌∷◌, ◌++◌, map}
-use Rattle.unit_rules.proofs.Common.{length, is_some, if◌then◌else◌, nat_le, slice_get, Some, None, bytes_eq, sym, refl, ap, ◌∙◌, subst}
-use Rattle.unit_rules.proofs.Common.{inl, inr, append_assoc, append-nil, arith, or_left, or_right, list_any-append, AllByRecursion}
+use Rattle.unit_rules.proofs.Common.{defines_itself, hidden_by_class, ◌≡◌, ℕ, suc, ◌+◌, ◌<◌, ◌≤◌, Bool, true, false, not, ◌&&◌, ◌||◌, ◌≢◌}
+use Rattle.unit_rules.proofs.Common.{◌⊎◌, List, [], ◌∷◌, ◌++◌, map, ap, length, is_some, if◌then◌else◌, nat_le, slice_get, Some, None, sym}
+use Rattle.unit_rules.proofs.Common.{bytes_eq, refl, ◌∙◌, subst, inl, inr, append_assoc, append-nil, arith, or_right, AllByRecursion, Name}
 use Rattle.unit_rules.proofs.Common.{list_all, list_any, both_hold, all_map, take_with, numbered, imported_funcs, NamedModule, func_name}
-use Rattle.unit_rules.proofs.Common.{KeepsRules, broken_in_body, broken_in_item, are_distinct, defines, hides_none, is_declared_once}
+use Rattle.unit_rules.proofs.Common.{KeepsRules, broken_in_body, broken_in_item, are_distinct, defines, hides_none, is_declared_once, CType}
 use Rattle.unit_rules.proofs.Common.{is_own_name, is_result_type, is_symbol, is_value_type, is_void, item_rules, labels_of, local_names}
-use Rattle.unit_rules.proofs.Common.{may_both_stand, number_suits, proper_params, Name, local_variables, name_of, param_variables, CType}
-use Rattle.unit_rules.proofs.Common.{bytes_equal, all_true, not_there, Passes, all_numbered, body_keeps, ends_well, none_broken}
-use Rattle.unit_rules.proofs.Common.{none_of_all, take_before, same_number, NoneOf, class}
+use Rattle.unit_rules.proofs.Common.{may_both_stand, number_suits, proper_params, local_variables, name_of, param_variables, all_true}
+use Rattle.unit_rules.proofs.Common.{Passes, all_numbered, body_keeps, ends_well, none_broken, none_of_all, take_before, same_number, class}
+use Rattle.unit_rules.proofs.Common.{Place, AllPairs}
 use Rattle.c_tree.specs.Tree as tree
-use Rattle.c_tree.specs.Rules.{Place}
-use Rattle.unit_definition.proofs.Pairs.{AllPairs}
 use Rattle.body_rules.proofs.RulesOfFunctions.{all_at as all_around}
 use Rattle.unit_rules.proofs.Clashes.{MayFollow, NoClass, NoRuntime, pairs_at}
 
@@ -51,8 +49,7 @@ abbrev AllKeep : NamedModule → List tree.Item → List tree.Item → List tree
 AllKeep m front items back = (before : List tree.Item) (x : tree.Item) (behind : List tree.Item) → items ≡ before ++ x ∷ behind
     → Keeps m (front ++ before) x (behind ++ back)
 
-each_keeps : (m : NamedModule) (front items back : List tree.Item) → AllByRecursion (KeepsBehind m front) items
-    → AllKeep m front items back
+each_keeps : (m : NamedModule) (front items back : List tree.Item) → AllByRecursion (KeepsBehind m front) items → AllKeep m front items back
 each_keeps m front items back all before x behind e =
     all_around (KeepsBehind m front) before x behind (subst (AllByRecursion (KeepsBehind m front)) e all) before (behind ++ back)
 
@@ -94,9 +91,7 @@ once x before behind apart =
 
 item_keeps : (x : tree.Item) (before behind : List tree.Item)
     → list_all (λ (r : ℕ × (Place → Bool)). r.1 (record { unit = before ++ x ∷ behind; number = length before; item = x })) item_rules
-    ≡ true
-    → broken_in_body (before ++ x ∷ behind) (length before) x ≡ []
-    → broken_in_item (before ++ x ∷ behind) (length before, x) ≡ []
+    ≡ true → broken_in_body (before ++ x ∷ behind) (length before) x ≡ [] → broken_in_item (before ++ x ∷ behind) (length before, x) ≡ []
 item_keeps x before behind e f = ap (λ rules. map
     (λ rule. record { item = length before; statement = 0; rule = rule }) rules ++ broken_in_body (before ++ x ∷ behind)
     (length before) x) (none_broken item_rules (record { unit = before ++ x ∷ behind; number = length before; item = x }) e) ∙ f
@@ -173,14 +168,6 @@ pub record IsFunction (declared : List tree.Item) (f : tree.Func) (b : tree.Body
   pub labels : are_distinct (labels_of b.stmts) ≡ true
   pub ends : ends_well b.stmts ≡ true
 
--- no own name is a name of an item, since the classes differ
-hidden_by_class : (unit : List tree.Item) (own : List Name) → AllByRecursion (λ n. class n ≡ 9) own → NoneOf 9 (map name_of unit)
-    → hides_none unit own ≡ true
-hidden_by_class unit [] all none_of = refl
-hidden_by_class unit (n ∷ own) all none_of =
-    rw (not_there n (map name_of unit) (subst (λ k. NoneOf k (map name_of unit)) (sym all.0) none_of))
-    (hidden_by_class unit own all.1 none_of)
-
 defined_keeps : (m : NamedModule) (f : tree.Func) (b : tree.Body) (before behind : List tree.Item)
     → IsFunction (before ++ tree.Function (record f { body = Some b }) ∷ []) (record f { body = Some b }) b
     → Keeps m before (tree.Function (record f { body = Some b })) behind
@@ -202,13 +189,8 @@ defined_keeps m f b before behind i whole =
     x : tree.Item
     x = tree.Function (record f { body = Some b })
 
-    self : defines f.name x ≡ true
-    self = rw (bytes_equal f.name) refl
-
     defined_if : (not f.is_static || list_any (defines f.name) (before ++ x ∷ behind)) ≡ true
-    defined_if = or_right (not f.is_static) _
-        (list_any-append (defines f.name) before (x ∷ behind)
-        ∙ or_right (list_any (defines f.name) before) _ (or_left (defines f.name x) (list_any (defines f.name) behind) self))
+    defined_if = or_right (not f.is_static) _ (defines_itself (record f { body = Some b }) before behind refl)
 
     hidden : hides_none (before ++ x ∷ behind) (names_of_vars (own_of (record f { body = Some b }) b)) ≡ true
     hidden = hidden_by_class (before ++ x ∷ behind) _ i.own_class (all_map (λ n. class n ≢ 9) name_of (before ++ x ∷ behind) whole.no_own)

@@ -1,14 +1,12 @@
 -- Types of functions that are declared, and names among others.
 use Rattle.unit_rules.proofs.Common.{◌≡◌, ℕ, zero, suc, Bool, true, false, ◌||◌, List, [], ◌∷◌, map, if◌then◌else◌, slice_get, Some, None}
-use Rattle.unit_rules.proofs.Common.{Contains, filter, flat_map, bytes_eq, sym, refl, ap, ◌∙◌, subst, or_left, or_right, false≢true}
-use Rattle.unit_rules.proofs.Common.{bytes_eq-Decides, AllByRecursion, list_any, get_mapped, all_at, all_from, ValType, func_of_import}
-use Rattle.unit_rules.proofs.Common.{is_func_import, Import, ImportKind, ImportFunc, Name, func_type_of, is_among, c_params_of, c_type_of}
-use Rattle.unit_rules.proofs.Common.{CType, bytes_equal, Typed, firsts, params_of, at}
+use Rattle.unit_rules.proofs.Common.{Contains, filter, flat_map, bytes_eq, sym, refl, ap, ◌∙◌, subst, or_left, or_right, false≢true, all_at}
+use Rattle.unit_rules.proofs.Common.{bytes_eq-Decides, AllByRecursion, list_any, get_mapped, all_from, ValType, func_of_import, Import, at}
+use Rattle.unit_rules.proofs.Common.{is_func_import, ImportKind, ImportFunc, Name, func_type_of, is_among, c_params_of, c_type_of, CType}
+use Rattle.unit_rules.proofs.Common.{bytes_equal, Typed, firsts, params_of, get_kept, all_pass, some_same}
 use Rattle.std.proofs.lemmas.Map.Views.{Contains-from_any}
 use Rattle.c_tree.specs.Tree as tree
 use Rattle.body_forms.specs.Variables.{params_from}
-use Rattle.w2c_base.proofs.Lists.{get_kept}
-use Rattle.c_init.proofs.Small.{all_pass, some_same}
 
 -- ---- types of declarations
 

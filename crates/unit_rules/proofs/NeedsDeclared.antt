@@ -1,27 +1,18 @@
 -- What a module's functions need is declared up to each that stands behind the first sections of the unit.
-use Rattle.unit_rules.proofs.Common.{◌≡◌, ℕ, ◌+◌, ◌-◌, ◌<◌, ◌≤◌, Bool, true, false, List, [], ◌∷◌, ◌++◌, map, length, is_some}
-use Rattle.unit_rules.proofs.Common.{if◌then◌else◌, slice_get, Some, None, Option, flat_map, filter_map, sym, refl, ap, ◌∙◌, subst, arith}
-use Rattle.unit_rules.proofs.Common.{slice_get_within, AllByRecursion, list_any, range_with_len, all_behind, all_front, get_mapped}
-use Rattle.unit_rules.proofs.Common.{get_unmapped, all_at, of_contained, get_front, at_index, named, numbered, FuncType, func_count}
-use Rattle.unit_rules.proofs.Common.{func_of_import, func_space, imported_funcs, is_func_import, type_in, NamedModule}
-use Rattle.unit_rules.proofs.Common.{BodyEntry, FuncEntry, Import, SegmentEntry, Module, func_name, same_func_type, Name}
-use Rattle.unit_rules.proofs.Common.{array_of, is_among, c_result_of, CType, helper_of, calls_helper, helpers_of, any_in, Helper, HELPERS}
-use Rattle.unit_rules.proofs.Common.{callee, c_func_type, c_func_type_if, declared_symbols, firsts, func_imports, import_symbol}
-use Rattle.unit_rules.proofs.Common.{import_type, is_usable, symbol_type, params_of, body_of, listed, made_static, helper_type, at}
-use Rattle.unit_rules.proofs.Common.{FileKnows, funcs_in, vars_in, data_name, bodies, data_of, declaration, prototype, IsAccepted}
-use Rattle.c_symbols.specs.Symbols.{declared_type}
-use Rattle.w2c_base.proofs.Lists.{all_unmapped, contains_kept, get_numbered}
-use Rattle.w2c_base.proofs.NumberedLists.{numbered_at}
+use Rattle.unit_rules.proofs.Common.{imported_global_is, imported_memory_is, imported_table_is, slice_get_within, declared_symbols, is_some}
+use Rattle.unit_rules.proofs.Common.{func_types_same, AllByRecursion, range_with_len, func_of_import, imported_funcs, is_func_import, false}
+use Rattle.unit_rules.proofs.Common.{same_func_type, c_func_type_if, if◌then◌else◌, import_symbol, declared_type, contains_kept, filter_map}
+use Rattle.unit_rules.proofs.Common.{own_memory_is, get_unmapped, of_contained, SegmentEntry, calls_helper, func_imports, all_unmapped, ◌≡◌}
+use Rattle.unit_rules.proofs.Common.{get_numbered, own_table_is, declarations, NamedModule, c_result_of, c_func_type, import_type, flat_map}
+use Rattle.unit_rules.proofs.Common.{symbol_type, made_static, helper_type, declaration, numbered_at, all_behind, get_mapped, func_count, ℕ}
+use Rattle.unit_rules.proofs.Common.{func_space, helpers_of, IsAccepted, own_global, prototypes, slice_get, all_front, get_front, BodyEntry}
+use Rattle.unit_rules.proofs.Common.{FuncEntry, func_name, helper_of, is_usable, params_of, FileKnows, data_name, prototype, data_item, ◌+◌}
+use Rattle.unit_rules.proofs.Common.{some_same, list_any, at_index, numbered, FuncType, array_of, is_among, funcs_in, there_in, get_late}
+use Rattle.unit_rules.proofs.Common.{get_past, type_in, HELPERS, body_of, vars_in, data_of, in_vars, helpers, objects, length, Option, Bool}
+use Rattle.unit_rules.proofs.Common.{all_at, Import, Module, any_in, Helper, callee, firsts, listed, bodies, BodyAt, subst, arith, named}
+use Rattle.unit_rules.proofs.Common.{CType, true, List, ◌++◌, Some, None, refl, Name, ◌-◌, ◌<◌, ◌≤◌, ◌∷◌, map, sym, ◌∙◌, [], ap, at}
 use Rattle.c_tree.specs.Tree as tree
-use Rattle.unit_definition.specs.Items.{data_item}
 use Rattle.unit_rules.proofs.EachItem.{all_unflat}
-use Rattle.c_tree.proofs.SameTypes.{func_types_same}
-use Rattle.c_init.proofs.Small.{some_same, there_in}
-use Rattle.unit_definition.proofs.BodiesAt.{BodyAt}
-use Rattle.unit_definition.proofs.KnownNames.{in_vars, get_late, get_past}
-use Rattle.unit_definition.proofs.Knowledge.{own_global, imported_global_is, own_memory_is, own_table_is, imported_memory_is}
-use Rattle.unit_definition.proofs.Knowledge.{imported_table_is}
-use Rattle.unit_definition.proofs.SectionLists.{declarations, helpers, objects, prototypes}
 use Rattle.unit_rules.proofs.Clashes.{IsFound, all_found}
 use Rattle.unit_rules.proofs.KnownFuncs.{among_contained, declared_typed, firsts_have, imported_func, kept_among, param_types}
 use Rattle.unit_rules.proofs.KnownFuncs.{without_names}
@@ -101,8 +92,7 @@ module _ (m : NamedModule) (a : IsAccepted m) (declared : List tree.Item) (d : I
       (subst (λ (f : tree.Func). IsFound declared (prototype f)) (ap (body_of t m.name) back ∙ b.is) found)
 
   own_callee : (k : ℕ) (ty : FuncType) → at_index (map (type_in t) (func_space t)) k ≡ Some ty
-      → is_some (slice_get (func_imports t) k) ≡ false
-      → named (func_name k) (funcs_in declared) ≡ Some (c_func_type ty)
+      → is_some (slice_get (func_imports t) k) ≡ false → named (func_name k) (funcs_in declared) ≡ Some (c_func_type ty)
   own_callee k ty e i =
       let imp = imported_funcs t in
       let counted = func_count t.imports in
@@ -120,8 +110,7 @@ module _ (m : NamedModule) (a : IsAccepted m) (declared : List tree.Item) (d : I
       subst (λ (ty : FuncType). named (func_name k) (funcs_in declared) ≡ Some (c_func_type ty)) same_type (own_named k b late low)
 
   imported_callee : (k : ℕ) (ty : FuncType) (i : Import) → at_index (map (type_in t) (func_space t)) k ≡ Some ty
-      → slice_get (func_imports t) k ≡ Some i → is_usable m i ≡ true
-      → named (import_symbol i) (funcs_in declared) ≡ Some (c_func_type ty)
+      → slice_get (func_imports t) k ≡ Some i → is_usable m i ≡ true → named (import_symbol i) (funcs_in declared) ≡ Some (c_func_type ty)
   imported_callee k ty i e at usable =
       let found = imported_func t.imports k i at in
       let x = get_unmapped (type_in t) (func_space t) k (Some ty) (there_in (slice_get (map (type_in t) (func_space t)) k) ty e) in

@@ -47,8 +47,7 @@ of_kind e kind = record e { kind = kind }
 pub gives_export : (m : NamedModule) (e : Export) → GivesExport m e (export_func m e)
 gives_export m e = by e.kind
   where
-    global : (o : Option (ValType × Bool)) (name : Name)
-        → GivesObject m (slice_get (global_imports m.tree) e.index) (global_name e.index)
+    global : (o : Option (ValType × Bool)) (name : Name) → GivesObject m (slice_get (global_imports m.tree) e.index) (global_name e.index)
         (accessor m (global_accessor_type o) name (slice_get (global_imports m.tree) e.index) (global_name e.index))
     global None name = gives_object m type.PtrU32 of_u32 name (slice_get (global_imports m.tree) e.index) (global_name e.index)
     global (Some (val.I32, mutable)) name =

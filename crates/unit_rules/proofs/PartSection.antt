@@ -1,25 +1,17 @@
 -- The init function and its parts keep the rules in their unit, and are well formed.
-use Rattle.unit_rules.proofs.Common.{◌≡◌, ℕ, zero, suc, ◌+◌, ◌^◌, ◌<◌, ◌≤◌, true, false, List, [], ◌∷◌, ◌++◌, length, nat_le, slice_get}
-use Rattle.unit_rules.proofs.Common.{flat_map, sym, refl, ap, ◌∙◌, subst, inl, inr, append_assoc, arith, length-append, nat_tests}
-use Rattle.unit_rules.proofs.Common.{slice_get_within, AllByRecursion, all_weaker, all_append, all_at, all_map, get_front, numbered}
-use Rattle.unit_rules.proofs.Common.{init_symbol_of, NamedModule, SegmentEntry, Module, label_name, labels_of, Scope, is_among}
-use Rattle.unit_rules.proofs.Common.{within_named, return_none_passes, Present, left_present, bounds_label, init_func, init_stmts}
-use Rattle.unit_rules.proofs.Common.{make_global, test_data, test_elements, trap_if, write_data, items, IsAccepted}
-use Rattle.w2c_base.proofs.Lists.{get_behind}
+use Rattle.unit_rules.proofs.Common.{◌≡◌, ℕ, zero, suc, ◌+◌, ◌^◌, ◌<◌, ◌≤◌, true, false, List, [], ◌∷◌, ◌++◌, length, nat_le, slice_get, ap}
+use Rattle.unit_rules.proofs.Common.{flat_map, sym, refl, ◌∙◌, subst, inl, inr, append_assoc, arith, length-append, nat_tests, all_weaker}
+use Rattle.unit_rules.proofs.Common.{slice_get_within, AllByRecursion, all_append, all_at, all_map, get_front, numbered, init_symbol_of}
+use Rattle.unit_rules.proofs.Common.{NamedModule, SegmentEntry, Module, label_name, labels_of, Scope, is_among, within_named, Present, Part}
+use Rattle.unit_rules.proofs.Common.{return_none_passes, left_present, bounds_label, init_func, init_stmts, make_global, test_data, trap_if}
+use Rattle.unit_rules.proofs.Common.{test_elements, write_data, items, IsAccepted, get_behind, part_name, Within, labels_differ, bytes_part}
+use Rattle.unit_rules.proofs.Common.{data_tests_part, element_tests_part, elements_part, globals_part, part_end, part_func, part_stmts}
+use Rattle.unit_rules.proofs.Common.{parts_of, stmts_with, write_one, few_parts, Consecutive, accepted_limits, init, parts, init_is}
 use Rattle.w2c_base.specs.declared.trap.TrapKind.TheVariants as trap
-use Rattle.c_tree.specs.DefinedNames.{part_name}
 use Rattle.c_tree.specs.Makers as makers
 use Rattle.c_tree.specs.Tree as tree
-use Rattle.c_tree.proofs.NumberedLabels.{Within, labels_differ}
-use Rattle.c_init.specs.Init.{Part, bytes_part, data_tests_part, element_tests_part, elements_part, globals_part, part_end, part_func}
-use Rattle.c_init.specs.Init.{part_stmts, parts_of, stmts_with, write_one}
 use Rattle.c_init.specs.Portions.{numbered_from}
-use Rattle.c_init.proofs.FewParts.{few_parts}
 use Rattle.c_init.proofs.InitLabelsDiffer.{bytes_within, init_within, none_flat, none_map, plain_within}
-use Rattle.c_init.proofs.PartsOf.{Consecutive}
-use Rattle.unit_definition.proofs.AcceptedLimits.{accepted_limits}
-use Rattle.unit_definition.proofs.SectionLists.{init, parts}
-use Rattle.unit_definition.proofs.Sections.{init_is}
 use Rattle.unit_rules.proofs.EachItem.{each_from, each_numbered}
 use Rattle.unit_rules.proofs.ExportFacts.{each_of}
 use Rattle.unit_rules.proofs.FormedSections.{IsFormed}

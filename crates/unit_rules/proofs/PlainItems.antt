@@ -1,18 +1,13 @@
 -- The items of a unit that have no body keep the rules wherever they stand: objects, data, declarations and prototypes.
 use Rattle.unit_rules.proofs.Common.{◌≡◌, ℕ, suc, true, false, not, List, [], ◌∷◌, map, length, Some, None, Option, sym, refl, ap, subst}
-use Rattle.unit_rules.proofs.Common.{AllByRecursion, list_all, both_hold, all_map, FuncType, ValType, NamedModule, Module, func_name}
-use Rattle.unit_rules.proofs.Common.{global_name, memory_name, table_name, pointer_name, is_result_type, is_symbol, is_value_type}
-use Rattle.unit_rules.proofs.Common.{proper_params, proper_types, Name, param_variables, c_params_of, c_result_of, c_type_of, CType}
-use Rattle.unit_rules.proofs.Common.{c_func_type_if, import_symbol, symbol_type, params_of, result_type, value_types, no_void}
-use Rattle.unit_rules.proofs.Common.{data_name, bodies, data_of, prototype, IsAccepted}
-use Rattle.c_symbols.specs.Symbols.{declared_type}
-use Rattle.w2c_base.specs.declared.value.ValType.TheVariants.{I32, I64}
+use Rattle.unit_rules.proofs.Common.{AllByRecursion, list_all, both_hold, all_map, FuncType, ValType, NamedModule, Module, func_name, Name}
+use Rattle.unit_rules.proofs.Common.{global_name, memory_name, table_name, pointer_name, is_result_type, is_symbol, is_value_type, CType}
+use Rattle.unit_rules.proofs.Common.{proper_params, proper_types, param_variables, c_params_of, c_result_of, c_type_of, c_func_type_if, I32}
+use Rattle.unit_rules.proofs.Common.{import_symbol, symbol_type, params_of, result_type, value_types, no_void, data_name, bodies, data_of}
+use Rattle.unit_rules.proofs.Common.{prototype, IsAccepted, declared_type, I64, all_images, firsts_all, declarations, objects, prototypes}
 use Rattle.c_tree.specs.declared.tree.CType.TheVariants as type
 use Rattle.c_tree.specs.Tree as tree
 use Rattle.body_forms.specs.Variables.{params_from}
-use Rattle.c_init.proofs.Small.{all_images}
-use Rattle.unit_definition.proofs.Pairs.{firsts_all}
-use Rattle.unit_definition.proofs.SectionLists.{declarations, objects, prototypes}
 use Rattle.unit_definition.proofs.Sections.{of_import, symbol_is}
 use Rattle.unit_rules.proofs.EachItem.{IsObject, each_data, each_declared, each_object, global_pointer, memory_pointer, own_global}
 use Rattle.unit_rules.proofs.EachItem.{own_memory, own_table, table_pointer}

@@ -1,10 +1,8 @@
 -- Names that are none of the runtime's.
 use Rattle.unit_rules.proofs.Common.{◌≡◌, ℕ, true, false, ◌≢◌, List, [], ◌∷◌, ◌==◌, None, bytes_eq, sym, refl, ap, ◌∙◌, arith, false≢true}
 use Rattle.unit_rules.proofs.Common.{bytes_eq-Decides, both_hold, all_weaker, named, export_symbol_of-parts, export_symbol_of, SymbolKind}
-use Rattle.unit_rules.proofs.Common.{is_runtime_name, Name, name_of, funcs_in, vars_in, class}
-use Rattle.w2c_base.proofs.Tests.{by_test}
+use Rattle.unit_rules.proofs.Common.{is_runtime_name, Name, name_of, funcs_in, vars_in, class, by_test, AllClass}
 use Rattle.c_tree.specs.Tree as tree
-use Rattle.unit_definition.proofs.Sections.{AllClass}
 use Rattle.unit_rules.proofs.Clashes.{NoRuntime, other_class}
 
 -- a name of the runtime has the class of symbols

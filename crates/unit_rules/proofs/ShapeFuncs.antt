@@ -4,18 +4,15 @@ use Rattle.unit_rules.proofs.Common.{bytes_eq, refl, ap, ◌∙◌, subst, arith
 use Rattle.unit_rules.proofs.Common.{if_found, init_symbol_of, func_count, func_of_import, func_type_in, imported_funcs, type_in, Export}
 use Rattle.unit_rules.proofs.Common.{NamedModule, FuncEntry, Module, context_of, func_name, func_type_of, c_result_of, bytes_equal, defined}
 use Rattle.unit_rules.proofs.Common.{Definition, defined_for_all, IsDefined, c_func_type_if, export_symbol, export_type, body_of, func_of}
-use Rattle.unit_rules.proofs.Common.{stmts_of, body_locals, export_func, init_func, items, IsAccepted, DefinesExternal, GivesExport}
+use Rattle.unit_rules.proofs.Common.{stmts_of, body_locals, export_func, init_func, items, IsAccepted, DefinesExternal, GivesExport, BodyAt}
+use Rattle.unit_rules.proofs.Common.{get_late, AllPairs, few_funcs}
 use Rattle.c_tree.specs.declared.tree.CType.TheVariants as type
 use Rattle.c_tree.specs.Tree as tree
-use Rattle.unit_definition.proofs.BodiesAt.{BodyAt}
 use Rattle.unit_definition.proofs.Defined.{FirstExport, head, symbol_is, export_external, export_defined, init_defined, body_defined}
 use Rattle.unit_rules.proofs.ExportFacts.{symbols_differ}
 use Rattle.unit_rules.proofs.ExportGiven.{each_shape}
 use Rattle.unit_rules.proofs.ObjectsGiven.{gives_export}
-use Rattle.unit_definition.proofs.KnownNames.{get_late}
 use Rattle.unit_rules.proofs.KnownFuncs.{param_types}
-use Rattle.unit_definition.proofs.Pairs.{AllPairs}
-use Rattle.unit_definition.proofs.Sections.{few_funcs}
 use Rattle.unit_rules.proofs.WholeUnit.{body_here}
 
 pair_at_places : {A : Type 0} (R : A → A → Type 0) (xs : List A) (i j : ℕ) (x y : A) → AllPairs R xs → i < j → slice_get xs i ≡ Some x

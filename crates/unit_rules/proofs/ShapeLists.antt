@@ -1,26 +1,18 @@
 -- What a module's unit shows to other units, and its objects, as lists.
-use Rattle.unit_rules.proofs.Common.{◌≡◌, ℕ, ◌+◌, true, false, ◌⊎◌, ◌↔◌, List, [], ◌∷◌, ◌++◌, map, is_some, if◌then◌else◌, Some, None}
-use Rattle.unit_rules.proofs.Common.{Contains, filter, Option, filter_map, bytes_eq, sym, refl, ap, ◌∙◌, subst, inl, inr, append-nil, arith}
+use Rattle.unit_rules.proofs.Common.{◌≡◌, ℕ, ◌+◌, true, false, ◌⊎◌, ◌↔◌, List, [], ◌∷◌, ◌++◌, map, is_some, if◌then◌else◌, Some, None, sym}
+use Rattle.unit_rules.proofs.Common.{Contains, filter, Option, filter_map, bytes_eq, refl, ap, ◌∙◌, subst, inl, inr, append-nil, arith, I32}
 use Rattle.unit_rules.proofs.Common.{Contains-append_cases, Contains-append_left, Contains-append_right, filter_map-append, AllByRecursion}
-use Rattle.unit_rules.proofs.Common.{all_behind, all_weaker, all_append, all_at, all_from, all_map, of_contained, unlike_back, named}
+use Rattle.unit_rules.proofs.Common.{all_behind, all_weaker, all_append, all_at, all_from, all_map, of_contained, unlike_back, named, Name}
 use Rattle.unit_rules.proofs.Common.{numbered, ValType, init_symbol_of, imported_globals, NamedModule, Export, GlobalEntry, LimitsEntry}
-use Rattle.unit_rules.proofs.Common.{Module, global_name, memory_name, table_name, Name, func_type_of, is_among, name_of, c_type_of, CType}
-use Rattle.unit_rules.proofs.Common.{external_functions, helper_of, helpers_of, Typed, declared_symbols, export_symbol, export_type}
-use Rattle.unit_rules.proofs.Common.{exported_symbols, firsts, import_symbol, import_type, imported_symbols, symbol_type, made_static}
-use Rattle.unit_rules.proofs.Common.{class_lettered, class, export_func, init_func, bodies, data_of, declaration, items, prototype}
-use Rattle.unit_rules.proofs.Common.{IsAccepted, HaveSame, declared_names, defined_names, module_objects, own_symbols, unit_objects}
-use Rattle.c_symbols.specs.Symbols.{declared_type}
-use Rattle.w2c_base.specs.declared.value.ValType.TheVariants.{I32, I64}
+use Rattle.unit_rules.proofs.Common.{Module, global_name, memory_name, table_name, func_type_of, is_among, name_of, c_type_of, CType, Typed}
+use Rattle.unit_rules.proofs.Common.{external_functions, helper_of, helpers_of, declared_symbols, export_symbol, export_type, firsts, class}
+use Rattle.unit_rules.proofs.Common.{exported_symbols, import_symbol, import_type, imported_symbols, symbol_type, made_static, export_func}
+use Rattle.unit_rules.proofs.Common.{class_lettered, init_func, bodies, data_of, declaration, items, prototype, IsAccepted, HaveSame, I64}
+use Rattle.unit_rules.proofs.Common.{declared_names, defined_names, module_objects, own_symbols, unit_objects, declared_type, declarations}
+use Rattle.unit_rules.proofs.Common.{exports, functions_of, helpers, init, objects, parts, prototypes, globals, mems, pointers, tabs}
+use Rattle.unit_rules.proofs.Common.{part_func, parts_of, body_is, export_external, firsts_all, all_images, by_test, pointers_class}
 use Rattle.c_tree.specs.declared.tree.CType.TheVariants as type
 use Rattle.c_tree.specs.Tree as tree
-use Rattle.unit_definition.proofs.SectionLists.{declarations, exports, functions_of, helpers, init, objects, parts, prototypes, globals}
-use Rattle.unit_definition.proofs.SectionLists.{mems, pointers, tabs}
-use Rattle.c_init.specs.Init.{part_func, parts_of}
-use Rattle.unit_definition.proofs.Defined.{body_is, export_external}
-use Rattle.unit_definition.proofs.Pairs.{firsts_all}
-use Rattle.c_init.proofs.Small.{all_images}
-use Rattle.w2c_base.proofs.Tests.{by_test}
-use Rattle.unit_definition.proofs.Sections.{pointers_class}
 use Rattle.unit_rules.proofs.EachItem.{IsObject, each_data, each_object, global_pointer, own_global, own_memory, own_table}
 use Rattle.unit_rules.proofs.ExportFacts.{symbol_types}
 use Rattle.unit_rules.proofs.ExportGiven.{each_shape}
@@ -47,9 +39,6 @@ firsts_contained : (q : Name) (names : List Name) → Contains (firsts [] names)
 firsts_contained q names c = among_contained q names
     (of_contained (λ n. is_among n names ≡ true) (firsts [] names) q
     (firsts_all (λ n. is_among n names ≡ true) [] names (self_among names)) c)
-
-contained_firsts : (q : Name) (names : List Name) → Contains names q → Contains (firsts [] names) q
-contained_firsts q names c = among_contained q (firsts [] names) (firsts_have q [] names (contained_among q names c) refl)
 
 -- a name among the names of entries is found
 named_there : {A : Type 0} (q : Name) (entries : List (Name × A)) → is_among q (map (λ (e : Name × A). e.0) entries) ≡ true
@@ -232,7 +221,8 @@ module _ (m : NamedModule) (a : IsAccepted m) where
       back (inl c) = Contains-append_right (firsts [] import_symbols) (symbols ++ init_symbol_of m.name ∷ []) name
           (swapped (init_symbol_of m.name ∷ []) symbols name c)
       back (inr c) = Contains-append_left (firsts [] import_symbols) (symbols ++ init_symbol_of m.name ∷ []) name
-          (contained_firsts name import_symbols c)
+          (among_contained name (firsts [] import_symbols)
+          (firsts_have name [] import_symbols (contained_among name import_symbols c) refl))
 
   -- ---- types of declarations
 

@@ -1,15 +1,12 @@
 -- What holds of the types of functions and of accessors holds of the types of imports, of exports, and of all symbols that are declared.
-use Rattle.unit_rules.proofs.Common.{◌≡◌, Bool, false, ◌++◌, Some, None, Option, refl, all_append, FuncType, ValType, func_type_in}
-use Rattle.unit_rules.proofs.Common.{global_type_in, type_in, NamedModule, Export, ExportKind, ExportFunc, ExportGlobal, ExportMemory}
-use Rattle.unit_rules.proofs.Common.{ExportTable, Import, ImportKind, ImportFunc, ImportGlobal, ImportMemory, ImportTable, Name}
-use Rattle.unit_rules.proofs.Common.{is_object_type, CType, Typed, accessor_type, c_func_type_if, export_symbol, export_type}
-use Rattle.unit_rules.proofs.Common.{exported_symbols, global_accessor_type, import_symbol, import_type, imported_symbols, symbol_type}
-use Rattle.c_symbols.specs.Symbols.{declared_type}
-use Rattle.w2c_base.proofs.Lists.{named_has}
-use Rattle.w2c_base.specs.declared.value.ValType.TheVariants.{I32, I64}
+use Rattle.unit_rules.proofs.Common.{◌≡◌, Bool, false, ◌++◌, Some, None, Option, refl, all_append, FuncType, ValType, func_type_in, type_in}
+use Rattle.unit_rules.proofs.Common.{global_type_in, NamedModule, Export, ExportKind, ExportFunc, ExportGlobal, ExportMemory, ExportTable}
+use Rattle.unit_rules.proofs.Common.{Import, ImportKind, ImportFunc, ImportGlobal, ImportMemory, ImportTable, Name, is_object_type, CType}
+use Rattle.unit_rules.proofs.Common.{Typed, accessor_type, c_func_type_if, export_symbol, export_type, exported_symbols, import_symbol, I32}
+use Rattle.unit_rules.proofs.Common.{global_accessor_type, import_type, imported_symbols, symbol_type, declared_type, named_has, I64}
+use Rattle.unit_rules.proofs.Common.{all_images}
 use Rattle.c_tree.specs.declared.tree.CType.TheVariants as type
 use Rattle.c_tree.specs.Tree as tree
-use Rattle.c_init.proofs.Small.{all_images}
 
 module _ (m : NamedModule) (P : tree.FuncType → Type 0) (funcs : (o : Option FuncType) → P (c_func_type_if o))
     (accessors : (pointer : CType) → is_object_type pointer ≡ false → P (accessor_type pointer)) where

@@ -1,10 +1,10 @@
 -- The names of a module's unit are words of C.
-use Rattle.unit_rules.proofs.Common.{◌≡◌, ℕ, ◌^◌, ◌<◌, true, List, [], ◌∷◌, ◌++◌, decimal, sym, refl, subst, arith, nat_tests}
-use Rattle.unit_rules.proofs.Common.{All-from_recursion, AllByRecursion, list_all, both_hold, all_join, export_part, export_symbol_of-parts}
-use Rattle.unit_rules.proofs.Common.{init_symbol_of-parts, list_all-escaped, escaped, export_symbol_of, init_symbol_of}
-use Rattle.unit_rules.proofs.Common.{is_identifier_character, kind_letter, SymbolKind, NamedModule, Export, Import, func_name, global_name}
-use Rattle.unit_rules.proofs.Common.{pointer_name, FitsItem, depth_limit, IsName, NamedItem, helper_of, Helper, export_symbol}
-use Rattle.unit_rules.proofs.Common.{import_symbol, made_static, data_name}
+use Rattle.unit_rules.proofs.Common.{◌≡◌, ℕ, ◌^◌, ◌<◌, true, List, [], ◌∷◌, ◌++◌, decimal, sym, refl, subst, arith, nat_tests, list_all}
+use Rattle.unit_rules.proofs.Common.{All-from_recursion, AllByRecursion, both_hold, all_join, export_part, export_symbol_of-parts, escaped}
+use Rattle.unit_rules.proofs.Common.{init_symbol_of-parts, list_all-escaped, export_symbol_of, init_symbol_of, is_identifier_character}
+use Rattle.unit_rules.proofs.Common.{kind_letter, SymbolKind, NamedModule, Export, Import, func_name, global_name, pointer_name, FitsItem}
+use Rattle.unit_rules.proofs.Common.{depth_limit, IsName, NamedItem, helper_of, Helper, export_symbol, import_symbol, made_static}
+use Rattle.unit_rules.proofs.Common.{data_name, part_name}
 use Rattle.w2c_mangle.specs.declared.symbol.SymbolKind.TheVariants as symbol
 use Rattle.c_tree.specs.Tree as tree
 use Rattle.c_tree.specs.Text.{is_word_byte}
@@ -13,7 +13,6 @@ use Rattle.c_tree.proofs.Proper.{digits_words, all_digits}
 use Rattle.c_tree.proofs.TreeIsProper.{decimal_digits}
 use Rattle.c_tree.proofs.TestsTell.{unit_tells}
 use Rattle.unit_rules.proofs.ExportFacts.{import_kind, symbol_kind}
-use Rattle.c_tree.specs.DefinedNames.{part_name}
 use Rattle.std.specs.Prelude.{codes}
 
 -- ---- words

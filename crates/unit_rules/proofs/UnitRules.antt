@@ -1,9 +1,8 @@
 -- The unit of an accepted module keeps the rules, and is well formed.
 use Rattle.unit_rules.proofs.Common.{◌≢◌, ◌∷◌, ◌++◌, sym, subst, AllByRecursion, all_weaker, all_append, all_map, NamedModule, KeepsRules}
 use Rattle.unit_rules.proofs.Common.{name_of, FitsItem, depth_limit, IsWellFormed, NamedItem, func_of, class, bodies, items, IsAccepted}
+use Rattle.unit_rules.proofs.Common.{BodiesAreFormed, BodiesKeepTheRules, functions_of, exports, init, parts}
 use Rattle.c_tree.specs.Tree as tree
-use Rattle.body_rules.specs.BodiesAreProper.{BodiesAreFormed, BodiesKeepTheRules}
-use Rattle.unit_definition.proofs.SectionLists.{functions_of, exports, init, parts}
 use Rattle.unit_rules.proofs.ExportSection.{exports_keep}
 use Rattle.unit_rules.proofs.FormedSections.{IsFormed, bodies_formed, data_formed, declarations_formed, exports_formed, helpers_formed}
 use Rattle.unit_rules.proofs.FormedSections.{objects_formed, prototypes_formed}

@@ -1,6 +1,5 @@
 -- The unit of an accepted module is well formed, keeps the rules, and has its shape.
-use Rattle.unit_rules.proofs.Common.{NamedModule, items, IsAccepted, HasShape, UnitsAreProper}
-use Rattle.body_rules.specs.BodiesAreProper.{BodiesKeepTheRules, BodiesAreFormed}
+use Rattle.unit_rules.proofs.Common.{NamedModule, items, IsAccepted, HasShape, UnitsAreProper, BodiesKeepTheRules, BodiesAreFormed}
 use Rattle.unit_rules.proofs.UnitRules.{unit_keeps_rules, unit_well_formed}
 use Rattle.unit_rules.proofs.ShapeFuncs.{accessors_stand, functions_stand, exports_stand, init_stands}
 use Rattle.unit_rules.proofs.ShapeLists.{defines_own, declares_all, types_declared, objects_same}

@@ -6,30 +6,20 @@ use Rattle.unit_rules.proofs.Common.{all_append, all_from, all_map, get_front, i
 use Rattle.unit_rules.proofs.Common.{export_symbol_of, init_symbol_of, imported_funcs, NamedModule, Export, Module, same_c_func_type, Typed}
 use Rattle.unit_rules.proofs.Common.{func_name, defines, is_runtime_name, may_both_stand, same_func_type, func_type_of, bytes_equal, firsts}
 use Rattle.unit_rules.proofs.Common.{declared_symbols, export_symbol, export_type, import_symbol, symbol_type, body_of, lettered, init_func}
-use Rattle.unit_rules.proofs.Common.{export_func, bodies, data_of, declaration, items, prototype, IsAccepted}
-use Rattle.c_symbols.specs.Symbols.{declared_type}
-use Rattle.w2c_base.proofs.Lists.{get_behind, get_numbered}
+use Rattle.unit_rules.proofs.Common.{export_func, bodies, data_of, declaration, items, prototype, IsAccepted, declared_type, get_behind}
+use Rattle.unit_rules.proofs.Common.{get_numbered, all_images, accepted_limits, BodyAt, body_at, body_is, AllPairs, all_range, firsts_all}
+use Rattle.unit_rules.proofs.Common.{firsts_differ, pairs_range, declarations, exports, functions_of, globals, helpers, init, mems, objects}
+use Rattle.unit_rules.proofs.Common.{parts, pointers, prototypes, tabs, bodies_class, data_class, data_pairs, declared_class, export_name}
+use Rattle.unit_rules.proofs.Common.{exports_class, few_funcs, globals_class, globals_pairs, helpers_class, init_class, mems_class, always}
+use Rattle.unit_rules.proofs.Common.{mems_pairs, of_export, of_import, parts_class, parts_pairs, pointers_class, pointers_pairs, tabs_class}
+use Rattle.unit_rules.proofs.Common.{prototypes_class, tabs_pairs, by_test, IsTypedBody}
 use Rattle.c_tree.specs.Tree as tree
-use Rattle.c_init.proofs.Small.{all_images}
-use Rattle.unit_definition.proofs.AcceptedLimits.{accepted_limits}
-use Rattle.unit_definition.proofs.BodiesAt.{BodyAt, body_at}
-use Rattle.unit_definition.proofs.Defined.{body_is}
-use Rattle.unit_definition.proofs.Pairs.{AllPairs, all_range, firsts_all, firsts_differ, pairs_range}
-use Rattle.unit_definition.proofs.SectionLists.{declarations, exports, functions_of, globals, helpers, init, mems, objects, parts, pointers}
-use Rattle.unit_definition.proofs.SectionLists.{prototypes, tabs}
-use Rattle.unit_definition.proofs.Sections.{bodies_class, data_class, data_pairs, declared_class, export_name, exports_class, few_funcs}
-use Rattle.unit_definition.proofs.Sections.{globals_class, globals_pairs, helpers_class, init_class, mems_class, mems_pairs, of_export}
-use Rattle.unit_definition.proofs.Sections.{of_import, parts_class, parts_pairs, pointers_class, pointers_pairs, prototypes_class}
-use Rattle.unit_definition.proofs.Sections.{tabs_class, tabs_pairs}
 use Rattle.unit_rules.proofs.Clashes.{Apart, AreApart, MayFollow, NoRuntime, NotSame, Section, in_row, next_apart, next_other, no_class}
 use Rattle.unit_rules.proofs.Clashes.{not_same, pairs_front, pairs_mapped, pairs_weaker, NoClass}
 use Rattle.unit_rules.proofs.ExportFacts.{symbol_types, symbols_differ, import_kind}
 use Rattle.unit_rules.proofs.ExportTypes.{HasShape}
 use Rattle.unit_rules.proofs.ExportGiven.{each_shape}
 use Rattle.unit_rules.proofs.EachItem.{each_declared}
-use Rattle.w2c_base.proofs.OfEach.{always}
-use Rattle.w2c_base.proofs.Tests.{by_test}
-use Rattle.body_rules.specs.BodiesAreProper.{IsTypedBody}
 use Rattle.unit_rules.proofs.HelperSection.{helpers_pairs}
 use Rattle.unit_rules.proofs.ItemRules.{IsWhole}
 use Rattle.unit_rules.proofs.KnownFuncs.{any_at, declared_typed, without_names}
@@ -43,8 +33,7 @@ abbrev pub later : NamedModule → List tree.Item
 later m = functions_of m ++ (exports m ++ parts m)
 
 pub items_are : (m : NamedModule) → known m ++ (later m ++ init m) ≡ items m
-items_are m =
-    by (objects m) (data_of m.tree) (declarations m) (prototypes m) (helpers m) (functions_of m) (exports m) (parts m) (init m)
+items_are m = by (objects m) (data_of m.tree) (declarations m) (prototypes m) (helpers m) (functions_of m) (exports m) (parts m) (init m)
   where
     by : (a b c d e f g h i : List tree.Item) → (a ++ (b ++ (c ++ (d ++ e)))) ++ ((f ++ (g ++ h)) ++ i)
         ≡ a ++ (b ++ (c ++ (d ++ (e ++ (f ++ (g ++ (h ++ i)))))))
@@ -154,8 +143,7 @@ module _ (m : NamedModule) (a : IsAccepted m) where
       (firsts [] (map import_symbol t.imports)) (firsts_differ [] (map import_symbol t.imports)))
 
   -- a declaration of an export's symbol has its type
-  export_apart : (e : Export) → HasShape (export_type t e) (export_func m e)
-      → symbol_type m (export_symbol m e) ≡ Some (export_type t e)
+  export_apart : (e : Export) → HasShape (export_type t e) (export_func m e) → symbol_type m (export_symbol m e) ≡ Some (export_type t e)
       → Apart (tree.Function (export_func m e)) (declarations m)
   export_apart e shape typed = each_declared m a (λ o. MayFollow o (tree.Function (export_func m e))) (λ n. Unit {0})
       (always (firsts [] (map import_symbol t.imports))) (λ n _. by_test (bytes_eq n (export_func m e).name)
