@@ -14,7 +14,7 @@ pub use Rattle.std.proofs.lemmas.Slice.Eq.{bytes_eq-Decides}
 pub use Rattle.std.specs.List.{AllByRecursion, list_all, list_any, range_with_len}
 pub use Rattle.w2c_base.proofs.Conjunctions.{both_hold}
 pub use Rattle.w2c_base.proofs.Lists.{all_behind, all_front, all_weaker, get_mapped, get_unmapped, all_unmapped, contains_kept, get_behind}
-pub use Rattle.w2c_base.proofs.Lists.{get_numbered, named_has, get_kept}
+pub use Rattle.w2c_base.proofs.Lists.{named_has, get_kept}
 pub use Rattle.w2c_base.proofs.OfEach.{all_append, all_at, all_flat, all_from, all_map, of_contained, all_filtered, always}
 pub use Rattle.w2c_base.proofs.Options.{some_is}
 pub use Rattle.w2c_base.proofs.Places.{take_with, get_front, some_first, get_within}
@@ -144,7 +144,7 @@ pub use Rattle.body_rules.specs.BodiesAreProper.{BodiesKeepTheRules, BodiesAreFo
 pub use Rattle.body_rules.proofs.FormedCode.{global_fits, pattern_fits, signature_below, params_there, memory_fits, table_fits}
 pub use Rattle.unit_definition.proofs.AcceptedLimits.{accepted_limits}
 pub use Rattle.unit_definition.proofs.BodiesAt.{few_params, BodyAt, body_at, few_found}
-pub use Rattle.w2c_base.proofs.Numbers.{one_moves}
+pub use Rattle.w2c_base.proofs.Numbers.{one_moves, same_or_more}
 pub use Rattle.c_init.specs.Fitting.{ShapeFits}
 pub use Rattle.unit_definition.proofs.Defined.{body_is, export_external}
 pub use Rattle.unit_definition.proofs.Pairs.{AllPairs, all_range, firsts_all, firsts_differ, pairs_range}

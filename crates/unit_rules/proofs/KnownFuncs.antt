@@ -3,7 +3,8 @@ use Rattle.unit_rules.proofs.Common.{◌≡◌, ℕ, zero, suc, Bool, true, fals
 use Rattle.unit_rules.proofs.Common.{Contains, filter, flat_map, bytes_eq, sym, refl, ap, ◌∙◌, subst, or_left, or_right, false≢true, all_at}
 use Rattle.unit_rules.proofs.Common.{bytes_eq-Decides, AllByRecursion, list_any, get_mapped, all_from, ValType, func_of_import, Import, at}
 use Rattle.unit_rules.proofs.Common.{is_func_import, ImportKind, ImportFunc, Name, func_type_of, is_among, c_params_of, c_type_of, CType}
-use Rattle.unit_rules.proofs.Common.{bytes_equal, Typed, firsts, params_of, get_kept, all_pass, some_same}
+use Rattle.unit_rules.proofs.Common.{bytes_equal, Typed, firsts, params_of, get_kept, all_pass, some_same, same_or_more, range_with_len}
+use Rattle.unit_rules.proofs.Common.{inl, inr, arith, ◌+◌, ◌<◌, ◌≤◌}
 use Rattle.std.proofs.lemmas.Map.Views.{Contains-from_any}
 use Rattle.c_tree.specs.Tree as tree
 use Rattle.body_forms.specs.Variables.{params_from}
@@ -41,6 +42,15 @@ pub any_at : {A : Type 0} (test : A → Bool) (xs : List A) (i : ℕ) (x : A) �
 any_at test [] i x at e = absurd cc
 any_at test (y ∷ xs) zero x at e = or_left (test y) (list_any test xs) (ap test (some_same at) ∙ e)
 any_at test (y ∷ xs) (suc i) x at e = or_right (test y) (list_any test xs) (any_at test xs i x at e)
+
+-- what is made of each number of a range stands at some place
+pub get_range : {A : Type 0} (f : ℕ → A) (a n k : ℕ) → a ≤ k → k < a + n
+    → (i : ℕ) × (slice_get (map f (range_with_len a n)) i ≡ Some (f k))
+get_range f a zero k low high = absurd (omega (arith, low, high))
+get_range f a (suc n) k low high = elim (same_or_more a k low) [
+  | inl same ↦ (0, ap (λ j. Some (f j)) same)
+  | inr more ↦ let rest = get_range f (a + 1) n k more (omega (arith, high)) in (suc rest.0, rest.1)
+]
 
 pub self_among : (names : List Name) → AllByRecursion (λ n. is_among n names ≡ true) names
 self_among names = all_from _ names (λ i n at. any_at (bytes_eq n) names i n at (bytes_equal n))

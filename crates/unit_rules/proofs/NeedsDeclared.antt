@@ -1,12 +1,12 @@
 -- What a module's functions need is declared up to each that stands behind the first sections of the unit.
 use Rattle.unit_rules.proofs.Common.{imported_global_is, imported_memory_is, imported_table_is, slice_get_within, declared_symbols, is_some}
-use Rattle.unit_rules.proofs.Common.{func_types_same, AllByRecursion, range_with_len, func_of_import, imported_funcs, is_func_import, false}
+use Rattle.unit_rules.proofs.Common.{func_types_same, AllByRecursion, func_of_import, imported_funcs, is_func_import, false}
 use Rattle.unit_rules.proofs.Common.{same_func_type, c_func_type_if, if◌then◌else◌, import_symbol, declared_type, contains_kept, filter_map}
 use Rattle.unit_rules.proofs.Common.{own_memory_is, get_unmapped, of_contained, SegmentEntry, calls_helper, func_imports, all_unmapped, ◌≡◌}
-use Rattle.unit_rules.proofs.Common.{get_numbered, own_table_is, declarations, NamedModule, c_result_of, c_func_type, import_type, flat_map}
+use Rattle.unit_rules.proofs.Common.{own_table_is, declarations, NamedModule, c_result_of, c_func_type, import_type, flat_map}
 use Rattle.unit_rules.proofs.Common.{symbol_type, made_static, helper_type, declaration, numbered_at, all_behind, get_mapped, func_count, ℕ}
 use Rattle.unit_rules.proofs.Common.{func_space, helpers_of, IsAccepted, own_global, prototypes, slice_get, all_front, get_front, BodyEntry}
-use Rattle.unit_rules.proofs.Common.{FuncEntry, func_name, helper_of, is_usable, params_of, FileKnows, data_name, prototype, data_item, ◌+◌}
+use Rattle.unit_rules.proofs.Common.{FuncEntry, func_name, helper_of, is_usable, params_of, FileKnows, data_name, prototype, data_item}
 use Rattle.unit_rules.proofs.Common.{some_same, list_any, at_index, numbered, FuncType, array_of, is_among, funcs_in, there_in, get_late}
 use Rattle.unit_rules.proofs.Common.{get_past, type_in, HELPERS, body_of, vars_in, data_of, in_vars, helpers, objects, length, Option, Bool}
 use Rattle.unit_rules.proofs.Common.{all_at, Import, Module, any_in, Helper, callee, firsts, listed, bodies, BodyAt, subst, arith, named}
@@ -14,7 +14,7 @@ use Rattle.unit_rules.proofs.Common.{CType, true, List, ◌++◌, Some, None, re
 use Rattle.c_tree.specs.Tree as tree
 use Rattle.unit_rules.proofs.EachItem.{all_unflat}
 use Rattle.unit_rules.proofs.Clashes.{IsFound, all_found}
-use Rattle.unit_rules.proofs.KnownFuncs.{among_contained, declared_typed, firsts_have, imported_func, kept_among, param_types}
+use Rattle.unit_rules.proofs.KnownFuncs.{among_contained, get_range, declared_typed, firsts_have, imported_func, kept_among, param_types}
 use Rattle.unit_rules.proofs.KnownFuncs.{without_names}
 use Rattle.unit_rules.proofs.RuntimeNames.{not_named}
 use Rattle.unit_rules.proofs.WholeUnit.{IsDeclared, body_here, known}
@@ -81,15 +81,12 @@ module _ (m : NamedModule) (a : IsAccepted m) (declared : List tree.Item) (d : I
   own_named : (k : ℕ) (b : BodyAt m k) → imported_funcs t ≤ k → k - imported_funcs t < length t.funcs
       → named (func_name k) (funcs_in declared) ≡ Some (c_func_type b.ty)
   own_named k b late low =
-      let imp = imported_funcs t in
-      let back : imp + (k - imp) ≡ k = omega (arith, late) in
-      let found = all_at (IsFound declared) (prototypes m) (k - imp) (prototype (body_of t m.name (imp + (k - imp))))
-      (all_front (IsFound declared) (prototypes m) (helpers m) own_found) (get_mapped prototype (bodies m) (k - imp) _
-      (get_mapped (body_of t m.name) (range_with_len imp (length t.funcs)) (k - imp) (imp + (k - imp))
-      (get_numbered imp (length t.funcs) (k - imp) low))) in
+      let place = get_range (body_of t m.name) (imported_funcs t) (length t.funcs) k late (omega (arith, late, low)) in
+      let found = all_at (IsFound declared) (prototypes m) place.0 (prototype (body_of t m.name k))
+      (all_front (IsFound declared) (prototypes m) (helpers m) own_found) (get_mapped prototype (bodies m) place.0 _ place.1) in
       subst (λ ps. named (func_name k) (funcs_in declared) ≡ Some (record { params = ps; result = c_result_of b.ty.result }))
       (without_names (params_of b.ty.params) ∙ param_types b.ty.params)
-      (subst (λ (f : tree.Func). IsFound declared (prototype f)) (ap (body_of t m.name) back ∙ b.is) found)
+      (subst (λ (f : tree.Func). IsFound declared (prototype f)) b.is found)
 
   own_callee : (k : ℕ) (ty : FuncType) → at_index (map (type_in t) (func_space t)) k ≡ Some ty
       → is_some (slice_get (func_imports t) k) ≡ false → named (func_name k) (funcs_in declared) ≡ Some (c_func_type ty)

@@ -1,13 +1,13 @@
 -- What is so of all items of an accepted module's unit together.
 use Rattle.unit_rules.proofs.Common.{◌≡◌, ℕ, ◌+◌, ◌-◌, ◌<◌, ◌≤◌, true, false, not, ◌≢◌, ◌⊎◌, List, [], ◌∷◌, ◌++◌, map, length, Some, All}
 use Rattle.unit_rules.proofs.Common.{bytes_eq, sym, refl, ap, ◌∙◌, subst, inl, inr, append_assoc, arith, or_right, All-from_recursion, Name}
-use Rattle.unit_rules.proofs.Common.{bytes_eq-Decides, AllByRecursion, list_any, range_with_len, all_front, all_weaker, get_mapped, all_at}
+use Rattle.unit_rules.proofs.Common.{bytes_eq-Decides, AllByRecursion, list_any, all_front, all_weaker, get_mapped, all_at}
 use Rattle.unit_rules.proofs.Common.{all_append, all_from, all_map, get_front, init_symbol_of-not_export, init_symbol_of-parts, SymbolKind}
 use Rattle.unit_rules.proofs.Common.{export_symbol_of, init_symbol_of, imported_funcs, NamedModule, Export, Module, same_c_func_type, Typed}
 use Rattle.unit_rules.proofs.Common.{func_name, defines, is_runtime_name, may_both_stand, same_func_type, func_type_of, bytes_equal, firsts}
 use Rattle.unit_rules.proofs.Common.{declared_symbols, export_symbol, export_type, import_symbol, symbol_type, body_of, lettered, init_func}
 use Rattle.unit_rules.proofs.Common.{export_func, bodies, data_of, declaration, items, prototype, IsAccepted, declared_type, get_behind}
-use Rattle.unit_rules.proofs.Common.{get_numbered, all_images, accepted_limits, BodyAt, body_at, body_is, AllPairs, all_range, firsts_all}
+use Rattle.unit_rules.proofs.Common.{all_images, accepted_limits, BodyAt, body_at, body_is, AllPairs, all_range, firsts_all}
 use Rattle.unit_rules.proofs.Common.{firsts_differ, pairs_range, declarations, exports, functions_of, globals, helpers, init, mems, objects}
 use Rattle.unit_rules.proofs.Common.{parts, pointers, prototypes, tabs, bodies_class, data_class, data_pairs, declared_class, export_name}
 use Rattle.unit_rules.proofs.Common.{exports_class, few_funcs, globals_class, globals_pairs, helpers_class, init_class, mems_class, always}
@@ -22,7 +22,7 @@ use Rattle.unit_rules.proofs.ExportGiven.{each_shape}
 use Rattle.unit_rules.proofs.EachItem.{each_declared}
 use Rattle.unit_rules.proofs.HelperSection.{helpers_pairs}
 use Rattle.unit_rules.proofs.ItemRules.{IsWhole}
-use Rattle.unit_rules.proofs.KnownFuncs.{any_at, declared_typed, without_names}
+use Rattle.unit_rules.proofs.KnownFuncs.{any_at, get_range, declared_typed, without_names}
 use Rattle.unit_rules.proofs.RuntimeNames.{other_classes, symbol_no_runtime}
 
 -- the sections in front of the functions of bodies, and those from these up to the init function
@@ -241,16 +241,12 @@ module _ (m : NamedModule) (a : IsAccepted m) where
   -- the unit defines each function of the module
   defined : (k : ℕ) → imp ≤ k → k < imp + length t.funcs → list_any (defines (func_name k)) (items m) ≡ true
   defined k low high =
-      let b = body_here k low high in
-      let back : imp + (k - imp) ≡ k = omega (arith, low) in
-      let at = get_mapped tree.Function (bodies m) (k - imp) _ (get_mapped (body_of t m.name) (range_with_len imp (length t.funcs))
-      (k - imp)
-      (imp + (k - imp)) (get_numbered imp (length t.funcs) (k - imp) (omega (arith, low, high)))) in
+      let at = get_range (body_of t m.name) imp (length t.funcs) k low high in
       subst (λ unit. list_any (defines (func_name k)) unit ≡ true) (items_are m)
-      (any_at (defines (func_name k)) (known m ++ (later m ++ init m)) (length (known m) + (k - imp)) _
-      (get_behind (known m) (later m ++ init m) (k - imp) ∙ get_front (later m) (init m) (k - imp) _ (get_front (functions_of m) _
-      (k - imp) _ at))
-      (ap (λ f. defines (func_name k) (tree.Function f)) (ap (body_of t m.name) back ∙ b.is) ∙ rw (bytes_equal (func_name k)) refl))
+      (any_at (defines (func_name k)) (known m ++ (later m ++ init m)) (length (known m) + at.0) _
+      (get_behind (known m) (later m ++ init m) at.0 ∙ get_front (later m) (init m) at.0 _
+      (get_front (functions_of m) _ at.0 _ (get_mapped tree.Function (bodies m) at.0 _ at.1)))
+      (ap (λ f. defines (func_name k) (tree.Function f)) (body_here k low high).is ∙ rw (bytes_equal (func_name k)) refl))
 
   pub unit_whole : IsWhole m (items m)
   unit_whole = record {
