@@ -1,15 +1,15 @@
 -- What the outcome of an init function or a call, and the lines that are written of it, make of where a run stands.
-use Rattle.crun_cli.proofs.Common.{◌≡◌, ℕ, ◌+◌, Bool, true, false, List, [], ◌∷◌, ◌++◌, map, length, drop, if◌then◌else◌, Some, None}
-use Rattle.crun_cli.proofs.Common.{Option, sym, refl, ap, ◌∙◌, subst, append_assoc, append-nil, drop_at, map-append, asks_behind, Ask, Call}
-use Rattle.crun_cli.proofs.Common.{Event, Host, Init, Phase, asks_in, values_in, Value, extended, SaysPart, unit_of, SymbolCall, CRun}
-use Rattle.crun_cli.proofs.Common.{Ended, c_run, over, event_lines_append, last_line, event_lines, lines_of, Answered, hosts_of, ask_of}
-use Rattle.crun_cli.proofs.Common.{events_in, replies_in, reply_in, Asks, HostModule, Asked, asked_events, machine_with, IsLast, IsOutcome}
-use Rattle.crun_cli.proofs.Common.{Stands, State, objects_of, program_of, told_by, trail_of, Outcome, part_behind, part_in_front}
-use Rattle.crun_cli.proofs.Common.{says_nothing, whole_behind, HasAsked, HasPartLeaving, HasStatus, lines_behind, status_of_outcome}
+use Rattle.crun_cli.proofs.Common.{◌≡◌, ℕ, ◌+◌, Bool, true, false, List, [], ◌∷◌, ◌++◌, map, length, drop, if◌then◌else◌, Some, None, sym}
+use Rattle.crun_cli.proofs.Common.{Option, refl, ap, ◌∙◌, subst, append_assoc, append-nil, drop_at, map-append, asks_behind, Ask, Call}
+use Rattle.crun_cli.proofs.Common.{Event, Host, Init, Phase, asks_in, values_in, Value, extended, SaysPart, unit_of, SymbolCall, CRun, over}
+use Rattle.crun_cli.proofs.Common.{Ended, c_run, event_lines_append, last_line, event_lines, lines_of, Answered, hosts_of, ask_of, reply_in}
+use Rattle.crun_cli.proofs.Common.{events_in, replies_in, Asks, HostModule, Asked, asked_events, machine_with, IsLast, IsOutcome, Stands}
+use Rattle.crun_cli.proofs.Common.{State, objects_of, program_of, told_by, trail_of, Outcome, part_behind, part_in_front, says_nothing}
+use Rattle.crun_cli.proofs.Common.{whole_behind, HasAsked, HasPartLeaving, HasStatus, lines_behind, status_of_outcome}
 use Rattle.crun.specs.declared.outcome.Outcome.TheVariants as outcome
 use Rattle.crun_lines.specs.StateLines.{state_lines}
 use Rattle.crun_cli.specs.Playing.{lines_at, run_at, HasPlayed, IsBehind, IsLeft, IsSince, IsStored}
-use Rattle.crun_cli.proofs.Lines.{asks_are, asks_are_asked, call_lines, came_out, end_is, inits_lines, status_is, told_asks}
+use Rattle.crun_cli.proofs.Lines.{asks_are, call_lines, came_out, end_is, inits_lines, status_is, told_asks}
 use Rattle.crun_cli.proofs.Sessions.{has_ended, told_in_front}
 
 -- hosts have answered these asks, and then those
@@ -75,16 +75,10 @@ module _ {H : Type 0} (m : HostModule H) (e : State H) where
     run = run_at m e s calls
 
     -- more may be told behind what was told: a part of its lines is written
-    pub left_in_front : (told rest : List Event) → run.events ≡ told ++ rest → asked_events told ≡ events_in s.journal
-        → SaysPart old now (event_lines hosts 0 told) → IsLeft m e s calls old now
-    left_in_front told rest front asks part = record {
-      since = since;
-      more = asks_in rest;
-      first = ap asks_in front ∙ asks_behind told rest ∙ ap (λ l. l ++ asks_in rest) (asks_are told s.journal asks);
-      part = subst (SaysPart old now) whole
-          (part_in_front old now (event_lines hosts 0 told)
-          (event_lines hosts (0 + length (values_in told)) rest ++ last_line run.phase run.outcome) part);
-    }
+    part_told : (told rest : List Event) → run.events ≡ told ++ rest → SaysPart old now (event_lines hosts 0 told)
+        → SaysPart old now (lines_at m e s calls)
+    part_told told rest front part = subst (SaysPart old now) whole (part_in_front old now (event_lines hosts 0 told)
+        (event_lines hosts (0 + length (values_in told)) rest ++ last_line run.phase run.outcome) part)
       where
         whole : event_lines hosts 0 told ++ (event_lines hosts (0 + length (values_in told)) rest ++ last_line run.phase run.outcome)
             ≡ lines_at m e s calls
@@ -92,6 +86,15 @@ module _ {H : Type 0} (m : HostModule H) (e : State H) where
             (last_line run.phase run.outcome))
             ∙ ap (λ l. l ++ last_line run.phase run.outcome)
             (sym (event_lines_append hosts 0 told rest) ∙ ap (event_lines hosts 0) (sym front))
+
+    left_in_front : (told rest : List Event) → run.events ≡ told ++ rest → asked_events told ≡ events_in s.journal
+        → SaysPart old now (event_lines hosts 0 told) → IsLeft m e s calls old now
+    left_in_front told rest front asks part = record {
+      since = since;
+      more = asks_in rest;
+      first = ap asks_in front ∙ asks_behind told rest ∙ ap (λ l. l ++ asks_in rest) (asks_are told s.journal asks);
+      part = part_told told rest front part;
+    }
 
     -- the run came to this outcome
     module _ (o : Outcome) (phase : Phase) (told : List Event) (is : IsOutcome o phase s.journal told (objects_of s) run) where
@@ -120,55 +123,53 @@ module _ {H : Type 0} (m : HostModule H) (e : State H) where
         printed = printed ∙ ap (extended old) lines_are;
       }
 
-  -- ---- behind the init functions
+  -- ---- the outcome of what ran behind these calls, or with the last of them
 
-  module _ (s : State H) (since : IsSince m e s) (old now : Option (List ℕ)) (o : Outcome) (k : ℕ)
-      (ran : (rest : List SymbolCall) → IsLast o rest
-      → IsOutcome o (Init k) s.journal (events_in s.journal) (objects_of s) (c_run (program_of m e) rest e.steps (replies_in s.journal)))
+  module _ (s : State H) (since : IsSince m e s) (old now : Option (List ℕ)) (o : Outcome) (phase : Phase) (told : List Event)
+      (front : List SymbolCall) (asks : asked_events told ≡ events_in s.journal)
+      (ran : (rest : List SymbolCall) → IsLast o rest → IsOutcome o phase s.journal told (objects_of s) (run_at m e s (front ++ rest)))
     where
-      abbrev inits_text : List ℕ
-      inits_text = lines_behind (hosts_of m s.hosts) (drop 0 s.journal) (Init k) o
+      abbrev text : List ℕ
+      text = event_lines hosts 0 told ++ last_line phase (came_out o)
 
-      inits_are : inits_text ≡ event_lines hosts 0 (events_in s.journal) ++ last_line (Init k) (came_out o)
-      inits_are = ap (λ hs. lines_behind hs s.journal (Init k) o) since.hosts ∙ sym (inits_lines hosts k s.journal o)
+      ended_is : IsEnded o → text ≡ event_lines hosts 0 told
+      ended_is is = ap (λ l. event_lines hosts 0 told ++ l) (ended_text phase o is) ∙ append-nil (event_lines hosts 0 told)
 
-      pub inits_behind : status_of_outcome o ≡ None → IsStored s → Stands m s [] (events_in s.journal) → now ≡ extended old inits_text
-          → IsBehind m e s [] old now
-      inits_behind none stored stands printed = record {
+      pub goes_on : status_of_outcome o ≡ None → IsStored s → Stands m s front told → now ≡ extended old text → IsBehind m e s front old now
+      goes_on none stored stands printed = record {
         since = since;
         stored = stored;
-        told = events_in s.journal;
+        told = told;
         stands = stands;
-        asks = asks_are_asked s.journal;
-        printed = printed ∙ ap (extended old) (inits_are ∙ ap (λ l. event_lines hosts 0 (events_in s.journal) ++ l)
-            (ended_text (Init k) o (is_ended o none)) ∙ append-nil (event_lines hosts 0 (events_in s.journal)));
+        asks = asks;
+        printed = printed ∙ ap (extended old) (ended_is (is_ended o none));
       }
 
-      pub inits_played : (status : ℕ) → status_of_outcome o ≡ Some status → IsStored s → now ≡ extended old inits_text
-          → (calls : List SymbolCall) → HasPlayed m e s calls old now status
-      inits_played status some stored printed calls =
-          played_at_end s since old now calls o (Init k) (events_in s.journal) (ran calls (is_last o status calls some)) status some stored
-          (asks_are_asked s.journal) (printed ∙ ap (extended old) inits_are)
+      pub stops : (status : ℕ) → status_of_outcome o ≡ Some status → IsStored s → now ≡ extended old text → (more : List SymbolCall)
+          → HasPlayed m e s (front ++ more) old now status
+      stops status some stored printed more = played_at_end s since old now (front ++ more) o phase told
+          (ran more (is_last o status more some)) status some stored asks printed
 
-      pub inits_left : (IsEnded o → Stands m s [] (events_in s.journal)) → SaysPart old now inits_text
-          → (calls : List SymbolCall) → IsLeft m e s calls old now
-      inits_left stands part calls = ended_or_not o (IsLeft m e s calls old now) ended stopped
+      pub is_left : (IsEnded o → Stands m s front told) → SaysPart old now text → (more : List SymbolCall)
+          → IsLeft m e s (front ++ more) old now
+      is_left stands part more = ended_or_not o (IsLeft m e s (front ++ more) old now) ended stopped
         where
-          said : SaysPart old now (event_lines hosts 0 (events_in s.journal) ++ last_line (Init k) (came_out o))
-          said = subst (SaysPart old now) inits_are part
-
-          ended : IsEnded o → IsLeft m e s calls old now
+          ended : IsEnded o → IsLeft m e s (front ++ more) old now
           ended is =
-              let front = told_in_front m s [] (events_in s.journal) (stands is) calls [] in
-              let here = ap (λ rs. c_run (program_of m s) calls s.steps rs) (sym (append-nil (replies_in s.journal))) in
-              left_in_front s since old now calls (events_in s.journal) front.0
-              (ap (λ (r : CRun). r.events) (sym (run_is s calls s.journal since) ∙ here) ∙ front.1)
-              (asks_are_asked s.journal)
-              (subst (SaysPart old now) (ap (λ l. event_lines hosts 0 (events_in s.journal) ++ l) (ended_text (Init k) o is)
-              ∙ append-nil (event_lines hosts 0 (events_in s.journal))) said)
+              let behind = told_in_front m s front told (stands is) more [] in
+              let here = ap (λ rs. c_run (program_of m s) (front ++ more) s.steps rs) (sym (append-nil (replies_in s.journal))) in
+              left_in_front s since old now (front ++ more) told behind.0
+              (ap (λ (r : CRun). r.events) (sym (run_is s (front ++ more) s.journal since) ∙ here) ∙ behind.1) asks
+              (subst (SaysPart old now) (ended_is is) part)
 
-          stopped : ((rest : List SymbolCall) → IsLast o rest) → IsLeft m e s calls old now
-          stopped last = left_at_end s since old now calls o (Init k) (events_in s.journal) (ran calls (last calls)) said
+          stopped : ((rest : List SymbolCall) → IsLast o rest) → IsLeft m e s (front ++ more) old now
+          stopped last = left_at_end s since old now (front ++ more) o phase told (ran more (last more)) part
+
+  -- ---- behind the init functions
+
+  pub inits_are : (s : State H) (o : Outcome) (k : ℕ) → IsSince m e s → lines_behind (hosts_of m s.hosts) (drop 0 s.journal) (Init k) o
+      ≡ event_lines hosts 0 (events_in s.journal) ++ last_line (Init k) (came_out o)
+  inits_are s o k since = ap (λ hs. lines_behind hs s.journal (Init k) o) since.hosts ∙ sym (inits_lines hosts k s.journal o)
 
   -- memory was wanting in the init functions
   pub inits_wanting : (s : State H) → IsSince m e s → (old : Option (List ℕ)) (calls : List SymbolCall)
@@ -215,49 +216,29 @@ module _ {H : Type 0} (m : HostModule H) (e : State H) where
       asks' = told_asks told s.journal asks o behind.asks ∙ ap events_in (sym written)
 
       here : (rest : List SymbolCall) → IsLast o rest
-          → IsOutcome o (Call (length done)) s'.journal told' (objects_of s') (run_at m e s' (done ++ c ∷ rest))
-      here rest last = rw (run_is s (done ++ c ∷ rest) s'.journal behind.since) at (ran rest last)
+          → IsOutcome o (Call (length done)) s'.journal told' (objects_of s') (run_at m e s' ((done ++ c ∷ []) ++ rest))
+      here rest last = subst (λ cs. IsOutcome o (Call (length done)) s'.journal told' (objects_of s') (run_at m e s' cs))
+          (sym (append_assoc done (c ∷ []) rest)) (rw (run_is s (done ++ c ∷ rest) s'.journal behind.since) at (ran rest last))
 
       pub call_behind : status_of_outcome o ≡ None → IsStored s' → Stands m s' (done ++ c ∷ []) told' → now ≡ extended before call_text
           → IsBehind m e s' (done ++ c ∷ []) old now
-      call_behind none stored stands printed = record {
-        since = since;
-        stored = stored;
-        told = told';
-        stands = stands;
-        asks = asks';
-        printed = whole_behind old before now front_text call_text behind.printed printed
-            ∙ ap (extended old) (texts_are ∙ ap (λ l. event_lines hosts 0 told' ++ l) (ended_text (Call (length done)) o (is_ended o none))
-            ∙ append-nil (event_lines hosts 0 told'));
-      }
+      call_behind none stored stands printed =
+          goes_on s' since old now o (Call (length done)) told' (done ++ c ∷ []) asks' here none stored stands
+          (whole_behind old before now front_text call_text behind.printed printed ∙ ap (extended old) texts_are)
 
       pub call_played : (status : ℕ) → status_of_outcome o ≡ Some status → IsStored s' → now ≡ extended before call_text
           → (more : List SymbolCall) → HasPlayed m e s' (done ++ c ∷ more) old now status
       call_played status some stored printed more =
-          played_at_end s' since old now (done ++ c ∷ more) o (Call (length done)) told' (here more (is_last o status more some)) status
-          some stored
-          asks' (whole_behind old before now front_text call_text behind.printed printed ∙ ap (extended old) texts_are)
+          subst (λ cs. HasPlayed m e s' cs old now status) (append_assoc done (c ∷ []) more)
+          (stops s' since old now o (Call (length done)) told' (done ++ c ∷ []) asks' here status some stored
+          (whole_behind old before now front_text call_text behind.printed printed ∙ ap (extended old) texts_are) more)
 
       pub call_left : (IsEnded o → Stands m s' (done ++ c ∷ []) told') → SaysPart before now call_text
           → (more : List SymbolCall) → IsLeft m e s' (done ++ c ∷ more) old now
-      call_left stands part more = ended_or_not o (IsLeft m e s' (done ++ c ∷ more) old now) ended stopped
-        where
-          said : SaysPart old now (event_lines hosts 0 told' ++ last_line (Call (length done)) (came_out o))
-          said = subst (SaysPart old now) texts_are (part_behind old before now front_text call_text behind.printed part)
-
-          ended : IsEnded o → IsLeft m e s' (done ++ c ∷ more) old now
-          ended is =
-              let front = told_in_front m s' (done ++ c ∷ []) told' (stands is) more [] in
-              let same = ap (λ cs. c_run (program_of m s') cs s'.steps (replies_in s'.journal)) (sym (append_assoc done (c ∷ []) more))
-              ∙ ap (λ rs. c_run (program_of m s') ((done ++ c ∷ []) ++ more) s'.steps rs) (sym (append-nil (replies_in s'.journal))) in
-              left_in_front s' since old now (done ++ c ∷ more) told' front.0
-              (ap (λ (r : CRun). r.events) (sym (run_is s' (done ++ c ∷ more) s'.journal since) ∙ same) ∙ front.1)
-              asks'
-              (subst (SaysPart old now) (ap (λ l. event_lines hosts 0 told' ++ l) (ended_text (Call (length done)) o is)
-              ∙ append-nil (event_lines hosts 0 told')) said)
-
-          stopped : ((rest : List SymbolCall) → IsLast o rest) → IsLeft m e s' (done ++ c ∷ more) old now
-          stopped last = left_at_end s' since old now (done ++ c ∷ more) o (Call (length done)) told' (here more (last more)) said
+      call_left stands part more =
+          subst (λ cs. IsLeft m e s' cs old now) (append_assoc done (c ∷ []) more)
+          (is_left s' since old now o (Call (length done)) told' (done ++ c ∷ []) asks' here stands
+          (subst (SaysPart old now) texts_are (part_behind old before now front_text call_text behind.printed part)) more)
 
     -- memory was wanting in the call
     pub call_wanting : (more : List SymbolCall)
@@ -268,16 +249,11 @@ module _ {H : Type 0} (m : HostModule H) (e : State H) where
       since = since;
       more = asked.0;
       first = ap (λ (r : CRun). asks_in r.events) (sym (run_is s (done ++ c ∷ more) s'.journal behind.since)) ∙ asked.1;
-      part = subst (SaysPart old before) whole
-          (part_in_front old before front_text
-          (event_lines hosts (0 + length (values_in told)) front.0 ++ last_line run'.phase run'.outcome)
-          (front_text, ([], sym (append-nil front_text)), behind.printed));
+      part = part_told s' since old before (done ++ c ∷ more) told front.0 front.1
+          (front_text, ([], sym (append-nil front_text)), behind.printed);
     }
       where
-        run' : CRun
-        run' = run_at m e s' (done ++ c ∷ more)
-
-        front : (rest : List Event) × (run'.events ≡ told ++ rest)
+        front : (rest : List Event) × ((run_at m e s' (done ++ c ∷ more)).events ≡ told ++ rest)
         front =
             let f = told_in_front m s done told behind.stands (c ∷ more) (replies_in asks) in
             let replies : replies_in s'.journal ≡ replies_in s.journal ++ replies_in asks = ap replies_in written
@@ -286,12 +262,6 @@ module _ {H : Type 0} (m : HostModule H) (e : State H) where
               ap (λ (r : CRun). r.events) (sym (run_is s (done ++ c ∷ more) s'.journal behind.since)
                   ∙ ap (λ rs. c_run (program_of m s) (done ++ c ∷ more) s.steps rs) replies) ∙ f.1,
             )
-
-        whole : front_text ++ (event_lines hosts (0 + length (values_in told)) front.0 ++ last_line run'.phase run'.outcome)
-            ≡ lines_at m e s' (done ++ c ∷ more)
-        whole = sym (append_assoc front_text (event_lines hosts (0 + length (values_in told)) front.0) (last_line run'.phase run'.outcome))
-            ∙ ap (λ l. l ++ last_line run'.phase run'.outcome)
-            (sym (event_lines_append hosts 0 told front.0) ∙ ap (event_lines hosts 0) (sym front.1))
 
   -- ---- behind all calls
 
@@ -321,66 +291,51 @@ module _ {H : Type 0} (m : HostModule H) (e : State H) where
         ≡ lines_of hosts shown the_run
     all_lines shown = refl
 
-    pub left_part : (shown : Bool) (now : Option (List ℕ)) → IsLeft m e s calls old now
+    part_of : IsSince m e s → (more : List Ask) → asks_in the_run.events ≡ map ask_of s.journal ++ more → (shown : Bool)
+        (now : Option (List ℕ)) → SaysPart old now (lines_of hosts shown the_run)
         → HasPartLeaving m e.hosts (map unit_of e.linked.0) calls e.steps shown old now s.hosts
-    left_part shown now left = record {
-      part = record {
-        asks = s.journal;
-        after = s.hosts;
-        answered = left.since.answered;
-        more = left.more;
-        first = left.first;
-        part = subst (SaysPart old now) (all_lines shown)
-            (part_in_front old now (lines_at m e s calls) (if shown then state_lines hosts the_run.units else []) left.part);
-      };
+    part_of since more first shown now part = record {
+      part = record { asks = s.journal; after = s.hosts; answered = since.answered; more = more; first = first; part = part };
       hosts_are = refl;
     }
 
-    module _ (middle : Option (List ℕ)) (status : ℕ) (played : HasPlayed m e s calls old middle status) where
-      pub ran_alone : HasAsked m e.hosts (map unit_of e.linked.0) calls e.steps false old middle status s.journal s.hosts
-      ran_alone = record {
+    pub left_part : (shown : Bool) (now : Option (List ℕ)) → IsLeft m e s calls old now
+        → HasPartLeaving m e.hosts (map unit_of e.linked.0) calls e.steps shown old now s.hosts
+    left_part shown now left = part_of left.since left.more left.first shown now (subst (SaysPart old now) (all_lines shown)
+        (part_in_front old now (lines_at m e s calls) (if shown then state_lines hosts the_run.units else []) left.part))
+
+    module _ (middle : Option (List ℕ)) (status : ℕ) (p : HasPlayed m e s calls old middle status) where
+      ran_with : (shown : Bool) (now : Option (List ℕ)) → now ≡ extended old (lines_of hosts shown the_run)
+          → HasAsked m e.hosts (map unit_of e.linked.0) calls e.steps shown old now status s.journal s.hosts
+      ran_with shown now lines = record {
         run = record {
           asks = s.journal;
           after = s.hosts;
-          answered = played.since.answered;
-          told = played.asks;
-          has_status = played.has_status;
-          lines = played.printed ∙ ap (extended old) (sym (append-nil (lines_at m e s calls)) ∙ all_lines false);
+          answered = p.since.answered;
+          told = p.asks;
+          has_status = p.has_status;
+          lines = lines;
         };
         asks_are = refl;
         hosts_are = refl;
       }
 
+      pub ran_alone : HasAsked m e.hosts (map unit_of e.linked.0) calls e.steps false old middle status s.journal s.hosts
+      ran_alone = ran_with false middle
+          (p.printed ∙ ap (extended old) (sym (append-nil (lines_at m e s calls)) ∙ all_lines false))
+
       state_is : state_lines (hosts_of m s.hosts) (objects_of s) ≡ state_lines hosts the_run.units
-      state_is = ap (λ hs. state_lines hs (objects_of s)) played.since.hosts ∙ ap (state_lines hosts) (sym played.objects)
+      state_is = ap (λ hs. state_lines hs (objects_of s)) p.since.hosts ∙ ap (state_lines hosts) (sym p.objects)
 
       pub ran_shown : (now : Option (List ℕ)) → now ≡ extended middle (state_lines (hosts_of m s.hosts) (objects_of s))
           → HasAsked m e.hosts (map unit_of e.linked.0) calls e.steps true old now status s.journal s.hosts
-      ran_shown now printed = record {
-        run = record {
-          asks = s.journal;
-          after = s.hosts;
-          answered = played.since.answered;
-          told = played.asks;
-          has_status = played.has_status;
-          lines = whole_behind old middle now (lines_at m e s calls) (state_lines hosts the_run.units) played.printed
-              (printed ∙ ap (extended middle) state_is) ∙ ap (extended old) (all_lines true);
-        };
-        asks_are = refl;
-        hosts_are = refl;
-      }
+      ran_shown now printed = ran_with true now
+          (whole_behind old middle now (lines_at m e s calls) (state_lines hosts the_run.units) p.printed
+          (printed ∙ ap (extended middle) state_is) ∙ ap (extended old) (all_lines true))
 
       pub shown_part : (now : Option (List ℕ)) → SaysPart middle now (state_lines (hosts_of m s.hosts) (objects_of s))
           → HasPartLeaving m e.hosts (map unit_of e.linked.0) calls e.steps true old now s.hosts
-      shown_part now part = record {
-        part = record {
-          asks = s.journal;
-          after = s.hosts;
-          answered = played.since.answered;
-          more = [];
-          first = asks_are the_run.events s.journal played.asks ∙ sym (append-nil (map ask_of s.journal));
-          part = subst (SaysPart old now) (all_lines true)
-              (part_behind old middle now (lines_at m e s calls) (state_lines hosts the_run.units) played.printed (rw state_is at part));
-        };
-        hosts_are = refl;
-      }
+      shown_part now part = part_of p.since []
+          (asks_are the_run.events s.journal p.asks ∙ sym (append-nil (map ask_of s.journal))) true now
+          (subst (SaysPart old now) (all_lines true)
+          (part_behind old middle now (lines_at m e s calls) (state_lines hosts the_run.units) p.printed (rw state_is at part)))

@@ -88,7 +88,7 @@ pub use Rattle.crun_cli.specs.Ends.{HasPlayedPart, IsAnswered, IsJobWith, IsJour
 pub use Rattle.crun_cli.specs.Ends.{Ran, RanPart, Refuses, WithHosts, WithHostsBy, WrotePart, journal_of}
 pub use Rattle.crun_cli.specs.Files.{HasReading, IsReadBy, IsToRead, IsToWrite, IsUnitFile, IsUnitOf, IsWrittenBy}
 pub use Rattle.crun_cli.specs.Jobs.{HoldsJournal, IsJob, IsJobBehind, IsJobBy, IsJobOfTexts, IsLineJob, IsReplayJob, IsRunJob, symbols_of}
-pub use Rattle.crun_cli.specs.Outside.{IsUntouched, Outside, SinkSeen, outside, sink_seen}
+pub use Rattle.crun_cli.specs.Outside.{IsUntouched, Outside, SinkSeen, outside}
 pub use Rattle.crun_cli.specs.Passing.{BreaksJournal, IsReadLast, IsRunJobOver, PassesFor, PassesLine, PassesRun, PassesWords, ReadsMore}
 pub use Rattle.crun_cli.specs.Passing.{StopsFor, StopsQuietly, WritesJournal, WritesOfRun, WritesRun, journal_to_read, run_reads}
 pub use Rattle.crun_cli.specs.Recording.{AreToFill, HasAsked, HasPartLeaving, HasRecorded, HasTaken, IsBlank, IsBlankFor, IsFilled, IsNamed}

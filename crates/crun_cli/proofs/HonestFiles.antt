@@ -1,18 +1,17 @@
 -- Over files that behave as files what passed says what a call comes to over what they hold.
-use Rattle.crun_cli.proofs.Common.{if◌then◌else◌, ◌≡◌, ℕ, ◌≤◌, Bool, true, false, ◌&&◌, ◌⊎◌, List, [], ◌∷◌, ◌++◌, length, Some, None}
-use Rattle.crun_cli.proofs.Common.{Option, MatchOption, option_and_then, sym, refl, ap, ◌∙◌, subst, inl, inr, append-nil, arith, Host}
-use Rattle.crun_cli.proofs.Common.{Contents, Name, Told, holding, BreaksOff, WritesFile, Tells, WriteAnswer, first_in_order, FailsLast}
-use Rattle.crun_cli.proofs.Common.{ReadsInOrder, limited, IsBegun, print_of, SymbolCall, hosts_of, HostModule, Recorded, journal_text, Line}
-use Rattle.crun_cli.proofs.Common.{MergeLine, RunLine, TrimLine, line_of, merges, runs, trims, AllRead, Held, IsJournalReading, IsReading}
-use Rattle.crun_cli.proofs.Common.{IsUnitsReading, JournalReading, LongJournal, NoJournal, NoUnit, NotThere, Reading, UnitTooLong}
-use Rattle.crun_cli.proofs.Common.{UnitsRead, UnitsReading, most_unit_bytes, GivesJournal, IsTextsJob, Job, Run, Stops, Write, Reason}
-use Rattle.crun_cli.proofs.Common.{Unread, Unwritten, Usage, WantOfMemory, error_line, status_of, IsBehindUnits, IsMerged, IsTrimmedText}
-use Rattle.crun_cli.proofs.Common.{IsUnitsJob, IsUnitsJobOver, PassesUnits, WritesOutput, reason_for, RunsAgain, Begun, BegunIfAny}
-use Rattle.crun_cli.proofs.Common.{By_refusal, Finished, HasPlayed, HasPlayedPart, IsAnswered, IsJobWith, IsJournaled, IsKept, IsRunStatus}
-use Rattle.crun_cli.proofs.Common.{WithHosts, WithHostsBy, journal_of, IsToWrite, IsJob, IsJobBy, IsLineJob, IsReplayJob, IsRunJob}
-use Rattle.crun_cli.proofs.Common.{symbols_of, IsUntouched, Outside, BreaksJournal, IsReadLast, IsRunJobOver, PassesFor, PassesLine}
-use Rattle.crun_cli.proofs.Common.{PassesRun, ReadsMore, StopsFor, StopsQuietly, WritesJournal, WritesOfRun, WritesRun, run_reads, HasPart}
-use Rattle.crun_cli.proofs.Common.{HasRun}
+use Rattle.crun_cli.proofs.Common.{if◌then◌else◌, ◌≡◌, ℕ, ◌≤◌, Bool, true, false, ◌&&◌, ◌⊎◌, List, [], ◌∷◌, ◌++◌, length, Some, None, sym}
+use Rattle.crun_cli.proofs.Common.{Option, MatchOption, option_and_then, refl, ap, ◌∙◌, subst, inl, inr, append-nil, arith, Host, Contents}
+use Rattle.crun_cli.proofs.Common.{Name, Told, holding, BreaksOff, WritesFile, Tells, WriteAnswer, first_in_order, FailsLast, ReadsInOrder}
+use Rattle.crun_cli.proofs.Common.{limited, IsBegun, print_of, SymbolCall, hosts_of, HostModule, Recorded, journal_text, Line, RunLine, Job}
+use Rattle.crun_cli.proofs.Common.{line_of, merges, runs, trims, AllRead, Held, IsJournalReading, IsReading, IsUnitsReading, JournalReading}
+use Rattle.crun_cli.proofs.Common.{LongJournal, NoJournal, NoUnit, NotThere, Reading, UnitTooLong, UnitsRead, UnitsReading, most_unit_bytes}
+use Rattle.crun_cli.proofs.Common.{GivesJournal, IsTextsJob, Run, Stops, Write, Reason, Unread, Unwritten, Usage, WantOfMemory, error_line}
+use Rattle.crun_cli.proofs.Common.{status_of, IsBehindUnits, IsMerged, IsTrimmedText, IsUnitsJob, IsUnitsJobOver, PassesUnits, WritesOutput}
+use Rattle.crun_cli.proofs.Common.{reason_for, RunsAgain, Begun, BegunIfAny, By_refusal, Finished, HasPlayed, HasPlayedPart, IsAnswered}
+use Rattle.crun_cli.proofs.Common.{IsJobWith, IsJournaled, IsKept, IsRunStatus, WithHosts, WithHostsBy, journal_of, IsToWrite, IsJob}
+use Rattle.crun_cli.proofs.Common.{IsJobBy, IsLineJob, IsReplayJob, IsRunJob, symbols_of, IsUntouched, Outside, BreaksJournal, IsReadLast}
+use Rattle.crun_cli.proofs.Common.{IsRunJobOver, PassesFor, PassesLine, PassesRun, ReadsMore, StopsFor, WritesJournal, WritesOfRun}
+use Rattle.crun_cli.proofs.Common.{WritesRun, run_reads}
 use Rattle.w2c_io.specs.Events.{Event}
 use Rattle.w2c_io.specs.Honest.{AreHonest}
 use Rattle.w2c_io.specs.declared.answers.WriteAnswer.TheVariants as answer
@@ -25,17 +24,8 @@ use Rattle.w2c_files.proofs.Honest.{file_begun, file_holds, honest_both, in_orde
 use Rattle.crun_words.proofs.Honest.{FailsInputs, FailsJournal, FailsUnits, inputs_honest, journal_held, journal_honest, units_honest}
 use Rattle.crun_cli.specs.HonestPassing.{PassesHonestly}
 use Rattle.crun_cli.proofs.RecordLaws.{ran_status}
-use Rattle.crun_cli.proofs.TopLaws.{
-  begun_apart,
-  decided,
-  done_again,
-  done_complete,
-  done_refused,
-  of_status_3,
-  of_status_4,
-  stop_apart,
-  written_by_no_run,
-}
+use Rattle.crun_cli.proofs.TopLaws.{begun_apart, decided, done_again, done_apart, done_complete, of_status_3, of_status_4, stop_apart}
+use Rattle.crun_cli.proofs.TopLaws.{usage_job, written_by_no_run}
 
 -- ---- a line names no more than 16 units
 
@@ -164,14 +154,15 @@ units_job_honest m units IsOf few given job current new after honest (r, gives, 
 
 -- a run has the line's number of statements, and shows the state where the line does
 run_steps : (m : Contents) (line : RunLine) (handed : List Host) (units : List (List tree.Item)) (calls : List SymbolCall) (steps : ℕ)
-    (shown : Bool) → IsRunJob line handed m (Run units calls steps shown) → (steps ≡ line.steps) × (shown ≡ line.shows_state)
+    (shown : Bool) → IsRunJob line handed m (Run units calls steps shown)
+    → Run units calls steps shown ≡ Run units calls line.steps line.shows_state
 run_steps m line handed units calls steps shown (AllRead texts text, is, of) = by line.replayed of
   where
     by : (o : Option Name) → MatchOption o (IsTextsJob line (symbols_of handed) texts text (Run units calls steps shown))
         (λ name. (r : JournalReading) × IsJournalReading m name r × IsReplayJob line name texts text r (Run units calls steps shown))
-        → (steps ≡ line.steps) × (shown ≡ line.shows_state)
-    by None of = (of.2, of.3)
-    by (Some name) (Held journal, is, inl (j, is_journal, of)) = (of.2, of.3)
+        → Run units calls steps shown ≡ Run units calls line.steps line.shows_state
+    by None of = (λ i. Run units calls (of.2 i) (of.3 i))
+    by (Some name) (Held journal, is, inl (j, is_journal, of)) = (λ i. Run units calls (of.2 i) (of.3 i))
     by (Some name) (Held journal, is, inr (k, refused, of)) = absurd cc
     by (Some name) (_, is, of) = absurd cc
 run_steps m line handed units calls steps shown (_, is, of) = absurd cc
@@ -190,23 +181,14 @@ module _ (handed : List Host) (m : Contents) where
       by (Some name) (_, is, of) = absurd cc
   run_is_no_fault line (_, is, of) = absurd cc
 
-  units_are_no_fault : (units : List Name) (IsOf : List (List ℕ) → Job → Type 0)
-      → ((texts : List (List ℕ)) → IsOf texts (Stops Unwritten) → ⊥) → IsUnitsJob m units IsOf (Stops Unwritten) → ⊥
-  units_are_no_fault units IsOf none (UnitsRead texts, is, of) = none texts of
-  units_are_no_fault units IsOf none (_, is, of) = absurd cc
-
-  merge_is_no_fault : (line : MergeLine) (texts : List (List ℕ)) → IsMerged line (symbols_of handed) texts (Stops Unwritten) → ⊥
-  merge_is_no_fault line texts (inl (units, linked, is)) = absurd cc
-  merge_is_no_fault line texts (inr (number, file, why, at, refused, is)) = absurd cc
-
-  trim_is_no_fault : (line : TrimLine) (texts : List (List ℕ)) → IsTrimmedText line texts (Stops Unwritten) → ⊥
-  trim_is_no_fault line texts (inl (unit, trimmed, are, is_trimmed, is)) = absurd cc
-  trim_is_no_fault line texts (inr (number, why, refused, is)) = absurd cc
-
   line_is_no_fault : (form : Line) → IsLineJob handed m form (Stops Unwritten) → ⊥
   line_is_no_fault (runs line) of = run_is_no_fault line of
-  line_is_no_fault (merges line) of = units_are_no_fault line.units (IsMerged line (symbols_of handed)) (merge_is_no_fault line) of
-  line_is_no_fault (trims line) of = units_are_no_fault (line.unit ∷ []) (IsTrimmedText line) (trim_is_no_fault line) of
+  line_is_no_fault (merges line) (UnitsRead texts, read, inl (units, linked, is)) = absurd cc
+  line_is_no_fault (merges line) (UnitsRead texts, read, inr (number, file, why, at, refused, is)) = absurd cc
+  line_is_no_fault (merges line) (_, read, is) = absurd cc
+  line_is_no_fault (trims line) (UnitsRead texts, read, inl (unit, trimmed, are, is_trimmed, is)) = absurd cc
+  line_is_no_fault (trims line) (UnitsRead texts, read, inr (number, why, refused, is)) = absurd cc
+  line_is_no_fault (trims line) (_, read, is) = absurd cc
 
 no_fault_asked : (words : List Name) (handed : List Host) (m : Contents) → IsJob words handed m (Stops Unwritten) → ⊥
 no_fault_asked words handed m = by (line_of words)
@@ -228,13 +210,14 @@ pub data Came {H : Type 0} (hm : HostModule H) (hosts : List H) (words : List Na
   Breaks : status ≡ 4 → Said (error_line Unwritten) → Begun hm hosts words m old new → Came hm hosts words m old new status Said events
   Wants : status ≡ 5 → BegunIfAny hm hosts words m old new → Came hm hosts words m old new status Said events
 
--- this holds of hosts, one or the other
-split_with : {H : Type 0} (hm : HostModule H) (hosts : List H) (m : Contents) (o : Option Name)
-    (A B : (G : Type 0) → HostModule G → List G → Type 0) (C D : Type 0)
-    → WithHosts hm hosts o m (λ G n gs. (A G n gs × C) ⊎ (B G n gs × D)) → (WithHosts hm hosts o m A × C) ⊎ (WithHosts hm hosts o m B × D)
-split_with hm hosts m None A B C D of = of
-split_with hm hosts m (Some name) A B C D (j, replays, held, are, inl (a, c)) = inl ((j, replays, held, are, a), c)
-split_with hm hosts m (Some name) A B C D (j, replays, held, are, inr (b, d)) = inr ((j, replays, held, are, b), d)
+-- what a run is with, and whatever else holds of these hosts
+with_case : {H : Type 0} (hm : HostModule H) (hosts : List H) (m : Contents) (o : Option Name)
+    (Q : (G : Type 0) → HostModule G → List G → Type 0) (C : Type 0)
+    → ((G : Type 0) (n : HostModule G) (gs : List G) → Q G n gs
+    → ((P : (K : Type 0) → HostModule K → List K → Type 0) → P G n gs → WithHosts hm hosts o m P) → C)
+    → WithHosts hm hosts o m Q → C
+with_case hm hosts m None Q C so of = so _ hm hosts of (λ P p. p)
+with_case hm hosts m (Some name) Q C so (j, replays, held, are, of) = so _ _ replays of (λ P p. (j, replays, held, are, p))
 
 module _ {H : Type 0} (hm : HostModule H) (hosts : List H) (words : List Name) (m : Contents) (old new : Outside)
     (told : old.files.told ≡ Some m) (status : ℕ) (Said : List ℕ → Type 0) (events : List Event) where
@@ -253,195 +236,131 @@ module _ {H : Type 0} (hm : HostModule H) (hosts : List H) (words : List Name) (
   fails file last same (inl (is, said)) = Fails file is said last same
   fails file last same (inr five) = Wants five (inl same)
 
-  wants : IsUntouched old new → StopsFor status Said WantOfMemory → Comes
-  wants same (inl (is, said)) = Wants is (inl same)
-  wants same (inr five) = Wants five (inl same)
-
-  unwritten : Begun hm hosts words m old new → StopsFor status Said Unwritten → Comes
-  unwritten begun (inl (is, said)) = Breaks is said begun
-  unwritten begun (inr five) = Wants five (inr begun)
-
-  wanting : Begun hm hosts words m old new → StopsFor status Said WantOfMemory → Comes
-  wanting begun (inl (is, said)) = Wants is (inr begun)
-  wanting begun (inr five) = Wants five (inr begun)
+  wants : BegunIfAny hm hosts words m old new → StopsFor status Said WantOfMemory → Comes
+  wants begun (inl (is, said)) = Wants is begun
+  wants begun (inr five) = Wants five begun
 
   breaks : (why : WriteAnswer) → Begun hm hosts words m old new → StopsFor status Said (reason_for why) → Comes
-  breaks answer.Failed begun stopped = unwritten begun stopped
-  breaks answer.Memory begun stopped = wanting begun stopped
+  breaks answer.Failed begun (inl (is, said)) = Breaks is said begun
+  breaks answer.Failed begun (inr five) = Wants five (inr begun)
+  breaks answer.Memory begun stopped = wants (inr begun) stopped
 
-  -- behind the reads, which changed nothing
-  module _ (middle : Told) (current : Option Name) (same : (middle ≡ old.files.told) × (current ≡ old.files.current))
-      (written : List Event) (honest : AreHonest written middle current new.files.told new.files.current) where
+  -- the reads changed nothing
+  read_apart : (files : List (Name × ℕ)) (given written : List Event) → ReadsInOrder files given → events ≡ given ++ written
+      → AreHonest events old.files.told old.files.current new.files.told new.files.current
+      → (middle : Told) × (name : Option Name) × AreHonest given (Some m) old.files.current middle name
+      × AreHonest written old.files.told old.files.current new.files.told new.files.current
+  read_apart files given written reads split honest =
+      let (middle, name, first, last) = honest_both given written old.files.told new.files.told old.files.current new.files.current
+      (subst (λ (l : List Event). AreHonest l old.files.told old.files.current new.files.told new.files.current) split honest) in
+      let (same, current) = in_order_keep files given old.files.told middle old.files.current name reads first in (
+        middle,
+        name,
+        subst (λ (t : Told). AreHonest given t old.files.current middle name) told first,
+        subst (λ (t : Told). AreHonest written t old.files.current new.files.told new.files.current) same
+            (subst (λ (n : Option Name). AreHonest written middle n new.files.told new.files.current) current last),
+      )
+
+  -- behind the reads
+  module _ (written : List Event) (honest : AreHonest written old.files.told old.files.current new.files.told new.files.current) where
+    none_written : written ≡ [] → (new.files.told ≡ old.files.told) × (new.files.current ≡ old.files.current)
+    none_written none = rw none at honest
+
     untouched : written ≡ [] → new.out.told ≡ old.out.told → IsUntouched old new
     untouched none quiet =
-        let kept = subst (λ (l : List Event). AreHonest l middle current new.files.told new.files.current) none honest in
-        record { files = record { told = kept.0 ∙ same.0; current = kept.1 ∙ same.1 }; lines = quiet }
-
-    none_written : written ≡ [] → new.files.told ≡ old.files.told
-    none_written none = (rw none at honest).0 ∙ same.0
+        record { files = record { told = (none_written none).0; current = (none_written none).1 }; lines = quiet }
 
     file_written : (name : Name) (text : List ℕ) → WritesFile name text written → new.files.told ≡ holding old.files.told name text
     file_written name text writes =
-        file_holds name text written middle new.files.told current new.files.current writes honest
-        ∙ ap (λ (t : Told). holding t name text) same.0
+        file_holds name text written old.files.told new.files.told old.files.current new.files.current writes honest
 
     file_part : (name : Name) (text : List ℕ) (why : WriteAnswer) → BreaksOff name text why written
         → IsBegun old.files.told new.files.told name text
-    file_part name text why broken = subst (λ (t : Told). IsBegun t new.files.told name text) same.0
-        (file_begun name text why written middle new.files.told current new.files.current broken honest)
+    file_part name text why broken =
+        file_begun name text why written old.files.told new.files.told old.files.current new.files.current broken honest
 
     unit_comes : (form : Line) → line_of words ≡ Some form → new.out.told ≡ old.out.told → (job : Job)
         → IsLineJob (hosts_of hm hosts) m form job → WritesOutput (λ s. status ≡ s) (StopsFor status Said) job written → Comes
     unit_comes form is quiet (Stops why) job (none, stopped) = stops why (there form is (Stops why) job) (untouched none quiet) stopped
-    unit_comes form is quiet (Write output unit) job (inl (writes, spells, ended)) = Done (inl ended) (inr (
-      ended,
-      record {
-        output = output;
-        unit = unit;
-        job = there form is (Write output unit) job;
-        spells = spells;
-        written = file_written output (print_of unit) writes;
-        nothing = quiet;
-      },
-    ))
-    unit_comes form is quiet (Write output unit) job (inr (why, broken, stopped)) = breaks why (inr (record {
-      output = output;
-      unit = unit;
-      job = there form is (Write output unit) job;
-      begun = file_part output (print_of unit) why broken;
-      nothing = quiet;
-    })) stopped
+    unit_comes form is quiet (Write output unit) job (inl (writes, spells, ended)) =
+        let asks = there form is (Write output unit) job in
+        let put = file_written output (print_of unit) writes in
+        Done (inl ended) (inr (ended, record { output = output; unit = unit; job = asks; spells = spells; written = put; nothing = quiet }))
+    unit_comes form is quiet (Write output unit) job (inr (why, broken, stopped)) =
+        let asks = there form is (Write output unit) job in
+        let begun = file_part output (print_of unit) why broken in
+        breaks why (inr (record { output = output; unit = unit; job = asks; begun = begun; nothing = quiet })) stopped
     unit_comes form is quiet (Run units calls steps shown) job of = absurd of
-
-    -- a file of the units could not be read
-    unit_fails : (given : List Event) → events ≡ given ++ written → new.out.told ≡ old.out.told → (job : Job) → Unreads job given
-        → WritesOutput (λ s. status ≡ s) (StopsFor status Said) job written → Comes
-    unit_fails given split quiet job (file, is, last) writes =
-        let of = subst (λ (j : Job). WritesOutput (λ s. status ≡ s) (StopsFor status Said) j written) is writes in
-        fails file (fails_first file given written events split of.0 last) (untouched of.0 quiet) of.1
 
     journaled : (journal : Option Name) (j : Recorded) → WritesJournal journal j written
         → IsJournaled journal j old.files.told new.files.told
-    journaled None j writes = none_written writes
+    journaled None j writes = (none_written writes).0
     journaled (Some name) j (writes, is) = (file_written name (journal_text j) writes, is)
 
     -- a part of it, or nothing
-    abbrev PartOf : Option Name → Recorded → Type 0
-    PartOf journal j = (name : Name) × (journal ≡ Some name) × IsBegun old.files.told new.files.told name (journal_text j)
-
-    journal_begun : (journal : Option Name) (j : Recorded) (why : WriteAnswer) → BreaksJournal journal j why written → PartOf journal j
+    journal_begun : (journal : Option Name) (j : Recorded) (why : WriteAnswer) → BreaksJournal journal j why written
+        → (name : Name) × (journal ≡ Some name) × IsBegun old.files.told new.files.told name (journal_text j)
     journal_begun None j why broken = absurd broken
-    journal_begun (Some name) j why (inl (none, memory)) = (name, refl, inl (none_written none))
+    journal_begun (Some name) j why (inl (none, memory)) = (name, refl, inl (none_written none).0)
     journal_begun (Some name) j why (inr broken) = (name, refl, file_part name (journal_text j) why broken)
 
-    module _ (line : RunLine) {G : Type 0} (n : HostModule G) (gs : List G) (units : List (List tree.Item)) (calls : List SymbolCall)
-        (steps : ℕ) (shown : Bool) (steps_are : steps ≡ line.steps) (shown_is : shown ≡ line.shows_state) where
-      abbrev Writes : Type 0
-      Writes = WritesRun n gs line.journal units calls steps shown old.out.told new.out.told (λ s. status ≡ s) (StopsFor status Said)
-          written
+    -- a run with the line's number of statements, and with these hosts
+    module _ (line : RunLine) (is : line_of words ≡ Some (runs line)) (units : List (List tree.Item)) (calls : List SymbolCall)
+        (asks : IsJobWith hm hosts words m (Run units calls line.steps line.shows_state)) {G : Type 0} (n : HostModule G) (gs : List G)
+        (keep : (P : (K : Type 0) → HostModule K → List K → Type 0) → P G n gs → WithHosts hm hosts line.replayed m P) where
+      run_begun : HasPlayedPart n gs line units calls old new → Begun hm hosts words m old new
+      run_begun part = inl (line, units, calls, is, asks, keep (λ K k ks. HasPlayedPart k ks line units calls old new) part)
 
-      abbrev RunWith : (Recorded → Type 0) → ℕ → Bool → ℕ → Type 0
-      RunWith Leaves k b s = (run : HasRun n gs units calls k b old.out.told new.out.told s) × Leaves (journal_of n gs run.asks)
+      run_done : (s : ℕ) → status ≡ s → HasPlayed n gs line units calls old new s → Comes
+      run_done s ended played =
+          let held = keep (λ K k ks. HasPlayed k ks line units calls old new status)
+          (subst (HasPlayed n gs line units calls old new) (sym ended) played) in
+          Done (subst IsRunStatus (sym ended) (ran_status played.run)) (inl (line, units, calls, is, asks, held))
 
-      -- with the line's number of statements
-      of_line : (Leaves : Recorded → Type 0) (s : ℕ) → RunWith Leaves steps shown s → RunWith Leaves line.steps line.shows_state s
-      of_line Leaves s of = subst (λ b. RunWith Leaves line.steps b s) shown_is (subst (λ k. RunWith Leaves k shown s) steps_are of)
-
-      abbrev Plays : Type 0
-      Plays = HasPlayed n gs line units calls old new status × IsRunStatus status
-
-      abbrev PlaysPart : Type 0
-      PlaysPart = HasPlayedPart n gs line units calls old new × (StopsFor status Said Unwritten ⊎ StopsFor status Said WantOfMemory)
-
-      whole : (s : ℕ) → RunWith (λ j. IsJournaled line.journal j old.files.told new.files.told) steps shown s → status ≡ s → Plays
-      whole s of is =
-          let Leaves : Recorded → Type 0 = λ j. IsJournaled line.journal j old.files.told new.files.told in
-          let done = subst (RunWith Leaves line.steps line.shows_state) (sym is) (of_line Leaves s of) in (
-            record { run = done.0; written = done.1 },
-            ran_status n gs units calls line.steps line.shows_state old.out.told new.out.told status done.0,
-          )
-
-      half : (s : ℕ) → RunWith (PartOf line.journal) steps shown s → HasPlayedPart n gs line units calls old new
-      half s of =
-          let done = of_line (PartOf line.journal) s of in
-          inr (record { status = s; run = done.0; name = done.1.0; named = done.1.1; begun = done.1.2 })
-
-      stopped_for_it : (why : WriteAnswer) → StopsFor status Said (reason_for why)
-          → StopsFor status Said Unwritten ⊎ StopsFor status Said WantOfMemory
-      stopped_for_it answer.Failed stopped = inl stopped
-      stopped_for_it answer.Memory stopped = inr stopped
-
-      plays : Writes → Plays ⊎ PlaysPart
-      plays (inl w) = by w.ends
-        where
-          by : (WritesJournal line.journal (journal_of n gs w.run.asks) written × (status ≡ w.status))
-              ⊎ ((why : WriteAnswer) × BreaksJournal line.journal (journal_of n gs w.run.asks) why written
-              × StopsFor status Said (reason_for why)) → Plays ⊎ PlaysPart
-          by (inl (writes, is)) = inl (whole w.status (w.run, journaled line.journal (journal_of n gs w.run.asks) writes) is)
-          by (inr (why, broken, stopped)) = inr (
-            half w.status (w.run, journal_begun line.journal (journal_of n gs w.run.asks) why broken),
-            stopped_for_it why stopped,
-          )
-      plays (inr (part, none, stopped)) = inr (
-        inl (
-          subst (λ b. HasPart n gs units calls line.steps b old.out.told new.out.told) shown_is (rw steps_are at part),
-          none_written none,
-        ),
-        stopped,
-      )
+      run_ends : WritesRun n gs line.journal units calls line.steps line.shows_state old.out.told new.out.told (λ s. status ≡ s)
+          (StopsFor status Said) written → Comes
+      run_ends (inl w) = elim w.ends [
+        | inl (writes, ended) ↦
+            let holds = journaled line.journal (journal_of n gs w.run.asks) writes in
+            run_done w.status ended (record { run = w.run; written = holds })
+        | inr (why, broken, stopped) ↦
+            let (name, named, begun) = journal_begun line.journal (journal_of n gs w.run.asks) why broken in
+            breaks why (run_begun (inr (record { status = w.status; run = w.run; name = name; named = named; begun = begun }))) stopped
+      ]
+      run_ends (inr (part, none, inl stopped)) = breaks answer.Failed (run_begun (inl (part, (none_written none).0))) stopped
+      run_ends (inr (part, none, inr stopped)) = breaks answer.Memory (run_begun (inl (part, (none_written none).0))) stopped
 
   -- hosts of a journal that was read last are those of the journal that the file holds
-  with_honest : (o : Option Name) (files : List (Name × ℕ)) (given : List Event) (current : Option Name) (middle : Told)
-      (after : Option Name) → ReadsInOrder files given → AreHonest given (Some m) current middle after
-      → (P Q : (G : Type 0) → HostModule G → List G → Type 0) → ((G : Type 0) (n : HostModule G) (gs : List G) → P G n gs → Q G n gs)
-      → WithHostsBy hm hosts o (IsReadLast given) P → WithHosts hm hosts o m Q
-  with_honest None files given current middle after reads honest P Q so of = so _ hm hosts of
-  with_honest (Some name) files given current middle after reads honest P Q so
+  with_honest : (o : Option Name) (files : List (Name × ℕ)) (given : List Event) (middle : Told) (name : Option Name)
+      → ReadsInOrder files given → AreHonest given (Some m) old.files.current middle name
+      → (P : (G : Type 0) → HostModule G → List G → Type 0) → WithHostsBy hm hosts o (IsReadLast given) P → WithHosts hm hosts o m P
+  with_honest None files given middle name reads honest P of = of
+  with_honest (Some journal) files given middle name reads honest P
       (j, replays, (text, (first, last, split, gives), is_journal), are, of) =
-      let both = honest_both first last (Some m) middle current after (rw split at honest) in
-      let kept = in_order_keep files first (Some m) both.0 current both.1
+      let both = honest_both first last (Some m) middle old.files.current name (rw split at honest) in
+      let kept = in_order_keep files first (Some m) both.0 old.files.current both.1
       (first_in_order files first last (subst (ReadsInOrder files) split reads)) both.2 in
-      let held = journal_held m name text last both.1 middle after gives (rw kept.0 at both.3) in
-      (j, replays, (text, held, is_journal), are, so _ _ replays of)
+      let held = journal_held m journal text last both.1 middle name gives (rw kept.0 at both.3) in
+      (j, replays, (text, held, is_journal), are, of)
 
-  run_comes : (line : RunLine) → line_of words ≡ Some (runs line) → (given written : List Event) (current name : Option Name)
-      (middle : Told) → ReadsInOrder (run_reads line) given → AreHonest given (Some m) current middle name
-      → (middle ≡ old.files.told) × (name ≡ old.files.current)
-      → AreHonest written middle name new.files.told new.files.current → (job : Job) → IsRunJob line (hosts_of hm hosts) m job
+  run_comes : (line : RunLine) → line_of words ≡ Some (runs line) → (given written : List Event) (middle : Told) (name : Option Name)
+      → ReadsInOrder (run_reads line) given → AreHonest given (Some m) old.files.current middle name
+      → AreHonest written old.files.told old.files.current new.files.told new.files.current
+      → (job : Job) → IsRunJob line (hosts_of hm hosts) m job
       → WritesOfRun hm hosts line old.out.told new.out.told (λ s. status ≡ s) (StopsFor status Said) given job written → Comes
-  run_comes line is given written current name middle reads honest same behind (Stops why) job (none, (quiet, stopped)) =
-      stops why (there (runs line) is (Stops why) job) (untouched middle name same written behind none quiet) stopped
-  run_comes line is given written current name middle reads honest same behind (Run units calls steps shown) job of =
-      let are = run_steps m line (hosts_of hm hosts) units calls steps shown job in
-      let P : (G : Type 0) → HostModule G → List G → Type 0 = λ G n gs. WritesRun n gs line.journal units calls steps shown
-      old.out.told new.out.told (λ s. status ≡ s) (StopsFor status Said) written in
-      let A : (G : Type 0) → HostModule G → List G → Type 0 = λ G n gs. HasPlayed n gs line units calls old new status in
-      let B : (G : Type 0) → HostModule G → List G → Type 0 = λ G n gs. HasPlayedPart n gs line units calls old new in
-      let asks : IsJobWith hm hosts words m (Run units calls line.steps line.shows_state) =
-      there (runs line) is (Run units calls line.steps line.shows_state) (rw (are.0, are.1) at job) in
-      by asks (split_with hm hosts m line.replayed A B (IsRunStatus status)
-      (StopsFor status Said Unwritten ⊎ StopsFor status Said WantOfMemory)
-      (with_honest line.replayed (run_reads line) given current middle name reads honest P
-      (λ G n gs. (A G n gs × IsRunStatus status) ⊎ (B G n gs × (StopsFor status Said Unwritten ⊎ StopsFor status Said WantOfMemory)))
-      (λ G n gs. plays middle name same written behind line n gs units calls steps shown are.0 are.1) of))
-    where
-      by : IsJobWith hm hosts words m (Run units calls line.steps line.shows_state)
-          → (WithHosts hm hosts line.replayed m (λ G n gs. HasPlayed n gs line units calls old new status) × IsRunStatus status)
-          ⊎ (WithHosts hm hosts line.replayed m (λ G n gs. HasPlayedPart n gs line units calls old new)
-          × (StopsFor status Said Unwritten ⊎ StopsFor status Said WantOfMemory)) → Comes
-      by asks (inl (held, run)) = Done run (inl (line, units, calls, is, asks, held))
-      by asks (inr (held, inl stopped)) = unwritten (inl (line, units, calls, is, asks, held)) stopped
-      by asks (inr (held, inr stopped)) = wanting (inl (line, units, calls, is, asks, held)) stopped
-  run_comes line is given written current name middle reads honest same behind (Write output unit) job of = absurd of
-
-  -- one of its files could not be read
-  run_fails : (line : RunLine) (given written : List Event) (name : Option Name) (middle : Told)
-      → (middle ≡ old.files.told) × (name ≡ old.files.current) → AreHonest written middle name new.files.told new.files.current
-      → events ≡ given ++ written → (job : Job) → Unreads job given
-      → WritesOfRun hm hosts line old.out.told new.out.told (λ s. status ≡ s) (StopsFor status Said) given job written → Comes
-  run_fails line given written name middle same behind split job (file, is, last) writes =
-      let of = rw is at writes in
-      fails file (fails_first file given written events split of.0 last) (untouched middle name same written behind of.0 of.1.0) of.1.1
+  run_comes line is given written middle name reads honest behind (Stops why) job (none, (quiet, stopped)) =
+      stops why (there (runs line) is (Stops why) job) (untouched written behind none quiet) stopped
+  run_comes line is given written middle name reads honest behind (Run units calls steps shown) job of =
+      let same = run_steps m line (hosts_of hm hosts) units calls steps shown job in
+      let asks = there (runs line) is (Run units calls line.steps line.shows_state)
+      (subst (λ (j : Job). IsRunJob line (hosts_of hm hosts) m j) same job) in
+      let P : (G : Type 0) → HostModule G → List G → Type 0 = λ G n gs. WritesRun n gs line.journal units calls line.steps
+      line.shows_state old.out.told new.out.told (λ s. status ≡ s) (StopsFor status Said) written in
+      let writes = subst (λ (j : Job). WritesOfRun hm hosts line old.out.told new.out.told (λ s. status ≡ s) (StopsFor status Said) given j
+      written) same of in
+      with_case hm hosts m line.replayed P Comes (λ G n gs w keep. run_ends written behind line is units calls asks n gs keep w)
+      (with_honest line.replayed (run_reads line) given middle name reads honest P writes)
+  run_comes line is given written middle name reads honest behind (Write output unit) job of = absurd of
 
   pub comes : AreHonest events old.files.told old.files.current new.files.told new.files.current
       → PassesFor hm hosts words old.out.told new.out.told status Said events → Comes
@@ -452,68 +371,42 @@ module _ {H : Type 0} (hm : HostModule H) (hosts : List H) (words : List Name) (
           × (StopsFor status Said Usage ⊎ StopsFor status Said WantOfMemory))
           (λ line. PassesLine hm hosts line old.out.told new.out.told (λ s. status ≡ s) (StopsFor status Said) events)
 
-      usage : line_of words ≡ None → IsJobWith hm hosts words m (Stops Usage)
-      usage none =
-          subst (λ o. MatchOption o (Stops Usage ≡ Stops Usage) (λ l. IsLineJob (hosts_of hm hosts) m l (Stops Usage))) (sym none) refl
-
-      no_calls : events ≡ [] → new.out.told ≡ old.out.told → IsUntouched old new
-      no_calls none quiet = untouched old.files.told old.files.current (refl, refl) events honest none quiet
-
       units_come : (form : Line) → line_of words ≡ Some form → (units : List Name) (IsOf : List (List ℕ) → Job → Type 0)
           → length units ≤ 16 → ((job : Job) → IsUnitsJob m units IsOf job → IsLineJob (hosts_of hm hosts) m form job)
-          → new.out.told ≡ old.out.told
-          → PassesUnits units IsOf (λ s. status ≡ s) (StopsFor status Said) events → Comes
+          → new.out.told ≡ old.out.told → PassesUnits units IsOf (λ s. status ≡ s) (StopsFor status Said) events → Comes
       units_come form is units IsOf few jobs quiet p =
-          let both = honest_both p.given p.written old.files.told new.files.told old.files.current new.files.current
-          (subst (λ (l : List Event). AreHonest l old.files.told old.files.current new.files.told new.files.current) p.split honest) in
-          by p.given p.written both.0 both.1 p.split
-          (in_order_keep (limited most_unit_bytes units) p.given old.files.told both.0 old.files.current both.1 p.reads both.2)
-          (subst (λ (t : Told). AreHonest p.given t old.files.current both.0 both.1) told both.2) both.3 p.follows
-        where
-          by : (given written : List Event) (middle : Told) (name : Option Name) → events ≡ given ++ written
-              → (middle ≡ old.files.told) × (name ≡ old.files.current) → AreHonest given (Some m) old.files.current middle name
-              → AreHonest written middle name new.files.told new.files.current
-              → ((written ≡ []) × StopsFor status Said WantOfMemory) ⊎ ((job : Job) × IsUnitsJobOver units IsOf given job
-              × WritesOutput (λ s. status ≡ s) (StopsFor status Said) job written) → Comes
-          by given written middle name split same found behind (inl (none, memory)) =
-              wants (untouched middle name same written behind none quiet) memory
-          by given written middle name split same found behind (inr (job, asks, writes)) =
-              on_job (units_job_honest m units IsOf few given job old.files.current middle name found asks)
-            where
-              on_job : IsUnitsJob m units IsOf job ⊎ Unreads job given → Comes
-              on_job (inl of) = unit_comes middle name same written behind form is quiet job (jobs job of) writes
-              on_job (inr unread) = unit_fails middle name same written behind given split quiet job unread writes
+          let (middle, name, found, behind) = read_apart (limited most_unit_bytes units) p.given p.written p.reads p.split honest in
+          elim p.follows [
+            | inl (none, memory) ↦ wants (inl (untouched p.written behind none quiet)) memory
+            | inr (job, asks, writes) ↦
+                elim (units_job_honest m units IsOf few p.given job old.files.current middle name found asks) [
+                  | inl of ↦ unit_comes p.written behind form is quiet job (jobs job of) writes
+                  | inr (file, unread, last) ↦
+                      let of = rw unread at writes in
+                      fails file (fails_first file p.given p.written events p.split of.0 last) (untouched p.written behind of.0 quiet) of.1
+                ]
+          ]
 
       run_line : (line : RunLine) → line_of words ≡ Some (runs line)
           → PassesRun hm hosts line old.out.told new.out.told (λ s. status ≡ s) (StopsFor status Said) events → Comes
       run_line line is p =
-          let both = honest_both p.given p.written old.files.told new.files.told old.files.current new.files.current
-          (subst (λ (l : List Event). AreHonest l old.files.told old.files.current new.files.told new.files.current) p.split honest) in
-          by p.given p.written both.0 both.1 p.split
-          (in_order_keep (run_reads line) p.given old.files.told both.0 old.files.current both.1 p.reads both.2) p.reads
-          (subst (λ (t : Told). AreHonest p.given t old.files.current both.0 both.1) told both.2) both.3 p.follows
-        where
-          by : (given written : List Event) (middle : Told) (name : Option Name) → events ≡ given ++ written
-              → (middle ≡ old.files.told) × (name ≡ old.files.current)
-              → ReadsInOrder (run_reads line) given → AreHonest given (Some m) old.files.current middle name
-              → AreHonest written middle name new.files.told new.files.current
-              → ((written ≡ []) × StopsQuietly old.out.told new.out.told (StopsFor status Said) WantOfMemory)
-              ⊎ ((job : Job) × IsRunJobOver line (hosts_of hm hosts) given job
-              × WritesOfRun hm hosts line old.out.told new.out.told (λ s. status ≡ s) (StopsFor status Said) given job written) → Comes
-          by given written middle name split same reads found behind (inl (none, (quiet, memory))) =
-              wants (untouched middle name same written behind none quiet) memory
-          by given written middle name split same reads found behind (inr (job, asks, writes)) =
-              on_job (run_job_honest m line (hosts_of hm hosts) (few_of (values_of words) (runs line) is) given job old.files.current
-              middle name found asks)
-            where
-              on_job : IsRunJob line (hosts_of hm hosts) m job ⊎ Unreads job given → Comes
-              on_job (inl of) =
-                  run_comes line is given written old.files.current name middle reads found same behind job of writes
-              on_job (inr unread) = run_fails line given written name middle same behind split job unread writes
+          let few = few_of (values_of words) (runs line) is in
+          let (middle, name, found, behind) = read_apart (run_reads line) p.given p.written p.reads p.split honest in
+          elim p.follows [
+            | inl (none, (quiet, memory)) ↦ wants (inl (untouched p.written behind none quiet)) memory
+            | inr (job, asks, writes) ↦
+                elim (run_job_honest m line (hosts_of hm hosts) few p.given job old.files.current middle name found asks) [
+                  | inl of ↦ run_comes line is p.given p.written middle name p.reads found behind job of writes
+                  | inr (file, unread, last) ↦
+                      let of = rw unread at writes in
+                      fails file (fails_first file p.given p.written events p.split of.0 last)
+                      (untouched p.written behind of.0 of.1.0) of.1.1
+                ]
+          ]
 
       go : (o : Option Line) → line_of words ≡ o → Of o → Comes
-      go None is (none, quiet, inl stopped) = stops Usage (usage is) (no_calls none quiet) stopped
-      go None is (none, quiet, inr memory) = wants (no_calls none quiet) memory
+      go None is (none, quiet, inl stopped) = stops Usage (usage_job hm hosts words m is) (untouched events honest none quiet) stopped
+      go None is (none, quiet, inr memory) = wants (inl (untouched events honest none quiet)) memory
       go (Some (runs line)) is p = run_line line is p
       go (Some (merges line)) is (quiet, p) = units_come (merges line) is line.units
           (IsMerged line (symbols_of (hosts_of hm hosts))) (few_of (values_of words) (merges line) is) (λ job of. of) quiet p
@@ -528,28 +421,16 @@ module _ {H : Type 0} (hm : HostModule H) (hosts : List H) (words : List Name) (
       → IsToWrite output (line_of words)
   unit_to_write output unit job = by (line_of words) refl job
     where
-      of_units : (units : List Name) (IsOf : List (List ℕ) → Job → Type 0) (written : Name)
-          → ((texts : List (List ℕ)) → IsOf texts (Write output unit) → output ≡ written)
-          → IsUnitsJob m units IsOf (Write output unit) → output ≡ written
-      of_units units IsOf written found (UnitsRead texts, is, of) = found texts of
-      of_units units IsOf written found (_, is, of) = absurd cc
-
-      merged_to : (line : MergeLine) (texts : List (List ℕ)) → IsMerged line (symbols_of (hosts_of hm hosts)) texts (Write output unit)
-          → output ≡ line.output
-      merged_to line texts (inl (units, linked, is)) = cc
-      merged_to line texts (inr (number, file, why, at, refused, is)) = absurd cc
-
-      trimmed_to : (line : TrimLine) (texts : List (List ℕ)) → IsTrimmedText line texts (Write output unit) → output ≡ line.output
-      trimmed_to line texts (inl (whole, trimmed, are, is_trimmed, is)) = cc
-      trimmed_to line texts (inr (number, why, refused, is)) = absurd cc
-
       by : (o : Option Line) → line_of words ≡ o → MatchOption o (Write output unit ≡ Stops Usage)
           (λ l. IsLineJob (hosts_of hm hosts) m l (Write output unit)) → IsToWrite output o
       by None none is = absurd cc
       by (Some (runs line)) is of = absurd (written_by_no_run hm hosts words m line output unit is job)
-      by (Some (merges line)) is of =
-          of_units line.units (IsMerged line (symbols_of (hosts_of hm hosts))) line.output (merged_to line) of
-      by (Some (trims line)) is of = of_units (line.unit ∷ []) (IsTrimmedText line) line.output (trimmed_to line) of
+      by (Some (merges line)) is (UnitsRead texts, read, inl (units, linked, same)) = (let to : output ≡ line.output = cc in to)
+      by (Some (merges line)) is (UnitsRead texts, read, inr (number, file, why, at, refused, same)) = absurd cc
+      by (Some (merges line)) is (_, read, same) = absurd cc
+      by (Some (trims line)) is (UnitsRead texts, read, inl (whole, trimmed, are, so, same)) = (let to : output ≡ line.output = cc in to)
+      by (Some (trims line)) is (UnitsRead texts, read, inr (number, why, refused, same)) = absurd cc
+      by (Some (trims line)) is (_, read, same) = absurd cc
 
   module _ (old new : Outside) where
     -- a file that is named for writing is begun
@@ -558,182 +439,128 @@ module _ {H : Type 0} (hm : HostModule H) (hosts : List H) (words : List Name) (
     begun_kept file text named (inl same) = inl same
     begun_kept file text named (inr (part, prefix, is)) = inr (file, part, named, is)
 
-    -- the journal of a line
-    journal_named : (line : RunLine) → line_of words ≡ Some (runs line) → (file : Name) → line.journal ≡ Some file
-        → IsToWrite file (line_of words)
-    journal_named line is file named = subst (IsToWrite file) (sym is) named
-
-    journal_kept : (line : RunLine) → line_of words ≡ Some (runs line) → (o : Option Name) → line.journal ≡ o → (j : Recorded)
+    journal_kept : (o : Option Name) → ((file : Name) → o ≡ Some file → IsToWrite file (line_of words)) → (j : Recorded)
         → IsJournaled o j old.files.told new.files.told → IsKept words old new
-    journal_kept line is None none j same = inl same
-    journal_kept line is (Some file) named j written =
-        inr (file, journal_text j, journal_named line is file named, written.0)
-
-    played_kept : (line : RunLine) → line_of words ≡ Some (runs line) → (G : Type 0) (n : HostModule G) (gs : List G)
-        (units : List (List tree.Item)) (calls : List SymbolCall) (status : ℕ)
-        → HasPlayed n gs line units calls old new status → IsKept words old new
-    played_kept line is G n gs units calls status played =
-        journal_kept line is line.journal refl (journal_of n gs played.run.asks) played.written
-
-    part_kept : (line : RunLine) → line_of words ≡ Some (runs line) → (G : Type 0) (n : HostModule G) (gs : List G)
-        (units : List (List tree.Item)) (calls : List SymbolCall) → HasPlayedPart n gs line units calls old new → IsKept words old new
-    part_kept line is G n gs units calls (inl (part, same)) = inl same
-    part_kept line is G n gs units calls (inr part) =
-        begun_kept part.name (journal_text (journal_of n gs part.run.asks)) (journal_named line is part.name part.named) part.begun
-
-    -- with any hosts
-    with_any : (o : Option Name) (P : (G : Type 0) → HostModule G → List G → Type 0) (C : Type 0)
-        → ((G : Type 0) (n : HostModule G) (gs : List G) → P G n gs → C) → WithHosts hm hosts o m P → C
-    with_any None P C so of = so _ hm hosts of
-    with_any (Some name) P C so (j, replays, held, are, of) = so _ _ replays of
+    journal_kept None named j same = inl same
+    journal_kept (Some file) named j written = inr (file, journal_text j, named file refl, written.0)
 
     finished_kept : (status : ℕ) → Finished hm hosts words m old new status → IsKept words old new
     finished_kept status (inl (line, units, calls, is, job, with)) =
-        with_any line.replayed (λ G n gs. HasPlayed n gs line units calls old new status) (IsKept words old new)
-        (λ G n gs. played_kept line is G n gs units calls status) with
+        with_case hm hosts m line.replayed (λ G n gs. HasPlayed n gs line units calls old new status) (IsKept words old new)
+        (λ G n gs played keep. journal_kept line.journal (λ file named. subst (IsToWrite file) (sym is) named)
+        (journal_of n gs played.run.asks) played.written) with
     finished_kept status (inr (zero, wrote)) =
         inr (wrote.output, print_of wrote.unit, unit_to_write wrote.output wrote.unit wrote.job, wrote.written)
 
     part_of_it_kept : Begun hm hosts words m old new → IsKept words old new
     part_of_it_kept (inl (line, units, calls, is, job, with)) =
-        with_any line.replayed (λ G n gs. HasPlayedPart n gs line units calls old new) (IsKept words old new)
-        (λ G n gs. part_kept line is G n gs units calls) with
+        with_case hm hosts m line.replayed (λ G n gs. HasPlayedPart n gs line units calls old new) (IsKept words old new)
+        (λ G n gs part keep. elim part [
+          | inl played ↦ inl played.1
+          | inr j ↦
+              begun_kept j.name (journal_text (journal_of n gs j.run.asks)) (subst (IsToWrite j.name) (sym is) j.named) j.begun
+        ]) with
     part_of_it_kept (inr wrote) =
         begun_kept wrote.output (print_of wrote.unit) (unit_to_write wrote.output wrote.unit wrote.job) wrote.begun
 
 -- ---- the clauses
 
-module _ {H : Type 0} (hm : HostModule H) (hosts : List H) (words : List Name) (m : Contents) (old new : Outside) (status : ℕ)
-    (Said : List ℕ → Type 0) (call : PassesHonestly hm hosts words m old new status Said) where
+module _ {H : Type 0} {hm : HostModule H} {hosts : List H} {words : List Name} {m : Contents} {old new : Outside} {status : ℕ}
+    {Said : List ℕ → Type 0} (call : PassesHonestly hm hosts words m old new status Said) where
   came : Came hm hosts words m old new status Said call.events
   came = comes hm hosts words m old new call.told status Said call.events call.honest call.passes
 
   pub honest_untouched : (status ≡ 2) ⊎ (status ≡ 3) ⊎ (status ≡ 6) → IsUntouched old new
-  honest_untouched ends = by came
-    where
-      by : Came hm hosts words m old new status Said call.events → IsUntouched old new
-      by (Done run finished) = absurd (omega (arith, run, ends))
-      by (Refuses why is said job same) = same
-      by (Fails file is said last same) = same
-      by (Breaks is said begun) = absurd (omega (arith, is, ends))
-      by (Wants is begun) = absurd (omega (arith, is, ends))
+  honest_untouched ends = elim came [
+    | Done run finished ↦ absurd (omega (arith, run, ends))
+    | Refuses why is said job same ↦ same
+    | Fails file is said last same ↦ same
+    | Breaks is said begun ↦ absurd (omega (arith, is, ends))
+    | Wants is begun ↦ absurd (omega (arith, is, ends))
+  ]
 
   pub honest_finished : IsRunStatus status → Finished hm hosts words m old new status
-  honest_finished run = by came
-    where
-      by : Came hm hosts words m old new status Said call.events → Finished hm hosts words m old new status
-      by (Done run finished) = finished
-      by (Refuses why is said job same) = absurd (stop_apart status why (inl is) run)
-      by (Fails file is said last same) = absurd (omega (arith, is, run))
-      by (Breaks is said begun) = absurd (omega (arith, is, run))
-      by (Wants is begun) = absurd (omega (arith, is, run))
+  honest_finished run = elim came [
+    | Done run finished ↦ finished
+    | Refuses why is said job same ↦ absurd (stop_apart status why (inl is) run)
+    | Fails file is said last same ↦ absurd (omega (arith, is, run))
+    | Breaks is said begun ↦ absurd (omega (arith, is, run))
+    | Wants is begun ↦ absurd (omega (arith, is, run))
+  ]
 
   pub honest_refused : (status ≡ 2) ⊎ (status ≡ 6)
       → (why : Reason) × (status_of why ≡ status) × IsJobWith hm hosts words m (Stops why) × Said (error_line why)
-  honest_refused ends = by came
-    where
-      by : Came hm hosts words m old new status Said call.events
-          → (why : Reason) × (status_of why ≡ status) × IsJobWith hm hosts words m (Stops why) × Said (error_line why)
-      by (Done run finished) = absurd (omega (arith, run, ends))
-      by (Refuses why is said job same) = (why, sym is, job, said)
-      by (Fails file is said last same) = absurd (omega (arith, is, ends))
-      by (Breaks is said begun) = absurd (omega (arith, is, ends))
-      by (Wants is begun) = absurd (omega (arith, is, ends))
+  honest_refused ends = elim came [
+    | Done run finished ↦ absurd (omega (arith, run, ends))
+    | Refuses why is said job same ↦ (why, sym is, job, said)
+    | Fails file is said last same ↦ absurd (omega (arith, is, ends))
+    | Breaks is said begun ↦ absurd (omega (arith, is, ends))
+    | Wants is begun ↦ absurd (omega (arith, is, ends))
+  ]
 
   pub honest_missing : status ≡ 3 → (file : Name)
       × (IsJobWith hm hosts words m (Stops (Unread file)) ⊎ FailsLast file call.events) × Said (error_line (Unread file))
-  honest_missing three = by came
-    where
-      Missing : Type 0
-      Missing = (file : Name) × (IsJobWith hm hosts words m (Stops (Unread file)) ⊎ FailsLast file call.events)
-          × Said (error_line (Unread file))
-
-      refused : (why : Reason) → status ≡ status_of why → Said (error_line why) → IsJobWith hm hosts words m (Stops why) → Missing
-      refused why is said job =
-          let (file, is_unread) = of_status_3 why (sym is ∙ three) in (
-            file,
-            inl (subst (λ (w : Reason). IsJobWith hm hosts words m (Stops w)) is_unread job),
-            subst (λ (w : Reason). Said (error_line w)) is_unread said,
-          )
-
-      by : Came hm hosts words m old new status Said call.events → Missing
-      by (Done run finished) = absurd (omega (arith, run, three))
-      by (Refuses why is said job same) = refused why is said job
-      by (Fails file is said last same) = (file, inr last, said)
-      by (Breaks is said begun) = absurd (omega (arith, is, three))
-      by (Wants is begun) = absurd (omega (arith, is, three))
+  honest_missing three = elim came [
+    | Done run finished ↦ absurd (omega (arith, run, three))
+    | Refuses why is said job same ↦
+        let (file, is_unread) = of_status_3 why (sym is ∙ three) in
+        let asks = subst (λ (w : Reason). IsJobWith hm hosts words m (Stops w)) is_unread job in
+        (file, inl asks, subst (λ (w : Reason). Said (error_line w)) is_unread said)
+    | Fails file is said last same ↦ (file, inr last, said)
+    | Breaks is said begun ↦ absurd (omega (arith, is, three))
+    | Wants is begun ↦ absurd (omega (arith, is, three))
+  ]
 
   pub honest_write_fault : status ≡ 4 → Begun hm hosts words m old new × Said (error_line Unwritten)
-  honest_write_fault four = by came
-    where
-      refused : (why : Reason) → status ≡ status_of why → IsJobWith hm hosts words m (Stops why) → ⊥
-      refused why is job = no_fault_asked words (hosts_of hm hosts) m
-          (subst (λ (w : Reason). IsJobWith hm hosts words m (Stops w)) (of_status_4 why (sym is ∙ four)) job)
-
-      by : Came hm hosts words m old new status Said call.events → Begun hm hosts words m old new × Said (error_line Unwritten)
-      by (Done run finished) = absurd (omega (arith, run, four))
-      by (Refuses why is said job same) = absurd (refused why is job)
-      by (Fails file is said last same) = absurd (omega (arith, is, four))
-      by (Breaks is said begun) = (begun, said)
-      by (Wants is begun) = absurd (omega (arith, is, four))
+  honest_write_fault four = elim came [
+    | Done run finished ↦ absurd (omega (arith, run, four))
+    | Refuses why is said job same ↦ absurd (no_fault_asked words (hosts_of hm hosts) m
+        (subst (λ (w : Reason). IsJobWith hm hosts words m (Stops w)) (of_status_4 why (sym is ∙ four)) job))
+    | Fails file is said last same ↦ absurd (omega (arith, is, four))
+    | Breaks is said begun ↦ (begun, said)
+    | Wants is begun ↦ absurd (omega (arith, is, four))
+  ]
 
   pub honest_part : status ≡ 5 → BegunIfAny hm hosts words m old new
-  honest_part five = by came
-    where
-      by : Came hm hosts words m old new status Said call.events → BegunIfAny hm hosts words m old new
-      by (Done run finished) = absurd (omega (arith, run, five))
-      by (Refuses why is said job same) = inl same
-      by (Fails file is said last same) = inl same
-      by (Breaks is said begun) = absurd (omega (arith, is, five))
-      by (Wants is begun) = begun
-
-  -- the last call was a read that failed
-  abbrev Failed : Type 0
-  Failed = (file : Name) × FailsLast file call.events
+  honest_part five = elim came [
+    | Done run finished ↦ absurd (omega (arith, run, five))
+    | Refuses why is said job same ↦ inl same
+    | Fails file is said last same ↦ inl same
+    | Breaks is said begun ↦ absurd (omega (arith, is, five))
+    | Wants is begun ↦ begun
+  ]
 
   pub honest_answered : (status ≡ 4) ⊎ (status ≡ 5) ⊎ ((file : Name) × FailsLast file call.events) ⊎ IsAnswered hm hosts words m status
-  honest_answered = by came
-    where
-      done : (status ≡ 5) ⊎ IsAnswered hm hosts words m status → (status ≡ 4) ⊎ (status ≡ 5) ⊎ Failed ⊎ IsAnswered hm hosts words m status
-      done (inl five) = inr (inl five)
-      done (inr answered) = inr (inr (inr answered))
-
-      by : Came hm hosts words m old new status Said call.events
-          → (status ≡ 4) ⊎ (status ≡ 5) ⊎ Failed ⊎ IsAnswered hm hosts words m status
-      by (Done run finished) = done (done_complete hm hosts words m old new status finished)
-      by (Refuses why is said job same) = inr (inr (inr (By_refusal why job is)))
-      by (Fails file is said last same) = inr (inr (inl (file, last)))
-      by (Breaks is said begun) = inl is
-      by (Wants is begun) = inr (inl is)
+  honest_answered = elim came [
+    | Done run finished ↦ elim (done_complete hm hosts words m old new status finished) [
+      | inl five ↦ inr (inl five)
+      | inr answered ↦ inr (inr (inr answered))
+    ]
+    | Refuses why is said job same ↦ inr (inr (inr (By_refusal why job is)))
+    | Fails file is said last same ↦ inr (inr (inl (file, last)))
+    | Breaks is said begun ↦ inl is
+    | Wants is begun ↦ inr (inl is)
+  ]
 
   pub honest_decided : (why : Reason) → IsJobWith hm hosts words m (Stops why)
       → (status ≡ status_of why) ⊎ (status ≡ 5) ⊎ ((file : Name) × FailsLast file call.events)
-  honest_decided why refused = by came
-    where
-      done : (status ≡ status_of why) ⊎ (status ≡ 5) → (status ≡ status_of why) ⊎ (status ≡ 5) ⊎ Failed
-      done (inl is) = inl is
-      done (inr five) = inr (inl five)
-
-      by : Came hm hosts words m old new status Said call.events → (status ≡ status_of why) ⊎ (status ≡ 5) ⊎ Failed
-      by (Done run finished) = done (done_refused hm hosts words m old new status why finished refused)
-      by (Refuses first is said job same) = inl (decided hm hosts words m status why (By_refusal first job is) refused)
-      by (Fails file is said last same) = inr (inr (file, last))
-      by (Breaks is said begun) = absurd (begun_apart hm hosts words m old new why begun refused)
-      by (Wants is begun) = inr (inl is)
+  honest_decided why refused = elim came [
+    | Done run finished ↦ absurd (done_apart hm hosts words m old new status why finished refused)
+    | Refuses first is said job same ↦ inl (decided hm hosts words m status why (By_refusal first job is) refused)
+    | Fails file is said last same ↦ inr (inr (file, last))
+    | Breaks is said begun ↦ absurd (begun_apart hm hosts words m old new why begun refused)
+    | Wants is begun ↦ inr (inl is)
+  ]
 
   pub honest_replayed : IsRunStatus status → Tells new.files.told (λ left. RunsAgain hm words m left old new status)
   honest_replayed run = λ left told. done_again hm hosts words m left old new status call.told told (honest_finished run)
 
   pub honest_kept : IsKept words old new
-  honest_kept = by came
-    where
-      if_any : BegunIfAny hm hosts words m old new → IsKept words old new
-      if_any (inl same) = inl same.files.told
-      if_any (inr begun) = part_of_it_kept hm hosts words m old new begun
-
-      by : Came hm hosts words m old new status Said call.events → IsKept words old new
-      by (Done run finished) = finished_kept hm hosts words m old new status finished
-      by (Refuses why is said job same) = inl same.files.told
-      by (Fails file is said last same) = inl same.files.told
-      by (Breaks is said begun) = part_of_it_kept hm hosts words m old new begun
-      by (Wants is begun) = if_any begun
+  honest_kept = elim came [
+    | Done run finished ↦ finished_kept hm hosts words m old new status finished
+    | Refuses why is said job same ↦ inl same.files.told
+    | Fails file is said last same ↦ inl same.files.told
+    | Breaks is said begun ↦ part_of_it_kept hm hosts words m old new begun
+    | Wants is (inl same) ↦ inl same.files.told
+    | Wants is (inr begun) ↦ part_of_it_kept hm hosts words m old new begun
+  ]

@@ -10,12 +10,15 @@ use Rattle.crun_cli.proofs.Common.{JournalLine, JournalTooLong, Reason, Refused,
 use Rattle.crun_cli.proofs.Common.{status_of, reason_of, stop_for, StopsTexts, units_so, IsMerged, IsTrimmedText, reason_for, WithHostsBy}
 use Rattle.crun_cli.proofs.Common.{journal_of, IsJobBy, IsReplayJob, symbols_of, BreaksJournal, IsReadLast, IsRunJobOver, PassesLine}
 use Rattle.crun_cli.proofs.Common.{PassesRun, PassesWords, ReadsMore, StopsFor, StopsQuietly, WritesJournal, WritesOfRun, WritesRun, IsText}
-use Rattle.crun_cli.proofs.Common.{journal_to_read, run_reads, HasRecorded, IsBlankFor, IsFilled, IsWritten, HasPart, GivesReplays}
-use Rattle.crun_cli.proofs.Common.{PutsJournal, PutsJournalPart, TriesReplay, WritesOfTexts, WritesOfTextsJob}
+use Rattle.crun_cli.proofs.Common.{journal_to_read, run_reads, HasRecorded, IsBlankFor, IsFilled, IsWritten, HasPart, GivesReplays, Passes}
+use Rattle.crun_cli.proofs.Common.{PutsJournal, PutsJournalPart, TriesReplay, WritesOfTexts, WritesOfTextsJob, none_passed, passed_so}
+use Rattle.crun_cli.proofs.Common.{ended_by, stopped_by}
+use Rattle.std.specs.Prelude.{Result}
 use Rattle.w2c_io.specs.Events.{Event}
 use Rattle.c_tree.specs.Tree as tree
 use Rattle.crun_words.specs.declared.inputs.InputStop.TheVariants as input
 use Rattle.crun_job.specs.declared.stop.Cause.TheVariants as cause
+use Rattle.crun_job.specs.declared.stop.Stop.{Stop}
 
 -- ---- the journal that is replayed
 
@@ -50,14 +53,13 @@ module _ {H : Type 0} (m : HostModule H) (hosts : List H) where
   journal_broken (Some name) (Some file) (Some filled) asks why written blank is (inr broken) =
       inr (subst (λ (j : Recorded). BreaksOff name (journal_text j) why written) is broken)
 
-  module _ (line : RunLine) (texts : List (List ℕ)) (text : List ℕ) (old new : Option (List ℕ)) (Ends : ℕ → Type 0)
-      (Stopped : Reason → Type 0) where
+  module _ (line : RunLine) (texts : List (List ℕ)) (text : List ℕ) (old new : Option (List ℕ)) (end : Result ℕ Stop) where
     abbrev Writes : List Event → Type 0
-    Writes written = WritesOfTexts m hosts line texts text old new Ends Stopped written
+    Writes written = WritesOfTexts m hosts line texts text old new (ended_by end) (stopped_by {A = ℕ} end) written
 
     -- the texts come to no task
-    pub texts_stopped : (why : Reason) → StopsTexts line (symbols_of (hosts_of m hosts)) texts text why → StopsQuietly old new Stopped why
-        → Writes []
+    pub texts_stopped : (why : Reason) → StopsTexts line (symbols_of (hosts_of m hosts)) texts text why
+        → StopsQuietly old new (stopped_by {A = ℕ} end) why → Writes []
     texts_stopped (Refused file cause) stop stopped = inr (Stops (Refused file cause), stop, (refl, stopped))
     texts_stopped (CallsLine number) stop stopped = inr (Stops (CallsLine number), stop, (refl, stopped))
     texts_stopped WantOfMemory stop stopped = inl (refl, stopped)
@@ -66,7 +68,8 @@ module _ {H : Type 0} (m : HostModule H) (hosts : List H) where
     -- the task was made for hosts that are these
     module _ (units : List (List tree.Item)) (calls : List SymbolCall) (steps : ℕ) (shown : Bool) (made : List H) (same : made ≡ hosts)
         (given : IsTextsJob line (symbols_of (hosts_of m made)) texts text (Run units calls steps shown)) where
-      of_task : (written : List Event) → WritesOfTextsJob m hosts line old new Ends Stopped (Run units calls steps shown) written
+      of_task : (written : List Event)
+          → WritesOfTextsJob m hosts line old new (ended_by end) (stopped_by {A = ℕ} end) (Run units calls steps shown) written
           → Writes written
       of_task written writes = inr (
         Run units calls steps shown,
@@ -75,33 +78,28 @@ module _ {H : Type 0} (m : HostModule H) (hosts : List H) where
       )
 
       -- a part of its lines is written
-      pub run_left : HasPart m hosts units calls steps shown old new → Stopped Unwritten ⊎ Stopped WantOfMemory → Writes []
-      run_left part stopped = of_task [] (inr (part, refl, stopped))
+      pub left_passed : (start : List Event) → HasPart m hosts units calls steps shown old new
+          → stopped_by {A = ℕ} end Unwritten ⊎ stopped_by {A = ℕ} end WantOfMemory → Passes start start Writes
+      left_passed start part stopped = none_passed start Writes (of_task [] (inr (part, refl, stopped)))
 
       module _ (status : ℕ) (file filled : Option JournalFile)
           (ran : HasRecorded m hosts units calls steps shown old new status file filled)
-          (begun : List H) (begun_same : begun ≡ hosts) (begun_blank : IsBlankFor m begun line.journal file) where
-        blank : IsBlankFor m hosts line.journal file
-        blank = subst (λ hs. IsBlankFor m hs line.journal file) begun_same begun_blank
+          (begun : List H) (begun_same : begun ≡ hosts) (begun_blank : IsBlankFor m begun line.journal file) (start behind : List Event)
+        where
+          blank : IsBlankFor m hosts line.journal file
+          blank = subst (λ hs. IsBlankFor m hs line.journal file) begun_same begun_blank
 
-        pub run_written : (before after : Told) (written : List Event) → AreDistinct (hosts_of m hosts)
-            → IsWritten line.journal filled before after → PutsJournal line.journal filled written → Ends status → Writes written
-        run_written before after written distinct holds puts ends = of_task written (inl (record {
-          status = status;
-          run = ran.run;
-          ends = inl (
-            journal_whole line.journal file filled ran.run.asks before after written distinct blank ran.filled_is holds puts,
-            ends,
-          );
-        }))
+          pub written_passed : (old' new' : Told) → AreDistinct (hosts_of m hosts) → IsWritten line.journal filled old' new'
+              → ended_by end status → Passes start behind (PutsJournal line.journal filled) → Passes start behind Writes
+          written_passed old' new' distinct holds ends = passed_so start behind (PutsJournal line.journal filled) Writes (λ written puts.
+              let whole = journal_whole line.journal file filled ran.run.asks old' new' written distinct blank ran.filled_is holds puts in
+              of_task written (inl (record { status = status; run = ran.run; ends = inl (whole, ends) })))
 
-        pub run_broken : (why : WriteAnswer) (written : List Event) → PutsJournalPart line.journal filled why written
-            → Stopped (reason_for why) → Writes written
-        run_broken why written part stopped = of_task written (inl (record {
-          status = status;
-          run = ran.run;
-          ends = inr (why, journal_broken line.journal file filled ran.run.asks why written blank ran.filled_is part, stopped);
-        }))
+          pub broken_passed : (why : WriteAnswer) → stopped_by {A = ℕ} end (reason_for why)
+              → Passes start behind (PutsJournalPart line.journal filled why) → Passes start behind Writes
+          broken_passed why stopped = passed_so start behind (PutsJournalPart line.journal filled why) Writes (λ written part.
+              let broken = journal_broken line.journal file filled ran.run.asks why written blank ran.filled_is part in
+              of_task written (inl (record { status = status; run = ran.run; ends = inr (why, broken, stopped) })))
 
 -- ---- a run
 
@@ -114,13 +112,13 @@ no_more (Some name) _ = refl
 
 module _ {H : Type 0} (m : HostModule H) (hosts : List H) (line : RunLine) (old new : Option (List ℕ)) (Ends : ℕ → Type 0)
     (Stopped : Reason → Type 0) where
-  abbrev Passes : List Event → Type 0
-  Passes events = PassesRun m hosts line old new Ends Stopped events
+  abbrev Passed : List Event → Type 0
+  Passed events = PassesRun m hosts line old new Ends Stopped events
 
   -- a file is not there, or too long
   refused_input : (reading : Reading) (why : Reason) (events : List Event) → GivesInputs line.units line.calls reading events
       → IsJobBy line (hosts_of m hosts) (λ name r. GivesJournal name r []) reading (Stops why) → StopsQuietly old new Stopped why
-      → Passes events
+      → Passed events
   refused_input reading why events gave job stopped = record {
     given = events;
     written = [];
@@ -131,7 +129,7 @@ module _ {H : Type 0} (m : HostModule H) (hosts : List H) (line : RunLine) (old 
 
   -- the units and the calls file are not all read
   pub inputs_stopped : (stop : InputStop) (events : List Event) → TriesInputs line.units line.calls stop events
-      → StopsQuietly old new Stopped (reason_of (stop_for stop)) → Passes events
+      → StopsQuietly old new Stopped (reason_of (stop_for stop)) → Passed events
   inputs_stopped (input.Unread name) events gave stopped =
       refused_input (NotThere (string_bytes name)) (Unread (string_bytes name)) events gave refl stopped
   inputs_stopped (input.UnitTooLong name) events gave stopped =
@@ -153,29 +151,26 @@ module _ {H : Type 0} (m : HostModule H) (hosts : List H) (line : RunLine) (old 
       (gave : GivesInputs line.units line.calls (AllRead texts text) first) where
     -- the hosts that were handed in
     pub handed_passed : line.replayed ≡ None → (last : List Event) → WritesOfTexts m hosts line texts text old new Ends Stopped last
-        → Passes (first ++ last)
+        → Passed (first ++ last)
     handed_passed none last writes = record {
       given = first;
       written = last;
       split = refl;
       reads = inputs_in_order line.units line.calls (AllRead texts text) (journal_to_read line.replayed) first gave;
-      follows = go writes;
+      follows = elim writes [
+        | inl wanting ↦ inl wanting
+        | inr (job, is, of) ↦ inr (
+          job,
+          (AllRead texts text, first, [], sym (append-nil first), gave, no_more line.replayed (AllRead texts text), rw none is),
+          behind job of,
+        )
+      ];
     }
       where
         behind : (job : Job) → WritesOfTextsJob m hosts line old new Ends Stopped job last
             → WritesOfRun m hosts line old new Ends Stopped first job last
         behind (Run units calls steps shown) of = rw none of
         behind _ of = of
-
-        go : WritesOfTexts m hosts line texts text old new Ends Stopped last
-            → ((last ≡ []) × StopsQuietly old new Stopped WantOfMemory)
-            ⊎ ((job : Job) × IsRunJobOver line (hosts_of m hosts) first job × WritesOfRun m hosts line old new Ends Stopped first job last)
-        go (inl wanting) = inl wanting
-        go (inr (job, is, of)) = inr (
-          job,
-          (AllRead texts text, first, [], sym (append-nil first), gave, no_more line.replayed (AllRead texts text), rw none is),
-          behind job of,
-        )
 
     -- the journal is read behind them
     module _ (name : Name) (named : line.replayed ≡ Some name) (middle : List Event) where
@@ -198,7 +193,7 @@ module _ {H : Type 0} (m : HostModule H) (hosts : List H) (line : RunLine) (old 
       )
 
       refused : (reading : JournalReading) (why : Reason) → GivesJournal name reading middle
-          → IsReplayJob line name texts text reading (Stops why) → StopsQuietly old new Stopped why → Passes (first ++ middle)
+          → IsReplayJob line name texts text reading (Stops why) → StopsQuietly old new Stopped why → Passed (first ++ middle)
       refused reading why gives of stopped = record {
         given = first ++ middle;
         written = [];
@@ -208,7 +203,7 @@ module _ {H : Type 0} (m : HostModule H) (hosts : List H) (line : RunLine) (old 
       }
 
       -- it is not read, or refused
-      pub replay_stopped : (why : Reason) → TriesReplay name why middle → StopsQuietly old new Stopped why → Passes (first ++ middle)
+      pub replay_stopped : (why : Reason) → TriesReplay name why middle → StopsQuietly old new Stopped why → Passed (first ++ middle)
       replay_stopped (Unread file) (file_is, gives) stopped =
           refused NoJournal (Unread file) gives (ap (λ f. Stops (Unread f)) file_is) stopped
       replay_stopped JournalTooLong gives stopped = refused LongJournal JournalTooLong gives refl stopped
@@ -225,13 +220,18 @@ module _ {H : Type 0} (m : HostModule H) (hosts : List H) (line : RunLine) (old 
 
       -- hosts that reply again what it says
       pub replayed_passed : (replays : List ReplayHost) → GivesReplays name replays middle → (last : List Event)
-          → WritesOfTexts replaying replays line texts text old new Ends Stopped last → Passes ((first ++ middle) ++ last)
+          → WritesOfTexts replaying replays line texts text old new Ends Stopped last → Passed ((first ++ middle) ++ last)
       replayed_passed replays (j, (journal, gives, is_journal), are) last writes = record {
         given = first ++ middle;
         written = last;
         split = refl;
         reads = in_order (journal_read name (Held journal) middle gives);
-        follows = go writes;
+        follows = elim writes [
+          | inl wanting ↦ inl wanting
+          | inr (job, is, of) ↦
+              let here = subst (λ hs. IsTextsJob line (symbols_of hs) texts text job) (hosts_same j replays are) is in
+              inr (job, asked (Held journal) job gives (inl (j, is_journal, here)), behind job of)
+        ];
       }
         where
           behind : (job : Job) → WritesOfTextsJob replaying replays line old new Ends Stopped job last
@@ -241,18 +241,6 @@ module _ {H : Type 0} (m : HostModule H) (hosts : List H) (line : RunLine) (old 
               (λ G n gs. WritesRun n gs line.journal units calls steps shown old new Ends Stopped last)) (sym named)
               (j, replays, (journal, (first, middle, refl, gives), is_journal), are, of)
           behind _ of = of
-
-          go : WritesOfTexts replaying replays line texts text old new Ends Stopped last
-              → ((last ≡ []) × StopsQuietly old new Stopped WantOfMemory)
-              ⊎ ((job : Job) × IsRunJobOver line (hosts_of m hosts) (first ++ middle) job
-              × WritesOfRun m hosts line old new Ends Stopped (first ++ middle) job last)
-          go (inl wanting) = inl wanting
-          go (inr (job, is, of)) = inr (
-            job,
-            asked (Held journal) job gives
-                (inl (j, is_journal, subst (λ hs. IsTextsJob line (symbols_of hs) texts text job) (hosts_same j replays are) is)),
-            behind job of,
-          )
 
 -- the units and the calls file gave their texts, and the journal its hosts
 abbrev pub ReadsBoth : RunLine → List (List ℕ) → List ℕ → Name → List ReplayHost → List Event → Type 0
@@ -268,6 +256,13 @@ replayed_both m hosts line old new Ends Stopped texts text name named replays gi
     rw is (replayed_passed m hosts line old new Ends Stopped texts text first gave name named middle replays replay last writes)
 
 -- ---- what words ask for
+
+-- this holds of the hosts that a run is with, and so does that
+pub with_so : {H : Type 0} (m : HostModule H) (hosts : List H) (replayed : Option Name) (Reads : Name → JournalReading → Type 0)
+    (P Q : (G : Type 0) → HostModule G → List G → Type 0) → ((G : Type 0) (n : HostModule G) (gs : List G) → P G n gs → Q G n gs)
+    → WithHostsBy m hosts replayed Reads P → WithHostsBy m hosts replayed Reads Q
+with_so m hosts None Reads P Q so of = so _ m hosts of
+with_so m hosts (Some name) Reads P Q so (j, replays, journal, are, of) = (j, replays, journal, are, so _ _ replays of)
 
 -- it is enough that a call ends as is asked, and stops as is asked
 module _ {H : Type 0} (m : HostModule H) (hosts : List H) (old new : Option (List ℕ)) (Ends Ends' : ℕ → Type 0)
@@ -289,16 +284,10 @@ module _ {H : Type 0} (m : HostModule H) (hosts : List H) (old new : Option (Lis
   run_so n gs journal units calls steps shown written (inr (part, nothing, inr stopped)) =
       inr (part, nothing, inr (stops WantOfMemory stopped))
 
-  with_so : (replayed : Option Name) (Reads : Name → JournalReading → Type 0) (P Q : (G : Type 0) → HostModule G → List G → Type 0)
-      → ((G : Type 0) (n : HostModule G) (gs : List G) → P G n gs → Q G n gs) → WithHostsBy m hosts replayed Reads P
-      → WithHostsBy m hosts replayed Reads Q
-  with_so None Reads P Q so of = so _ m hosts of
-  with_so (Some name) Reads P Q so (j, replays, journal, are, of) = (j, replays, journal, are, so _ _ replays of)
-
   of_run_so : (line : RunLine) (given : List Event) (job : Job) (written : List Event)
       → WritesOfRun m hosts line old new Ends Stopped given job written → WritesOfRun m hosts line old new Ends' Stopped' given job written
   of_run_so line given (Stops why) written (nothing, (quiet, stopped)) = (nothing, (quiet, stops why stopped))
-  of_run_so line given (Run units calls steps shown) written of = with_so line.replayed (IsReadLast given)
+  of_run_so line given (Run units calls steps shown) written of = with_so m hosts line.replayed (IsReadLast given)
       (λ G n gs. WritesRun n gs line.journal units calls steps shown old new Ends Stopped written)
       (λ G n gs. WritesRun n gs line.journal units calls steps shown old new Ends' Stopped' written)
       (λ G n gs. run_so n gs line.journal units calls steps shown written) of
@@ -307,9 +296,8 @@ module _ {H : Type 0} (m : HostModule H) (hosts : List H) (old new : Option (Lis
   pub line_so : (line : Line) (events : List Event) → PassesLine m hosts line old new Ends Stopped events
       → PassesLine m hosts line old new Ends' Stopped' events
   line_so (runs line) events p = by_so (run_reads line) (IsRunJobOver line (hosts_of m hosts))
-      (WritesOfRun m hosts line old new Ends Stopped) (WritesOfRun m hosts line old new Ends' Stopped')
-      (StopsQuietly old new Stopped) (StopsQuietly old new Stopped') (of_run_so line)
-      (λ w. (w.0, stops WantOfMemory w.1)) events p
+      (WritesOfRun m hosts line old new Ends Stopped) (WritesOfRun m hosts line old new Ends' Stopped') (StopsQuietly old new Stopped)
+      (StopsQuietly old new Stopped') (of_run_so line) (λ w. (w.0, stops WantOfMemory w.1)) events p
   line_so (merges line) events (same, p) =
       (same, units_so Ends Ends' Stopped Stopped' ends stops line.units (IsMerged line (symbols_of (hosts_of m hosts))) events p)
   line_so (trims line) events (same, p) =

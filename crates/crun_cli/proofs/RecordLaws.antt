@@ -1,10 +1,10 @@
 -- A run whose journal is written: from what its steps say to what the line asks for.
-use Rattle.crun_cli.proofs.Common.{◌≡◌, ℕ, Bool, ◌⊎◌, List, Some, None, Option, refl, subst, inl, inr, Name, Told}
-use Rattle.crun_cli.proofs.Common.{holding, IsBegun, SymbolCall, Ended, OutOfSteps, Stopped, Trapped, Undefined, hosts_of, HostModule}
-use Rattle.crun_cli.proofs.Common.{Asked, recorded, Recorded, journal_text, AreDistinct, JournalFile, RunLine, IsTextsJob, Run, CallsLine}
-use Rattle.crun_cli.proofs.Common.{Reason, Refused, WantOfMemory, StopsTexts, HasPlayed, HasPlayedPart, IsJournaled, IsRunStatus}
-use Rattle.crun_cli.proofs.Common.{journal_of, symbols_of, IsUntouched, Outside, HasRecorded, IsBlank, IsBlankFor, IsFilled, IsNamed}
-use Rattle.crun_cli.proofs.Common.{IsText, IsWritten, IsWrittenPart, HasPart, HasRun, HasStatus, IsTextsPart, IsTextsRun, StopsRun}
+use Rattle.crun_cli.proofs.Common.{◌≡◌, ℕ, Bool, ◌⊎◌, List, Some, None, Option, refl, subst, inl, inr, Name, Told, holding, IsBegun, Ended}
+use Rattle.crun_cli.proofs.Common.{SymbolCall, OutOfSteps, Stopped, Trapped, Undefined, hosts_of, HostModule, Asked, recorded, Recorded}
+use Rattle.crun_cli.proofs.Common.{journal_text, AreDistinct, JournalFile, RunLine, IsTextsJob, Run, CallsLine, Reason, Refused, StopsTexts}
+use Rattle.crun_cli.proofs.Common.{WantOfMemory, HasPlayed, HasPlayedPart, IsJournaled, IsRunStatus, journal_of, symbols_of, IsUntouched}
+use Rattle.crun_cli.proofs.Common.{Outside, HasRecorded, IsBlank, IsBlankFor, IsFilled, IsNamed, IsText, IsWritten, IsWrittenPart, HasPart}
+use Rattle.crun_cli.proofs.Common.{HasRun, HasStatus, IsTextsPart, IsTextsRun, StopsRun}
 use Rattle.c_tree.specs.Tree as tree
 use Rattle.c_meaning.specs.Run.{Outcome}
 
@@ -17,9 +17,9 @@ status_of_run (Stopped (Trapped kind)) status is = inr (inl is)
 status_of_run (Stopped (Undefined kind place)) status is = inr (inr (inr is))
 status_of_run _ status is = absurd is
 
-pub ran_status : {H : Type 0} (m : HostModule H) (hosts : List H) (units : List (List tree.Item)) (calls : List SymbolCall) (steps : ℕ)
-    (shown : Bool) (old new : Option (List ℕ)) (status : ℕ) → HasRun m hosts units calls steps shown old new status → IsRunStatus status
-ran_status m hosts units calls steps shown old new status ran = status_of_run _ status ran.has_status
+pub ran_status : {H : Type 0} {m : HostModule H} {hosts : List H} {units : List (List tree.Item)} {calls : List SymbolCall} {steps : ℕ}
+    {shown : Bool} {old new : Option (List ℕ)} {status : ℕ} → HasRun m hosts units calls steps shown old new status → IsRunStatus status
+ran_status {status} ran = status_of_run _ status ran.has_status
 
 -- ---- the file of the journal, by the name that the line gives for it
 
@@ -45,21 +45,14 @@ module _ {H : Type 0} (m : HostModule H) (hosts : List H) where
       let both = subst (λ (j : Recorded). (new ≡ holding old name (journal_text j)) × IsText j) is written in
       (both.0, both.1 distinct)
 
-  pub record IsPart (name : Option Name) (asks : List Asked) (old new : Told) : Type 0 where
-    pub file : Name
-    pub named : name ≡ Some file
-    pub begun : IsBegun old new file (journal_text (journal_of m hosts asks))
-
   is_part : (name : Option Name) (file filled : Option JournalFile) (asks : List Asked) (old new : Told)
-      → IsFilled m hosts asks file filled → IsBlankFor m hosts name file → IsWrittenPart name filled old new → IsPart name asks old new
+      → IsFilled m hosts asks file filled → IsBlankFor m hosts name file → IsWrittenPart name filled old new
+      → (written : Name) × (name ≡ Some written) × IsBegun old new written (journal_text (journal_of m hosts asks))
   is_part None file filled asks old new is blank part = absurd part
   is_part (Some name) None filled asks old new is blank part = absurd blank
   is_part (Some name) (Some file) None asks old new is blank part = absurd is
-  is_part (Some name) (Some file) (Some filled) asks old new is blank part = record {
-    file = name;
-    named = refl;
-    begun = subst (λ (j : Recorded). IsBegun old new name (journal_text j)) is part;
-  }
+  is_part (Some name) (Some file) (Some filled) asks old new is blank part =
+      (name, refl, subst (λ (j : Recorded). IsBegun old new name (journal_text j)) is part)
 
 -- no file changes but the one that is named
 pub kept_part : (name : Option Name) (file : Option JournalFile) (old new : Told) → IsWrittenPart name file old new
@@ -114,15 +107,11 @@ module _ {H : Type 0} (m : HostModule H) (hosts : List H) (line : RunLine) (text
 
       pub journal_part : IsWrittenPart line.journal filled old.files.told new.files.told → IsTextsPart m hosts line texts text old new
       journal_part part =
-          let p = is_part m hosts line.journal file filled recorded_run.run.asks old.files.told new.files.told recorded_run.filled_is blank
-          part in
-          texts_run (λ us cs. HasPlayedPart m hosts line us cs old new) (inr (record {
-            status = status;
-            run = recorded_run.run;
-            name = p.file;
-            named = p.named;
-            begun = p.begun;
-          }))
+          let run = recorded_run.run in
+          let (name, named, begun) = is_part m hosts line.journal file filled run.asks old.files.told new.files.told recorded_run.filled_is
+          blank part in
+          texts_run (λ us cs. HasPlayedPart m hosts line us cs old new)
+          (inr (record { status = status; run = run; name = name; named = named; begun = begun }))
 
   -- the texts come to no task
   pub texts_stop : IsUntouched old new → (why : Reason) (made : List H) → made ≡ hosts

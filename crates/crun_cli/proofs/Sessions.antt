@@ -51,8 +51,7 @@ module _ {H : Type 0} (m : HostModule H) (s : State H) (calls : List SymbolCall)
   longer more later =
       let start : List Entry → Progress = begin_entry p (fresh p (replies_in s.journal ++ later)) (Init 0) in
       let count : s.steps ≡ (s.steps - s.left) + s.left = omega (arith, stands.fewer) in
-      ap run_of
-      (ap (λ es. after p s.steps (start es)) (entries_longer p calls more)
+      ap run_of (ap (λ es. after p s.steps (start es)) (entries_longer p calls more)
       ∙ ap (λ n. after p n (start (entries_of p calls ++ entries_behind p (length calls) more))) count
       ∙ after_sum p (s.steps - s.left) s.left (start (entries_of p calls ++ entries_behind p (length calls) more))
       ∙ ap (after p s.left) (stands.behind.reaches later (entries_behind p (length calls) more)))

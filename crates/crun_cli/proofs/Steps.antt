@@ -2,23 +2,12 @@
 use Rattle.crun_cli.proofs.Common.{◌≡◌, ℕ, List, [], ◌∷◌, ◌++◌, map, length, drop, IfSome, Some, None, Option, sym, ap, ◌∙◌, Ask, Call}
 use Rattle.crun_cli.proofs.Common.{Event, Init, asks_in, extended, SaysPart, SymbolCall, c_run, hosts_of, ask_of, events_in, replies_in}
 use Rattle.crun_cli.proofs.Common.{Asks, HostModule, Asked, IsLast, IsOutcome, Stands, State, objects_of, program_of, standing_of, told_by}
-use Rattle.crun_cli.proofs.Common.{Outcome, lines_behind, status_of_outcome}
+use Rattle.crun_cli.proofs.Common.{Outcome, lines_behind, status_of_outcome, event_lines, last_line, subst}
 use Rattle.crun.specs.declared.outcome.Standing.TheVariants as standing
 use Rattle.crun_cli.specs.Playing.{HasPlayed, IsBehind, IsLeft, IsSince, IsStored}
-use Rattle.crun_cli.proofs.Behind.{
-  call_behind,
-  call_left,
-  call_played,
-  call_wanting,
-  inits_behind,
-  inits_left,
-  inits_played,
-  inits_wanting,
-  is_ended,
-  since_next,
-  since_start,
-  IsEnded,
-}
+use Rattle.crun_cli.proofs.Behind.{call_behind, call_left, call_played, call_wanting, goes_on, inits_are, inits_wanting, is_ended, is_left}
+use Rattle.crun_cli.proofs.Behind.{since_next, since_start, stops, IsEnded}
+use Rattle.crun_cli.proofs.Lines.{asks_are_asked, came_out}
 
 pub ready_of_end : (o : Outcome) → IsEnded o → standing_of o ≡ standing.Ready
 ready_of_end o (value, is) = ap standing_of is
@@ -108,20 +97,21 @@ module _ {H : Type 0} (m : HostModule H) (e s : State H) (none : e.journal ≡ [
     stand_inits : IsEnded o → Stands m s [] (events_in s.journal)
     stand_inits is = stands (standing_is ∙ ready_of_end o is)
 
-    abbrev inits_text : ℕ → List ℕ
-    inits_text n = lines_behind (hosts_of m s.hosts) (drop 0 s.journal) (Init n) o
+    abbrev inits_text : List ℕ
+    inits_text = lines_behind (hosts_of m s.hosts) (drop 0 s.journal) (Init j) o
 
-    pub inits_go_on : status_of_outcome o ≡ None → new ≡ extended old (lines_behind (hosts_of m s.hosts) (drop 0 s.journal) (Init j) o)
-        → IsBehind m e s [] old new
-    inits_go_on none printed = inits_behind m e s since_inits old new o k ran none stored (stand_inits (is_ended o none))
-        (printed ∙ ap (λ n. extended old (inits_text n)) number)
+    texts_are : inits_text ≡ event_lines (hosts_of m e.hosts) 0 (events_in s.journal) ++ last_line (Init k) (came_out o)
+    texts_are = ap (λ n. lines_behind (hosts_of m s.hosts) (drop 0 s.journal) (Init n) o) number ∙ inits_are m e s o k since_inits
 
-    pub inits_stop : (status : ℕ) → status_of_outcome o ≡ Some status
-        → new ≡ extended old (lines_behind (hosts_of m s.hosts) (drop 0 s.journal) (Init j) o)
+    pub inits_go_on : status_of_outcome o ≡ None → new ≡ extended old inits_text → IsBehind m e s [] old new
+    inits_go_on none printed = goes_on m e s since_inits old new o (Init k) (events_in s.journal) [] (asks_are_asked s.journal) ran
+        none stored (stand_inits (is_ended o none)) (printed ∙ ap (extended old) texts_are)
+
+    pub inits_stop : (status : ℕ) → status_of_outcome o ≡ Some status → new ≡ extended old inits_text
         → (calls : List SymbolCall) → HasPlayed m e s calls old new status
-    inits_stop status some printed calls = inits_played m e s since_inits old new o k ran status some stored
-        (printed ∙ ap (λ n. extended old (inits_text n)) number) calls
+    inits_stop status some printed calls = stops m e s since_inits old new o (Init k) (events_in s.journal) []
+        (asks_are_asked s.journal) ran status some stored (printed ∙ ap (extended old) texts_are) calls
 
-    pub inits_are_left : SaysPart old new (lines_behind (hosts_of m s.hosts) (drop 0 s.journal) (Init j) o)
-        → (calls : List SymbolCall) → IsLeft m e s calls old new
-    inits_are_left part calls = inits_left m e s since_inits old new o k ran stand_inits (rw number at part) calls
+    pub inits_are_left : SaysPart old new inits_text → (calls : List SymbolCall) → IsLeft m e s calls old new
+    inits_are_left part calls = is_left m e s since_inits old new o (Init k) (events_in s.journal) [] (asks_are_asked s.journal) ran
+        stand_inits (subst (SaysPart old new) texts_are part) calls

@@ -1,14 +1,14 @@
 -- What the top call says, from why its work stopped or what it came to.
-use Rattle.crun_cli.proofs.Common.{◌≡◌, ℕ, ◌≤◌, ◌⊎◌, List, Some, None, Option, MatchOption, sym, refl, ◌∙◌, subst, inl, inr, arith, Faulted}
+use Rattle.crun_cli.proofs.Common.{◌≡◌, ℕ, ◌≤◌, ◌⊎◌, List, Some, None, Option, MatchOption, sym, refl, ap, ◌∙◌, subst, inl, inr, arith}
 use Rattle.crun_cli.proofs.Common.{Rose, Contents, Name, Tells, SymbolCall, hosts_of, HostModule, RunLine, line_of, runs, AllRead, Held}
 use Rattle.crun_cli.proofs.Common.{IsJournalReading, JournalReading, IsTextsJob, Job, Run, Stops, Write, Reason, Refused, Unread, Unwritten}
 use Rattle.crun_cli.proofs.Common.{Usage, WantOfMemory, status_of, RunsAgain, Begun, BegunIfAny, By_refusal, By_run, By_unit, Finished}
-use Rattle.crun_cli.proofs.Common.{HasAnswer, HasPlayed, IsAnswered, IsJobWith, IsRunStatus, IsUnread, IsUnwritten, Refuses, WithHosts}
-use Rattle.crun_cli.proofs.Common.{HasReading, IsToRead, IsUnitFile, IsLineJob, IsReplayJob, IsRunJob, symbols_of, IsUntouched, Outside}
-use Rattle.crun_cli.proofs.Common.{StopsWork}
+use Rattle.crun_cli.proofs.Common.{HasAnswer, HasPlayed, IsAnswered, IsJobWith, IsRunStatus, IsUnread, IsUnwritten, Refuses, StopsWork}
+use Rattle.crun_cli.proofs.Common.{IsToRead, IsUnitFile, IsLineJob, IsReplayJob, IsRunJob, symbols_of, IsUntouched, Outside}
 use Rattle.c_tree.specs.Tree as tree
 use Rattle.crun_cli.proofs.AgainLaws.{runs_again}
 use Rattle.crun_cli.proofs.OneJob.{one_job}
+use Rattle.crun_cli.proofs.Passing.{with_so}
 
 abbrev IsStatus : ℕ → Reason → Type 0
 IsStatus status why = (status ≡ status_of why) ⊎ (status ≡ 5)
@@ -48,11 +48,9 @@ of_status_4 Unwritten is = refl
 of_status_4 _ is = absurd (omega (arith, is))
 
 -- a line of the run form asks for no unit
-pub written_by_no_run : {H : Type 0} (hm : HostModule H) (hosts : List H)
-    (words : List Name) (m : Contents) (line : RunLine) (output : Name)
-    (unit : List tree.Item) → line_of words ≡ Some (runs line) → IsJobWith hm hosts words m (Write output unit) → ⊥
-written_by_no_run hm hosts words m line output unit is job =
-    of_line (rw is at job)
+pub written_by_no_run : {H : Type 0} (hm : HostModule H) (hosts : List H) (words : List Name) (m : Contents) (line : RunLine)
+    (output : Name) (unit : List tree.Item) → line_of words ≡ Some (runs line) → IsJobWith hm hosts words m (Write output unit) → ⊥
+written_by_no_run hm hosts words m line output unit is job = of_line (rw is at job)
   where
     of_texts : (texts : List (List ℕ)) (text : List ℕ) (o : Option Name)
         → MatchOption o (IsTextsJob line (symbols_of (hosts_of hm hosts)) texts text (Write output unit))
@@ -87,51 +85,36 @@ module _ {H : Type 0} (hm : HostModule H) (hosts : List H) (words : List Name) w
   no_unit m output unit why job refused =
       (let apart : Write output unit ≡ Stops why = same_job m (Write output unit) (Stops why) job refused in cc)
 
-  -- ---- the work is done
+  -- the job of words without a reading
+  pub usage_job : (m : Contents) → line_of words ≡ None → Asks m (Stops Usage)
+  usage_job m none =
+      subst (λ o. MatchOption o (Stops Usage ≡ Stops Usage) (λ l. IsLineJob (hosts_of hm hosts) m l (Stops Usage))) (sym none) refl
 
-  answer_of : (m : Contents) (old new : Outside) (status : ℕ) (r : Option Name) (P Q : (K : Type 0) → HostModule K → List K → Type 0)
-      → ((K : Type 0) (k : HostModule K) (ks : List K) → P K k ks → Q K k ks) → WithHosts hm hosts r m P → WithHosts hm hosts r m Q
-  answer_of m old new status None P Q go with = go _ hm hosts with
-  answer_of m old new status (Some name) P Q go (j, replays, holds, are, of) = (j, replays, holds, are, go _ _ replays of)
+  -- ---- the work is done
 
   pub done_complete : (m : Contents) (old new : Outside) (status : ℕ) → Finished hm hosts words m old new status
       → (status ≡ 5) ⊎ Answered m status
-  done_complete m old new status (inl (line, units, calls, is, job, with)) = inr (By_run (
-    line,
-    units,
-    calls,
-    is,
-    job,
-    answer_of m old new status line.replayed (λ K k ks. HasPlayed k ks line units calls old new status)
-        (λ K k ks. HasAnswer K k ks line units calls status)
-        (λ K k ks played. (
-          played.run.asks,
-          played.run.after,
-          played.run.answered,
-          played.run.told,
-          played.run.has_status,
-        )) with,
-  ))
+  done_complete m old new status (inl (line, units, calls, is, job, with)) =
+      let answers = with_so hm hosts line.replayed (IsJournalReading m) (λ K k ks. HasPlayed k ks line units calls old new status)
+      (λ K k ks. HasAnswer K k ks line units calls status)
+      (λ K k ks played. (played.run.asks, played.run.after, played.run.answered, played.run.told, played.run.has_status)) with in
+      inr (By_run (line, units, calls, is, job, answers))
   done_complete m old new status (inr (zero, wrote)) = inr (By_unit wrote.output wrote.unit wrote.job zero)
-
-  pub done_refused : (m : Contents) (old new : Outside) (status : ℕ) (why : Reason) → Finished hm hosts words m old new status
-      → Asks m (Stops why) → (status ≡ status_of why) ⊎ (status ≡ 5)
-  done_refused m old new status why (inl (line, units, calls, is, job, with)) refused = absurd
-      (no_run m units calls line.steps line.shows_state why job refused)
-  done_refused m old new status why (inr (zero, wrote)) refused = absurd (no_unit m wrote.output wrote.unit why wrote.job refused)
 
   -- a run whose journal was written is replayed
   pub done_again : (m left : Contents) (old new : Outside) (status : ℕ) → old.files.told ≡ Some m → new.files.told ≡ Some left
       → Finished hm hosts words m old new status → RunsAgain hm words m left old new status
   done_again m left old new status told told' (inl ran) = runs_again hm hosts words m left old new status told told' ran
   done_again m left old new status told told' (inr (zero, wrote)) = λ line again words' m' hosts' text is is' same r.
-      absurd (no_line m line wrote.output wrote.unit is wrote.job)
-    where
-      no_line : (m : Contents) (line : RunLine) (output : Name) (unit : List tree.Item) → line_of words ≡ Some (runs line)
-          → Asks m (Write output unit) → ⊥
-      no_line m line output unit is job = written_by_no_run hm hosts words m line output unit is job
+      absurd (written_by_no_run hm hosts words m line wrote.output wrote.unit is wrote.job)
 
-  -- what is begun is no job that is refused
+  -- what is done or begun is no job that is refused
+  pub done_apart : (m : Contents) (old new : Outside) (status : ℕ) (why : Reason) → Finished hm hosts words m old new status
+      → Asks m (Stops why) → ⊥
+  done_apart m old new status why (inl (line, units, calls, is, job, with)) refused =
+      no_run m units calls line.steps line.shows_state why job refused
+  done_apart m old new status why (inr (zero, wrote)) refused = no_unit m wrote.output wrote.unit why wrote.job refused
+
   pub begun_apart : (m : Contents) (old new : Outside) (why : Reason) → Begun hm hosts words m old new → Asks m (Stops why) → ⊥
   begun_apart m old new why (inl (line, units, calls, is, job, with)) refused =
       no_run m units calls line.steps line.shows_state why job refused
@@ -140,11 +123,9 @@ module _ {H : Type 0} (hm : HostModule H) (hosts : List H) (words : List Name) w
   -- a job that is refused decides, whatever answers
   pub decided : (m : Contents) (status : ℕ) (why : Reason) → Answered m status → Asks m (Stops why) → status ≡ status_of why
   decided m status why (By_refusal first job is) refused =
-      subst (λ j. IsOfStop j) (same_job m (Stops first) (Stops why) job refused) is
-    where
-      IsOfStop : Job → Type 0
-      IsOfStop (Stops w) = status ≡ status_of w
-      IsOfStop _ = ⊥
+      let both : Stops first ≡ Stops why = same_job m (Stops first) (Stops why) job refused in
+      let same : first ≡ why = cc in
+      is ∙ ap status_of same
   decided m status why (By_unit output unit job is) refused = absurd (no_unit m output unit why job refused)
   decided m status why (By_run (line, units, calls, is, job, with)) refused = absurd
       (no_run m units calls line.steps line.shows_state why job refused)
@@ -155,26 +136,14 @@ module _ {H : Type 0} (hm : HostModule H) (hosts : List H) (words : List Name) w
     abbrev Stopped : Reason → Type 0
     Stopped why = StopsWork hm hosts words old new why
 
-    usage_job : (m : Contents) → line_of words ≡ None → Asks m (Stops Usage)
-    usage_job m none =
-        subst (λ o. MatchOption o (Stops Usage ≡ Stops Usage) (λ l. IsLineJob (hosts_of hm hosts) m l (Stops Usage))) (sym none) refl
-
-    answered : (m : Contents) (why : Reason) (status : ℕ) → IsStatus status why → Asks m (Stops why) → (status ≡ 5) ⊎ Answered m status
-    answered m why status (inl is) job = inr (By_refusal why job is)
-    answered m why status (inr five) job = inl five
-
-    unread_answer : (m : Contents) (file : Name) (status : ℕ) → IsUnread hm hosts words old new file
-        → IsStatus status (Unread file) → old.files.told ≡ Some m → (Rose old.files.read_faults new.files.read_faults → ⊥)
-        → (status ≡ 5) ⊎ Answered m status
-    unread_answer m file status unread is tells read = go unread.cause
-      where
-        go : Faulted file old.files.read_faults new.files.read_faults new.files.fault_name
-            ⊎ ((contents : Contents) × (old.files.told ≡ Some contents) × Asks contents (Stops (Unread file)))
-            → (status ≡ 5) ⊎ Answered m status
-        go (inl faulted) = absurd (read faulted.rose)
-        go (inr (contents, is_told, job)) =
-            let same : contents ≡ m = (let both = sym is_told ∙ tells in cc) in
-            answered m (Unread file) status is (subst (λ c. Asks c (Stops (Unread file))) same job)
+    unread_answer : (m : Contents) (file : Name) (status : ℕ) → IsUnread hm hosts words old new file → status ≡ 3
+        → old.files.told ≡ Some m → (Rose old.files.read_faults new.files.read_faults → ⊥) → Answered m status
+    unread_answer m file status unread is tells read = elim unread.cause [
+      | inl faulted ↦ absurd (read faulted.rose)
+      | inr (contents, is_told, job) ↦
+          let same : contents ≡ m = (let both = sym is_told ∙ tells in cc) in
+          By_refusal (Unread file) (subst (λ c. Asks c (Stops (Unread file))) same job) is
+    ]
 
     unwritten_apart : (Rose old.files.write_faults new.files.write_faults → ⊥) → (Rose old.out.faults new.out.faults → ⊥)
         → IsUnwritten words old new → ⊥
@@ -189,146 +158,94 @@ module _ {H : Type 0} (hm : HostModule H) (hosts : List H) (words : List Name) w
     refused_job WantOfMemory refuses = absurd refuses
     refused_job _ refuses = refuses.1
 
-    usage_alone : (why : Reason) → Refuses hm hosts words old.files.told why → line_of words ≡ None → status_of why ≡ 2
-    usage_alone (Refused file cause) refuses none = absurd (subst (IsUnitFile file) none refuses.0)
-    usage_alone (Unread file) refuses none = absurd refuses
-    usage_alone Unwritten refuses none = absurd refuses
-    usage_alone WantOfMemory refuses none = absurd refuses
-    usage_alone _ refuses none = refl
-
-    -- what a reason says of the work: a refusal, a file that is not read or not written, or want of memory
-    data IsStopped (why : Reason) : Type 0 where
-      Is_refused : (status_of why ≡ 2) ⊎ (status_of why ≡ 6) → Refuses hm hosts words old.files.told why → IsUntouched old new
-          → IsStopped why
-      Not_read : (file : Name) → why ≡ Unread file → IsUnread hm hosts words old new file → IsUntouched old new → IsStopped why
-      Not_written : why ≡ Unwritten → IsUnwritten words old new → HasReading words
-          → Tells old.files.told (λ m. Begun hm hosts words m old new) → IsStopped why
-      Wants_memory : why ≡ WantOfMemory → Tells old.files.told (λ m. BegunIfAny hm hosts words m old new) → IsStopped why
-
-    by_reason : (why : Reason) → Stopped why → IsStopped why
-    by_reason (Unread file) stop = Not_read file refl stop.0 stop.1
-    by_reason Unwritten stop = Not_written refl stop.0 stop.1 stop.2
-    by_reason WantOfMemory stop = Wants_memory refl stop
-    by_reason (Refused file cause) stop = Is_refused (inr refl) stop.0 stop.1
-    by_reason _ stop = Is_refused (inl refl) stop.0 stop.1
-
     module _ (why : Reason) (status : ℕ) (stop : Stopped why) (is : IsStatus status why) where
-      -- the status of another reason, which it is
-      status_as : (other : Reason) → why ≡ other → IsStatus status other
-      status_as other same = subst (IsStatus status) same is
-
-      wanting : why ≡ WantOfMemory → status ≡ 5
-      wanting same = let five = status_as WantOfMemory same in omega (arith, five)
+      -- the answer is that to the job, where no reading fails, unless something is not written or memory was wanting
+      answer : (m : Contents) → old.files.told ≡ Some m → (Rose old.files.read_faults new.files.read_faults → ⊥)
+          → Stopped Unwritten ⊎ (status ≡ 5) ⊎ Answered m status
+      answer m tells read = elim is [ inl same ↦ by why stop same | inr five ↦ inr (inl five) ]
+        where
+          by : (why : Reason) → Stopped why → status ≡ status_of why → Stopped Unwritten ⊎ (status ≡ 5) ⊎ Answered m status
+          by Unwritten stop is = inl stop
+          by WantOfMemory stop is = inr (inl is)
+          by (Unread file) stop is = inr (inr (unread_answer m file status stop.0 is tells read))
+          by other stop is = inr (inr (By_refusal other (refused_job other stop.0 m tells) is))
 
       pub stop_complete : Tells old.files.told (λ m. (Rose old.files.read_faults new.files.read_faults → ⊥)
           → (Rose old.files.write_faults new.files.write_faults → ⊥) → (Rose old.out.faults new.out.faults → ⊥)
           → (status ≡ 5) ⊎ Answered m status)
-      stop_complete m tells read write out = go (by_reason why stop)
-        where
-          go : IsStopped why → (status ≡ 5) ⊎ Answered m status
-          go (Is_refused of refuses same) = answered m why status is (refused_job why refuses m tells)
-          go (Not_read file reason unread same) = unread_answer m file status unread (status_as (Unread file) reason) tells read
-          go (Not_written reason unwritten has begun) = absurd (unwritten_apart write out unwritten)
-          go (Wants_memory reason begun) = inl (wanting reason)
+      stop_complete m tells read write out =
+          elim (answer m tells read) [ inl unwritten ↦ absurd (unwritten_apart write out unwritten.0) | inr came ↦ came ]
 
       -- a job that is refused is answered so, where no file failed
       pub stop_always : Tells old.files.told (λ m. (Rose old.files.read_faults new.files.read_faults → ⊥)
           → (first : Reason) → Asks m (Stops first) → (status ≡ status_of first) ⊎ (status ≡ 5))
-      stop_always m tells read first refused = go (by_reason why stop)
-        where
-          answer : (status ≡ 5) ⊎ Answered m status → (status ≡ status_of first) ⊎ (status ≡ 5)
-          answer (inl five) = inr five
-          answer (inr of) = inl (decided m status first of refused)
-
-          go : IsStopped why → (status ≡ status_of first) ⊎ (status ≡ 5)
-          go (Is_refused of refuses same) = answer (answered m why status is (refused_job why refuses m tells))
-          go (Not_read file reason unread same) = answer (unread_answer m file status unread (status_as (Unread file) reason) tells read)
-          go (Not_written reason unwritten has begun) = absurd (begun_apart m old new first (begun m tells) refused)
-          go (Wants_memory reason begun) = inr (wanting reason)
-
-      stop_refused : (status ≡ 2) ⊎ (status ≡ 6) → (status_of why ≡ status) × Refuses hm hosts words old.files.told why
-      stop_refused came = go (by_reason why stop)
-        where
-          go : IsStopped why → (status_of why ≡ status) × Refuses hm hosts words old.files.told why
-          go (Is_refused of refuses same) = (omega (arith, is, of, came), refuses)
-          go (Not_read file reason unread same) = absurd (let so = status_as (Unread file) reason in omega (arith, so, came))
-          go (Not_written reason unwritten has begun) = absurd (let so = status_as Unwritten reason in omega (arith, so, came))
-          go (Wants_memory reason begun) = absurd (let five = wanting reason in omega (arith, five, came))
-
-      -- and the line says so
-      pub refused_line : (Says : Reason → Type 0) → Says why ⊎ (status ≡ 5) → (status ≡ 2) ⊎ (status ≡ 6)
-          → (first : Reason) × (status_of first ≡ status) × Refuses hm hosts words old.files.told first × Says first
-      refused_line Says says came =
-          let found = stop_refused came in
-          (why, found.0, found.1, said says)
-        where
-          said : Says why ⊎ (status ≡ 5) → Says why
-          said (inl line) = line
-          said (inr five) = absurd (omega (arith, five, came))
+      stop_always m tells read first refused = elim (answer m tells read) [
+        | inl unwritten ↦ absurd (begun_apart m old new first (unwritten.2 m tells) refused)
+        | inr (inl five) ↦ inr five
+        | inr (inr of) ↦ inl (decided m status first of refused)
+      ]
 
       pub stop_usage : line_of words ≡ None → (status ≡ 2) ⊎ (status ≡ 5)
-      stop_usage none = go (by_reason why stop)
+      stop_usage none = by why stop is
         where
-          go : IsStopped why → (status ≡ 2) ⊎ (status ≡ 5)
-          go (Is_refused of refuses same) = subst (λ n. (status ≡ n) ⊎ (status ≡ 5)) (usage_alone why refuses none) is
-          go (Not_read file reason unread same) = absurd (subst (IsToRead file) none unread.to_read)
-          go (Not_written reason unwritten has begun) = absurd (has none)
-          go (Wants_memory reason begun) = inr (wanting reason)
-
-      -- a file is not read, and the line says so
-      stop_unread : status ≡ 3 → (file : Name) × (why ≡ Unread file) × IsUnread hm hosts words old new file
-      stop_unread came = go (by_reason why stop)
-        where
-          go : IsStopped why → (file : Name) × (why ≡ Unread file) × IsUnread hm hosts words old new file
-          go (Is_refused of refuses same) = absurd (omega (arith, is, of, came))
-          go (Not_read file reason unread same) = (file, reason, unread)
-          go (Not_written reason unwritten has begun) = absurd (let so = status_as Unwritten reason in omega (arith, so, came))
-          go (Wants_memory reason begun) = absurd (let five = wanting reason in omega (arith, five, came))
-
-      pub read_fault : (Says : Reason → Type 0) → Says why ⊎ (status ≡ 5) → status ≡ 3
-          → (file : Name) × IsUnread hm hosts words old new file × Says (Unread file)
-      read_fault Says says came =
-          let found = stop_unread came in
-          (found.0, found.2, subst Says found.1 (said says))
-        where
-          said : Says why ⊎ (status ≡ 5) → Says why
-          said (inl line) = line
-          said (inr five) = absurd (omega (arith, five, came))
-
-      stop_unwritten : status ≡ 4
-          → (why ≡ Unwritten) × IsUnwritten words old new × Tells old.files.told (λ m. Begun hm hosts words m old new)
-      stop_unwritten came = go (by_reason why stop)
-        where
-          go : IsStopped why → (why ≡ Unwritten) × IsUnwritten words old new × Tells old.files.told (λ m. Begun hm hosts words m old new)
-          go (Is_refused of refuses same) = absurd (omega (arith, is, of, came))
-          go (Not_read file reason unread same) = absurd (let so = status_as (Unread file) reason in omega (arith, so, came))
-          go (Not_written reason unwritten has begun) = (reason, unwritten, begun)
-          go (Wants_memory reason begun) = absurd (let five = wanting reason in omega (arith, five, came))
-
-      pub write_fault : (Says : Reason → Type 0) → Says why ⊎ (status ≡ 5) → status ≡ 4
-          → IsUnwritten words old new × Tells old.files.told (λ m. Begun hm hosts words m old new) × Says Unwritten
-      write_fault Says says came =
-          let found = stop_unwritten came in
-          (found.1, found.2, subst Says found.0 (said says))
-        where
-          said : Says why ⊎ (status ≡ 5) → Says why
-          said (inl line) = line
-          said (inr five) = absurd (omega (arith, five, came))
+          by : (why : Reason) → Stopped why → IsStatus status why → (status ≡ 2) ⊎ (status ≡ 5)
+          by (Refused file cause) stop is = absurd (subst (IsUnitFile file) none stop.0.0)
+          by (Unread file) stop is = absurd (subst (IsToRead file) none stop.0.to_read)
+          by Unwritten stop is = absurd (stop.1 none)
+          by WantOfMemory stop (inl five) = inr five
+          by WantOfMemory stop (inr five) = inr five
+          by _ stop is = is
 
       pub stop_untouched : (status ≡ 2) ⊎ (status ≡ 3) ⊎ (status ≡ 6) → IsUntouched old new
-      stop_untouched came = go (by_reason why stop)
+      stop_untouched came = by why stop is
         where
-          go : IsStopped why → IsUntouched old new
-          go (Is_refused of refuses same) = same
-          go (Not_read file reason unread same) = same
-          go (Not_written reason unwritten has begun) = absurd (let so = status_as Unwritten reason in omega (arith, so, came))
-          go (Wants_memory reason begun) = absurd (let five = wanting reason in omega (arith, five, came))
+          by : (why : Reason) → Stopped why → IsStatus status why → IsUntouched old new
+          by Unwritten stop is = absurd (omega (arith, is, came))
+          by WantOfMemory stop is = absurd (omega (arith, is, came))
+          by _ stop is = stop.1
+
+      -- ---- the line says so
+
+      module _ (Says : Reason → Type 0) (says : Says why ⊎ (status ≡ 5)) where
+        -- a status that is not want of memory's is the reason's, and its line was said
+        said : (status ≡ 5 → ⊥) → (status_of why ≡ status) × Says why
+        said apart = by is says
+          where
+            by : IsStatus status why → Says why ⊎ (status ≡ 5) → (status_of why ≡ status) × Says why
+            by (inl same) (inl line) = (sym same, line)
+            by (inl same) (inr five) = absurd (apart five)
+            by (inr five) line = absurd (apart five)
+
+        pub refused_line : (status ≡ 2) ⊎ (status ≡ 6)
+            → (first : Reason) × (status_of first ≡ status) × Refuses hm hosts words old.files.told first × Says first
+        refused_line came = let (of, line) = said (λ five. omega (arith, five, came)) in by why stop of line
+          where
+            by : (why : Reason) → Stopped why → status_of why ≡ status → Says why
+                → (first : Reason) × (status_of first ≡ status) × Refuses hm hosts words old.files.told first × Says first
+            by (Unread file) stop of line = absurd (omega (arith, of, came))
+            by Unwritten stop of line = absurd (omega (arith, of, came))
+            by WantOfMemory stop of line = absurd (omega (arith, of, came))
+            by other stop of line = (other, of, stop.0, line)
+
+        -- a file is not read
+        pub read_fault : status ≡ 3 → (file : Name) × IsUnread hm hosts words old new file × Says (Unread file)
+        read_fault three = let (of, line) = said (λ five. omega (arith, five, three)) in by why stop of line
+          where
+            by : (why : Reason) → Stopped why → status_of why ≡ status → Says why
+                → (file : Name) × IsUnread hm hosts words old new file × Says (Unread file)
+            by (Unread file) stop of line = (file, stop.0, line)
+            by _ stop of line = absurd (omega (arith, of, three))
+
+        pub write_fault : status ≡ 4
+            → IsUnwritten words old new × Tells old.files.told (λ m. Begun hm hosts words m old new) × Says Unwritten
+        write_fault four = let (of, line) = said (λ five. omega (arith, five, four)) in by why stop of line
+          where
+            by : (why : Reason) → Stopped why → status_of why ≡ status → Says why
+                → IsUnwritten words old new × Tells old.files.told (λ m. Begun hm hosts words m old new) × Says Unwritten
+            by Unwritten stop of line = (stop.0, stop.2, line)
+            by _ stop of line = absurd (omega (arith, of, four))
 
     pub stop_part : (why : Reason) → Stopped why → Tells old.files.told (λ m. BegunIfAny hm hosts words m old new)
-    stop_part why stop m tells = go (by_reason why stop)
-      where
-        go : IsStopped why → BegunIfAny hm hosts words m old new
-        go (Is_refused of refuses same) = inl same
-        go (Not_read file reason unread same) = inl same
-        go (Not_written reason unwritten has begun) = inr (begun m tells)
-        go (Wants_memory reason begun) = begun m tells
+    stop_part Unwritten stop m tells = inr (stop.2 m tells)
+    stop_part WantOfMemory stop m tells = stop m tells
+    stop_part _ stop m tells = inl stop.1

@@ -1,10 +1,10 @@
 -- The forms that write a unit: from what is asked for over what files hold to what the words ask for.
-use Rattle.crun_cli.proofs.Common.{◌≡◌, ◌⊎◌, List, [], ◌∷◌, Some, None, Option, MatchOption, sym, refl, ◌∙◌, subst, inl, inr, Faulted}
-use Rattle.crun_cli.proofs.Common.{Contents, Name, holding, IsOneOf, CSpells, print_of, hosts_of, HostModule, Line, MergeLine, TrimLine}
-use Rattle.crun_cli.proofs.Common.{line_of, merges, trims, Job, Stops, Write, Reason, Refused, Unread, Unwritten, Usage, WantOfMemory}
-use Rattle.crun_cli.proofs.Common.{AreUntouched, FilesSeen, IsMergeJob, IsTrimJob, IsUnitPart, StopsWrite, BegunIfAny, Finished, IsJobWith}
-use Rattle.crun_cli.proofs.Common.{WrotePart, HasReading, IsReadBy, IsToRead, IsToWrite, IsUnitFile, IsUnitOf, IsWrittenBy, IsLineJob}
-use Rattle.crun_cli.proofs.Common.{symbols_of, IsUntouched, Outside, SinkSeen, StopsWork, ℕ, IsKept}
+use Rattle.crun_cli.proofs.Common.{◌≡◌, ◌⊎◌, List, [], ◌∷◌, Some, None, Option, MatchOption, sym, refl, ◌∙◌, subst, inl, inr, Contents, Job}
+use Rattle.crun_cli.proofs.Common.{Name, holding, IsOneOf, CSpells, print_of, hosts_of, HostModule, Line, MergeLine, TrimLine, line_of, ℕ}
+use Rattle.crun_cli.proofs.Common.{merges, trims, Stops, Write, Reason, Refused, Unread, Unwritten, Usage, WantOfMemory, AreUntouched}
+use Rattle.crun_cli.proofs.Common.{FilesSeen, IsMergeJob, IsTrimJob, IsUnitPart, StopsWrite, Finished, IsJobWith, WrotePart, HasReading}
+use Rattle.crun_cli.proofs.Common.{IsReadBy, IsToRead, IsToWrite, IsUnitFile, IsUnitOf, IsWrittenBy, IsLineJob, symbols_of, IsUntouched}
+use Rattle.crun_cli.proofs.Common.{Outside, SinkSeen, StopsWork, IsKept}
 use Rattle.c_tree.specs.Tree as tree
 
 -- ---- words that have a reading
@@ -42,54 +42,34 @@ module _ {H : Type 0} (hm : HostModule H) (hosts : List H) (words : List Name) (
   there : (m : Contents) (job : Job) → Asks m job → IsJobWith hm hosts words m job
   there m job of = subst (λ o. MatchOption o (job ≡ Stops Usage) (λ l. IsLineJob (hosts_of hm hosts) m l job)) (sym is) (jobs m job of)
 
-  has_reading : HasReading words
-  has_reading none = (let both : ◌≡◌ {A = Option Line} None (Some form) = sym none ∙ is in cc)
-
   untouched : AreUntouched start new → IsUntouched Old New
   untouched same = record { files = same; lines = refl }
 
   part : (m : Contents) → IsUnitPart Asks output m start new → WrotePart hm hosts words m Old New
-  part m (unit, asks, begun) = record {
-    output = output;
-    unit = unit;
-    job = there m (Write output unit) asks;
-    begun = begun;
-    nothing = refl;
-  }
+  part m (unit, asks, begun) =
+      let job = there m (Write output unit) asks in
+      record { output = output; unit = unit; job = job; begun = begun; nothing = refl }
 
   unit_done : (m : Contents) → (unit : List tree.Item) × Asks m (Write output unit) × CSpells unit (print_of unit)
       × (new.told ≡ holding start.told output (print_of unit)) → Finished hm hosts words m Old New 0
-  unit_done m (unit, asks, spells, written) = inr (
-    refl,
-    record { output = output; unit = unit; job = there m (Write output unit) asks; spells = spells; written = written; nothing = refl },
-  )
+  unit_done m (unit, asks, spells, written) =
+      let job = there m (Write output unit) asks in
+      inr (refl, record { output = output; unit = unit; job = job; spells = spells; written = written; nothing = refl })
 
   unit_stop : (why : Reason) → StopsWrite Asks units output start new why → StopsWork hm hosts words Old New why
-  unit_stop (Unread file) (one, cause, same) = (
-    record { to_read = subst (IsToRead file) (sym is) (reads file one); cause = by cause },
-    untouched same,
-  )
-    where
-      by : Faulted file start.read_faults new.read_faults new.fault_name
-          ⊎ ((m : Contents) × (start.told ≡ Some m) × Asks m (Stops (Unread file)))
-          → Faulted file start.read_faults new.read_faults new.fault_name
-          ⊎ ((m : Contents) × (start.told ≡ Some m) × IsJobWith hm hosts words m (Stops (Unread file)))
-      by (inl faulted) = inl faulted
-      by (inr (m, tells, asks)) = inr (m, tells, there m (Stops (Unread file)) asks)
+  unit_stop (Unread file) (one, inl faulted, same) =
+      (record { to_read = subst (IsToRead file) (sym is) (reads file one); cause = inl faulted }, untouched same)
+  unit_stop (Unread file) (one, inr (m, tells, asks), same) =
+      let job = there m (Stops (Unread file)) asks in
+      (record { to_read = subst (IsToRead file) (sym is) (reads file one); cause = inr (m, tells, job) }, untouched same)
   unit_stop (Refused file why) (one, first, same) = (
     (subst (IsUnitFile file) (sym is) (unit_file file one), λ m tells. there m (Stops (Refused file why)) (first m tells)),
     untouched same,
   )
-  unit_stop Unwritten (faulted, begun) = (
-    inr (output, subst (IsToWrite output) (sym is) writes, faulted),
-    has_reading,
-    λ m tells. inr (part m (begun m tells)),
-  )
-  unit_stop WantOfMemory stop = λ m tells. by m (stop m tells)
-    where
-      by : (m : Contents) → AreUntouched start new ⊎ IsUnitPart Asks output m start new → BegunIfAny hm hosts words m Old New
-      by m (inl same) = inl (untouched same)
-      by m (inr begun) = inr (inr (part m begun))
+  unit_stop Unwritten (faulted, begun) =
+      (inr (output, subst (IsToWrite output) (sym is) writes, faulted), has_line words form is, λ m tells. inr (part m (begun m tells)))
+  unit_stop WantOfMemory stop = λ m tells.
+      elim (stop m tells) [ inl same ↦ inl (untouched same) | inr begun ↦ inr (inr (part m begun)) ]
   unit_stop _ stop = absurd stop
 
 module _ {H : Type 0} (hm : HostModule H) (hosts : List H) (words : List Name) (out : SinkSeen) (start new : FilesSeen) where

@@ -15,8 +15,7 @@ returns-in-Err-show-clause-part g c =
     subst (λ b. HasPartLeaving g.H.HostModule e.hosts (map unit_of e.linked.0) calls e.steps b (g.O.Sink.told c.args.out.now)
     (g.O.Sink.told c.show.new.out) c.play_all.new.session.hosts)
     shown (shown_part g.H.HostModule e c.play_all.new.session calls (g.O.Sink.told c.args.out.now) (g.O.Sink.told c.play_all.new.out)
-    c.in-Ok.status
-    c.in-Ok.ensures.played (g.O.Sink.told c.show.new.out) c.in-Err-show.ensures.part)
+    c.in-Ok.status c.in-Ok.ensures.played (g.O.Sink.told c.show.new.out) c.in-Err-show.ensures.part)
 
 pub returns-then-not-shows_state-clause-ran : goal.returns-then-not-shows_state-clause-ran
 returns-then-not-shows_state-clause-ran g c =

@@ -13,9 +13,8 @@ returns-in-Ok-Some-clause-played g c = λ e old behind.
     let lt : k < length calls = omega arith in
     let played = rw c.in-Ok-Some.field-0-is at c.in-Ok-Some.ensures.played in
     subst (λ cs. HasPlayed g.H.HostModule e c.play_call.new.session cs old (g.O.Sink.told c.play_call.new.out) c.in-Ok-Some.status)
-    (calls_split calls k item lt c.index-calls-index.is)
-    (played e (take k (calls_seen calls)) (drop (k + 1) (calls_seen calls)) old (calls_before calls k lt)
-    (c.loop-index.invariant.behind e old behind))
+    (calls_split calls k item lt c.index-calls-index.is) (played e (take k (calls_seen calls)) (drop (k + 1) (calls_seen calls)) old
+    (calls_before calls k lt) (c.loop-index.invariant.behind e old behind))
 
 pub returns-in-Err-clause-left : goal.returns-in-Err-clause-left
 returns-in-Err-clause-left g c = λ e old behind.
@@ -24,9 +23,8 @@ returns-in-Err-clause-left g c = λ e old behind.
     let item = c.index-calls-index.result in
     let lt : k < length calls = omega arith in
     subst (λ cs. IsLeft g.H.HostModule e c.play_call.new.session cs old (g.O.Sink.told c.play_call.new.out))
-    (calls_split calls k item lt c.index-calls-index.is)
-    (c.in-Err.ensures.left e (take k (calls_seen calls)) (drop (k + 1) (calls_seen calls)) old (calls_before calls k lt)
-    (c.loop-index.invariant.behind e old behind))
+    (calls_split calls k item lt c.index-calls-index.is) (c.in-Err.ensures.left e (take k (calls_seen calls))
+    (drop (k + 1) (calls_seen calls)) old (calls_before calls k lt) (c.loop-index.invariant.behind e old behind))
 
 pub loop-index-preserved : goal.loop-index-preserved
 loop-index-preserved g c =

@@ -1,21 +1,10 @@
-use Rattle.crun_cli.proofs.Common.{ℕ, map, Ok, Err, sym, refl, ap, ◌∙◌, subst, inl, inr, le_refl, none_passed, unit_of, hosts_of, seen_run}
-use Rattle.crun_cli.proofs.Common.{calls_seen, reason_of, reason_for, stopped_by, outside, symbols_of_hosts, AreOffered, IsBlankFor}
-use Rattle.crun_cli.proofs.Common.{WritesOfTexts, ended_by}
+use Rattle.crun_cli.proofs.Common.{ℕ, Ok, Err, sym, refl, ap, ◌∙◌, subst, inl, inr, le_refl, none_passed, hosts_of, seen_run, reason_of}
+use Rattle.crun_cli.proofs.Common.{reason_for, stopped_by, outside, symbols_of_hosts, AreOffered, IsBlankFor, WritesOfTexts, ended_by}
 use Rattle.crun_job.specs.declared.stop.Stop.TheVariants as stop
-use Rattle.crun_cli.proofs.EndPasses.{broken_passed, left_passed, written_passed}
-use Rattle.crun_cli.proofs.Passing.{texts_stopped}
+use Rattle.crun_cli.proofs.Passing.{broken_passed, left_passed, texts_stopped, written_passed}
 use Rattle.crun_cli.proofs.ReplaysOffered.{offered_distinct}
-use Rattle.crun_cli.proofs.RecordLaws.{
-  is_blank,
-  is_named,
-  journal_part,
-  kept_part,
-  kept_whole,
-  lines_part,
-  ran_status,
-  texts_stop,
-  whole_run,
-}
+use Rattle.crun_cli.proofs.RecordLaws.{is_blank, is_named, journal_part, kept_part, kept_whole, lines_part, ran_status, texts_stop}
+use Rattle.crun_cli.proofs.RecordLaws.{whole_run}
 use Rattle.crun_cli.proofs.recording.run_and_record.Goals as goal
 
 pub task_of-requires : goal.task_of-requires
@@ -56,14 +45,13 @@ returns-in-Err g c =
     let line = seen_run c.args.line.now in
     let texts = c.args.inputs.units.items in
     let text = c.args.inputs.calls in
-    let ends = ended_by (Err c.in-Err.stop) in
-    let stopped = stopped_by {A = ℕ} (Err c.in-Err.stop) in
+    let why = reason_of c.in-Err.stop in
     let seen = outside g.F.Files g.O.Sink c.args.files.now c.args.out.now in
     record {
       ran = tt;
       status = tt;
       stop = texts_stop m hosts line texts text seen seen (record { files = record { told = refl; current = refl }; lines = refl })
-          (reason_of c.in-Err.stop) _ c.as_slice.ensures.value c.in-Err.ensures.stop;
+          why _ c.as_slice.ensures.value c.in-Err.ensures.stop;
       reads = refl;
       writes = le_refl (g.F.Files.write_faults c.args.files.now);
       writes_kept = tt;
@@ -71,16 +59,13 @@ returns-in-Err g c =
       lines_kept = tt;
       kept = inl refl;
       current = λ none. refl;
-      passed = none_passed (g.F.Files.trace c.args.files.now) (WritesOfTexts m hosts line texts text told told ends stopped)
-          (texts_stopped m hosts line texts text told told ends stopped (reason_of c.in-Err.stop)
+      passed = none_passed (g.F.Files.trace c.args.files.now) _ (texts_stopped m hosts line texts text told told (Err c.in-Err.stop) why
           (rw c.as_slice.ensures.value at c.in-Err.ensures.stop) (refl, refl));
     }
 
 pub returns-in-Err-blank_journal : goal.returns-in-Err-blank_journal
 returns-in-Err-blank_journal g c =
     let told = g.O.Sink.told c.args.out.now in
-    let texts = c.args.inputs.units.items in
-    let text = c.args.inputs.calls in
     record {
       ran = tt;
       status = tt;
@@ -93,17 +78,15 @@ returns-in-Err-blank_journal g c =
       kept = inl refl;
       current = λ none. refl;
       passed = none_passed (g.F.Files.trace c.args.files.now)
-          (WritesOfTexts g.H.HostModule c.args.hosts.items (seen_run c.args.line.now) texts text told told (ended_by (Err stop.Memory))
-          (stopped_by {A = ℕ} (Err stop.Memory)))
-          (inl (refl, (refl, refl)));
+          (WritesOfTexts g.H.HostModule c.args.hosts.items (seen_run c.args.line.now) c.args.inputs.units.items c.args.inputs.calls
+          told told (ended_by (Err stop.Memory)) (stopped_by {A = ℕ} (Err stop.Memory))) (inl (refl, (refl, refl)));
     }
 
 pub returns-in-Err-Failed : goal.returns-in-Err-Failed
 returns-in-Err-Failed g c =
     let part = lines_part g.H.HostModule c.args.hosts.items (seen_run c.args.line.now) c.args.inputs.units.items c.args.inputs.calls
     (outside g.F.Files g.O.Sink c.args.files.now c.args.out.now) (outside g.F.Files g.O.Sink c.args.files.now c.run_task.new.out)
-    (map unit_of c.in-Ok.task.linked.0) (calls_seen c.in-Ok.task.calls.items) c.in-Ok.task.steps c.in-Ok.task.shows_state
-    _ c.as_slice.ensures.value c.in-Ok.ensures.task c.in-Err-Failed.ensures.part refl in
+    _ _ _ _ _ c.as_slice.ensures.value c.in-Ok.ensures.task c.in-Err-Failed.ensures.part refl in
     record {
       ran = tt;
       status = tt;
@@ -116,10 +99,8 @@ returns-in-Err-Failed g c =
       kept = inl refl;
       current = λ none. refl;
       passed = left_passed g.H.HostModule c.args.hosts.items (seen_run c.args.line.now) c.args.inputs.units.items c.args.inputs.calls
-          (g.O.Sink.told c.args.out.now) (g.O.Sink.told c.run_task.new.out) (Err stop.Unwritten)
-          (map unit_of c.in-Ok.task.linked.0) (calls_seen c.in-Ok.task.calls.items) c.in-Ok.task.steps c.in-Ok.task.shows_state
-          _ c.as_slice.ensures.value c.in-Ok.ensures.task (g.F.Files.trace c.args.files.now)
-          c.in-Err-Failed.ensures.part (inl refl);
+          (g.O.Sink.told c.args.out.now) (g.O.Sink.told c.run_task.new.out) (Err stop.Unwritten) _ _ _ _ _
+          c.as_slice.ensures.value c.in-Ok.ensures.task (g.F.Files.trace c.args.files.now) c.in-Err-Failed.ensures.part (inl refl);
     }
 
 pub returns-in-Err-Memory : goal.returns-in-Err-Memory
@@ -128,8 +109,7 @@ returns-in-Err-Memory g c = record {
   status = tt;
   stop = inr (lines_part g.H.HostModule c.args.hosts.items (seen_run c.args.line.now) c.args.inputs.units.items c.args.inputs.calls
       (outside g.F.Files g.O.Sink c.args.files.now c.args.out.now) (outside g.F.Files g.O.Sink c.args.files.now c.run_task.new.out)
-      (map unit_of c.in-Ok.task.linked.0) (calls_seen c.in-Ok.task.calls.items) c.in-Ok.task.steps c.in-Ok.task.shows_state
-      _ c.as_slice.ensures.value c.in-Ok.ensures.task c.in-Err-Memory.ensures.part refl);
+      _ _ _ _ _ c.as_slice.ensures.value c.in-Ok.ensures.task c.in-Err-Memory.ensures.part refl);
   reads = refl;
   writes = le_refl (g.F.Files.write_faults c.args.files.now);
   writes_kept = tt;
@@ -138,10 +118,8 @@ returns-in-Err-Memory g c = record {
   kept = inl refl;
   current = λ none. refl;
   passed = left_passed g.H.HostModule c.args.hosts.items (seen_run c.args.line.now) c.args.inputs.units.items c.args.inputs.calls
-      (g.O.Sink.told c.args.out.now) (g.O.Sink.told c.run_task.new.out) (Err stop.Memory)
-      (map unit_of c.in-Ok.task.linked.0) (calls_seen c.in-Ok.task.calls.items) c.in-Ok.task.steps c.in-Ok.task.shows_state
-      _ c.as_slice.ensures.value c.in-Ok.ensures.task (g.F.Files.trace c.args.files.now)
-      c.in-Err-Memory.ensures.part (inr refl);
+      (g.O.Sink.told c.args.out.now) (g.O.Sink.told c.run_task.new.out) (Err stop.Memory) _ _ _ _ _
+      c.as_slice.ensures.value c.in-Ok.ensures.task (g.F.Files.trace c.args.files.now) c.in-Err-Memory.ensures.part (inr refl);
 }
 
 pub returns-in-Ok-write_journal : goal.returns-in-Ok-write_journal
@@ -149,15 +127,10 @@ returns-in-Ok-write_journal g c =
     let distinct = offered_distinct (hosts_of g.H.HostModule c.args.hosts.items) c.requires.offered in
     record {
       ran = whole_run g.H.HostModule c.args.hosts.items (seen_run c.args.line.now) c.args.inputs.units.items c.args.inputs.calls
-          (outside g.F.Files g.O.Sink c.args.files.now c.args.out.now)
-          (outside g.F.Files g.O.Sink c.write_journal.new.files c.run_task.new.out)
-          (map unit_of c.in-Ok.task.linked.0) (calls_seen c.in-Ok.task.calls.items) c.in-Ok.task.steps c.in-Ok.task.shows_state
-          _ c.as_slice.ensures.value c.in-Ok.ensures.task
-          c.in-Ok-run_task.played.status c.in-Ok-blank_journal.journal c.in-Ok-run_task.played.journal c.in-Ok-run_task.ensures.ran
+          (outside g.F.Files g.O.Sink c.args.files.now c.args.out.now) (outside g.F.Files g.O.Sink c.write_journal.new.files
+          c.run_task.new.out) _ _ _ _ _ c.as_slice.ensures.value c.in-Ok.ensures.task _ _ _ c.in-Ok-run_task.ensures.ran
           _ c.as_slice-2.ensures.value c.in-Ok-blank_journal.ensures distinct c.in-Ok-write_journal.ensures.written;
-      status = ran_status g.H.HostModule c.args.hosts.items (map unit_of c.in-Ok.task.linked.0) (calls_seen c.in-Ok.task.calls.items)
-          c.in-Ok.task.steps c.in-Ok.task.shows_state (g.O.Sink.told c.args.out.now) (g.O.Sink.told c.run_task.new.out)
-          c.in-Ok-run_task.played.status c.in-Ok-run_task.ensures.ran.run;
+      status = ran_status c.in-Ok-run_task.ensures.ran.run;
       stop = tt;
       reads = c.write_journal.ensures.reads;
       writes = c.in-Ok-write_journal.ensures.cause.later;
@@ -169,24 +142,17 @@ returns-in-Ok-write_journal g c =
       current = c.write_journal.ensures.current;
       passed = written_passed g.H.HostModule c.args.hosts.items (seen_run c.args.line.now) c.args.inputs.units.items c.args.inputs.calls
           (g.O.Sink.told c.args.out.now) (g.O.Sink.told c.run_task.new.out) (Ok c.in-Ok-run_task.played.status)
-          (map unit_of c.in-Ok.task.linked.0) (calls_seen c.in-Ok.task.calls.items) c.in-Ok.task.steps c.in-Ok.task.shows_state
-          _ c.as_slice.ensures.value c.in-Ok.ensures.task
-          c.in-Ok-run_task.played.status c.in-Ok-blank_journal.journal c.in-Ok-run_task.played.journal c.in-Ok-run_task.ensures.ran
-          _ c.as_slice-2.ensures.value c.in-Ok-blank_journal.ensures
-          (g.F.Files.trace c.args.files.now) (g.F.Files.trace c.write_journal.new.files)
-          (g.F.Files.told c.args.files.now) (g.F.Files.told c.write_journal.new.files) distinct
-          c.in-Ok-write_journal.ensures.written refl c.in-Ok-write_journal.ensures.passed;
+          _ _ _ _ _ c.as_slice.ensures.value c.in-Ok.ensures.task _ _ _ c.in-Ok-run_task.ensures.ran
+          _ c.as_slice-2.ensures.value c.in-Ok-blank_journal.ensures _ _ (g.F.Files.told c.args.files.now) (g.F.Files.told
+          c.write_journal.new.files) distinct c.in-Ok-write_journal.ensures.written refl c.in-Ok-write_journal.ensures.passed;
     }
 
 pub returns-in-Err-Failed-write_journal : goal.returns-in-Err-Failed-write_journal
 returns-in-Err-Failed-write_journal g c =
     let part = journal_part g.H.HostModule c.args.hosts.items (seen_run c.args.line.now) c.args.inputs.units.items c.args.inputs.calls
-    (outside g.F.Files g.O.Sink c.args.files.now c.args.out.now) (outside g.F.Files g.O.Sink c.write_journal.new.files c.run_task.new.out)
-    (map unit_of c.in-Ok.task.linked.0) (calls_seen c.in-Ok.task.calls.items) c.in-Ok.task.steps c.in-Ok.task.shows_state
-    _ c.as_slice.ensures.value c.in-Ok.ensures.task
-    c.in-Ok-run_task.played.status c.in-Ok-blank_journal.journal c.in-Ok-run_task.played.journal c.in-Ok-run_task.ensures.ran
-    _ c.as_slice-2.ensures.value c.in-Ok-blank_journal.ensures
-    c.in-Err-Failed-write_journal.ensures.part in
+    (outside g.F.Files g.O.Sink c.args.files.now c.args.out.now) (outside g.F.Files g.O.Sink c.write_journal.new.files c.run_task.new.out) _
+    _ _ _ _ c.as_slice.ensures.value c.in-Ok.ensures.task _ _ _ c.in-Ok-run_task.ensures.ran
+    _ c.as_slice-2.ensures.value c.in-Ok-blank_journal.ensures c.in-Err-Failed-write_journal.ensures.part in
     record {
       ran = tt;
       status = tt;
@@ -201,11 +167,8 @@ returns-in-Err-Failed-write_journal g c =
       current = c.write_journal.ensures.current;
       passed = broken_passed g.H.HostModule c.args.hosts.items (seen_run c.args.line.now) c.args.inputs.units.items c.args.inputs.calls
           (g.O.Sink.told c.args.out.now) (g.O.Sink.told c.run_task.new.out) (Err stop.Unwritten)
-          (map unit_of c.in-Ok.task.linked.0) (calls_seen c.in-Ok.task.calls.items) c.in-Ok.task.steps c.in-Ok.task.shows_state
-          _ c.as_slice.ensures.value c.in-Ok.ensures.task
-          c.in-Ok-run_task.played.status c.in-Ok-blank_journal.journal c.in-Ok-run_task.played.journal c.in-Ok-run_task.ensures.ran
-          _ c.as_slice-2.ensures.value c.in-Ok-blank_journal.ensures
-          (g.F.Files.trace c.args.files.now) (g.F.Files.trace c.write_journal.new.files) c.in-Err-Failed-write_journal.field-0
+          _ _ _ _ _ c.as_slice.ensures.value c.in-Ok.ensures.task _ _ _ c.in-Ok-run_task.ensures.ran
+          _ c.as_slice-2.ensures.value c.in-Ok-blank_journal.ensures _ _ c.in-Err-Failed-write_journal.field-0
           (ap reason_for (sym c.in-Err-Failed-write_journal.field-0-is)) c.in-Err-Failed-write_journal.ensures.tried;
     }
 
@@ -215,11 +178,8 @@ returns-in-Err-Memory-write_journal g c = record {
   status = tt;
   stop = inr (journal_part g.H.HostModule c.args.hosts.items (seen_run c.args.line.now) c.args.inputs.units.items c.args.inputs.calls
       (outside g.F.Files g.O.Sink c.args.files.now c.args.out.now) (outside g.F.Files g.O.Sink c.write_journal.new.files c.run_task.new.out)
-      (map unit_of c.in-Ok.task.linked.0) (calls_seen c.in-Ok.task.calls.items) c.in-Ok.task.steps c.in-Ok.task.shows_state
-      _ c.as_slice.ensures.value c.in-Ok.ensures.task
-      c.in-Ok-run_task.played.status c.in-Ok-blank_journal.journal c.in-Ok-run_task.played.journal c.in-Ok-run_task.ensures.ran
-      _ c.as_slice-2.ensures.value c.in-Ok-blank_journal.ensures
-      c.in-Err-Memory-write_journal.ensures.part);
+      _ _ _ _ _ c.as_slice.ensures.value c.in-Ok.ensures.task _ _ _ c.in-Ok-run_task.ensures.ran
+      _ c.as_slice-2.ensures.value c.in-Ok-blank_journal.ensures c.in-Err-Memory-write_journal.ensures.part);
   reads = c.write_journal.ensures.reads;
   writes = c.in-Err-Memory-write_journal.ensures.cause.later;
   writes_kept = tt;
@@ -230,10 +190,7 @@ returns-in-Err-Memory-write_journal g c = record {
   current = c.write_journal.ensures.current;
   passed = broken_passed g.H.HostModule c.args.hosts.items (seen_run c.args.line.now) c.args.inputs.units.items c.args.inputs.calls
       (g.O.Sink.told c.args.out.now) (g.O.Sink.told c.run_task.new.out) (Err stop.Memory)
-      (map unit_of c.in-Ok.task.linked.0) (calls_seen c.in-Ok.task.calls.items) c.in-Ok.task.steps c.in-Ok.task.shows_state
-      _ c.as_slice.ensures.value c.in-Ok.ensures.task
-      c.in-Ok-run_task.played.status c.in-Ok-blank_journal.journal c.in-Ok-run_task.played.journal c.in-Ok-run_task.ensures.ran
-      _ c.as_slice-2.ensures.value c.in-Ok-blank_journal.ensures
-      (g.F.Files.trace c.args.files.now) (g.F.Files.trace c.write_journal.new.files) c.in-Err-Memory-write_journal.field-0
+      _ _ _ _ _ c.as_slice.ensures.value c.in-Ok.ensures.task _ _ _ c.in-Ok-run_task.ensures.ran
+      _ c.as_slice-2.ensures.value c.in-Ok-blank_journal.ensures _ _ c.in-Err-Memory-write_journal.field-0
       (ap reason_for (sym c.in-Err-Memory-write_journal.field-0-is)) c.in-Err-Memory-write_journal.ensures.tried;
 }

@@ -1,6 +1,5 @@
-use Rattle.crun_cli.proofs.Common.{◌≤◌, length, Err, sym, ap, subst, passed_so, Passes, IsJournal, recorded, journal_read, Held}
-use Rattle.crun_cli.proofs.Common.{GivesJournal}
-use Rattle.crun_cli.proofs.Common.{TriesJournal, JournalLine, WantOfMemory, reason_of, stop_for, files_seen, StopsReplay, GivesReplays}
+use Rattle.crun_cli.proofs.Common.{◌≤◌, length, Err, sym, ap, subst, passed_so, Passes, IsJournal, recorded, journal_read, Held, reason_of}
+use Rattle.crun_cli.proofs.Common.{GivesJournal, TriesJournal, JournalLine, WantOfMemory, stop_for, files_seen, StopsReplay, GivesReplays}
 use Rattle.crun_cli.proofs.Common.{TriesReplay}
 use Rattle.host_replay.specs.Reading.{IsRefusedAt}
 use Rattle.crun_cli.proofs.Passing.{replay_tried}
@@ -30,10 +29,9 @@ returns-in-Err g c =
       tried =
           let start = g.F.Files.trace c.args.files.now in
           let end = g.F.Files.trace c.read_journal_file.new.files in
-          subst (λ s. Passes start end (TriesReplay c.args.name.now (reason_of s))) (sym c.stop_of.ensures)
-          (passed_so start end (TriesJournal c.args.name.now c.in-Err.stop) (TriesReplay c.args.name.now (reason_of (stop_for
-          c.in-Err.stop)))
-          (replay_tried c.args.name.now c.in-Err.stop) c.in-Err.ensures.tried);
+          subst (λ s. Passes start end (TriesReplay name (reason_of s))) (sym c.stop_of.ensures)
+          (passed_so start end (TriesJournal name c.in-Err.stop) (TriesReplay name (reason_of (stop_for c.in-Err.stop)))
+          (replay_tried name c.in-Err.stop) c.in-Err.ensures.tried);
     }
 
 pub returns-in-Err-Line : goal.returns-in-Err-Line
@@ -58,11 +56,9 @@ returns-in-Err-Line g c =
       tried =
           let start = g.F.Files.trace c.args.files.now in
           let end = g.F.Files.trace c.read_journal_file.new.files in
-          let tried : Passes start end (TriesReplay name (JournalLine number)) =
-          passed_so start end (GivesJournal name (Held c.in-Ok.text)) (TriesReplay name (JournalLine number))
-          (λ events gives. (c.in-Ok.text, gives, refused))
-          c.in-Ok.ensures.passed in
-          subst (λ k. Passes start end (TriesReplay name (JournalLine k))) (sym c.in-Err-Line.number-is) tried;
+          subst (λ k. Passes start end (TriesReplay name (JournalLine k))) (sym c.in-Err-Line.number-is)
+          (passed_so start end (GivesJournal name (Held c.in-Ok.text)) (TriesReplay name (JournalLine number))
+          (λ events gives. (c.in-Ok.text, gives, refused)) c.in-Ok.ensures.passed);
     }
 
 pub returns-in-Err-Memory : goal.returns-in-Err-Memory
@@ -77,11 +73,8 @@ returns-in-Err-Memory g c =
       offered = tt;
       stop = tt;
       passed = tt;
-      tried =
-          let text = c.in-Ok.text in
-          passed_so (g.F.Files.trace c.args.files.now) (g.F.Files.trace c.read_journal_file.new.files)
-          (GivesJournal c.args.name.now (Held text))
-          (TriesReplay c.args.name.now WantOfMemory) (journal_read c.args.name.now (Held text)) c.in-Ok.ensures.passed;
+      tried = passed_so _ _ (GivesJournal c.args.name.now (Held c.in-Ok.text)) (TriesReplay c.args.name.now WantOfMemory)
+          (journal_read c.args.name.now (Held c.in-Ok.text)) c.in-Ok.ensures.passed;
     }
 
 pub returns-in-Ok-replay_hosts : goal.returns-in-Ok-replay_hosts
@@ -96,23 +89,13 @@ returns-in-Ok-replay_hosts g c =
       writes = c.read_journal_file.ensures.writes;
       later = c.read_journal_file.ensures.later;
       kept = c.in-Ok.ensures.kept;
-      hosts = λ m tells. (
-        recorded file,
-        (text, (c.in-Ok.ensures.read m tells, c.in-Ok.ensures.fit), journal),
-        c.in-Ok-replay_hosts.ensures,
-      );
+      hosts = λ m tells.
+          (recorded file, (text, (c.in-Ok.ensures.read m tells, c.in-Ok.ensures.fit), journal), c.in-Ok-replay_hosts.ensures);
       offered = replays_offered c.as_slice.result.now _ c.in-Ok-replay_hosts.hosts.items c.in-Ok-read_journal.ensures.journal
           c.in-Ok-replay_hosts.ensures;
       stop = tt;
-      passed = passed_so (g.F.Files.trace c.args.files.now) (g.F.Files.trace c.read_journal_file.new.files)
-          (GivesJournal c.args.name.now (Held text))
-          (GivesReplays c.args.name.now c.in-Ok-replay_hosts.hosts.items)
-          (λ events gives. (
-            recorded file,
-            (text, gives, journal),
-            c.in-Ok-replay_hosts.ensures,
-          ))
-          c.in-Ok.ensures.passed;
+      passed = passed_so _ _ (GivesJournal c.args.name.now (Held text)) (GivesReplays c.args.name.now c.in-Ok-replay_hosts.hosts.items)
+          (λ events gives. (recorded file, (text, gives, journal), c.in-Ok-replay_hosts.ensures)) c.in-Ok.ensures.passed;
       tried = tt;
     }
 
@@ -128,9 +111,6 @@ returns g c =
       offered = tt;
       stop = tt;
       passed = tt;
-      tried =
-          let text = c.in-Ok.text in
-          passed_so (g.F.Files.trace c.args.files.now) (g.F.Files.trace c.read_journal_file.new.files)
-          (GivesJournal c.args.name.now (Held text))
-          (TriesReplay c.args.name.now WantOfMemory) (journal_read c.args.name.now (Held text)) c.in-Ok.ensures.passed;
+      tried = passed_so _ _ (GivesJournal c.args.name.now (Held c.in-Ok.text)) (TriesReplay c.args.name.now WantOfMemory)
+          (journal_read c.args.name.now (Held c.in-Ok.text)) c.in-Ok.ensures.passed;
     }

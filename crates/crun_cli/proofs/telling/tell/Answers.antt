@@ -25,6 +25,5 @@ returns-in-Err-tell_outcome g c =
 pub returns-in-Err : goal.returns-in-Err
 returns-in-Err g c =
     let s = c.args.session.now in
-    stops_writing c.in-Err.answer _ _ _ _
-    (asks_lines (hosts_of g.H.HostModule s.hosts) (drop c.args.from s.journal)) (outcome_line (phase_of c.args.phase) c.args.outcome)
-    c.in-Err.ensures
+    stops_writing c.in-Err.answer _ _ _ _ (asks_lines (hosts_of g.H.HostModule s.hosts) (drop c.args.from s.journal))
+    (outcome_line (phase_of c.args.phase) c.args.outcome) c.in-Err.ensures

@@ -8,12 +8,10 @@ returns-in-Trapped g c =
 
 pub returns-in-Undefined : goal.returns-in-Undefined
 returns-in-Undefined g c =
-    c.put_line-in-Undefined.ensures (outcome_line (phase_of c.args.phase) c.args.outcome)
-    (line_as c.last_line-in-Undefined.result _ _ (ap (outcome_line (phase_of c.args.phase)) (sym c.in-Undefined.is))
-    c.last_line-in-Undefined.ensures)
+    c.put_line-in-Undefined.ensures (outcome_line (phase_of c.args.phase) c.args.outcome) (line_as c.last_line-in-Undefined.result _ _
+    (ap (outcome_line (phase_of c.args.phase)) (sym c.in-Undefined.is)) c.last_line-in-Undefined.ensures)
 
 pub returns-in-OutOfSteps : goal.returns-in-OutOfSteps
 returns-in-OutOfSteps g c =
-    c.put_line-in-OutOfSteps.ensures (outcome_line (phase_of c.args.phase) c.args.outcome)
-    (line_as c.last_line-in-OutOfSteps.result _ _ (ap (outcome_line (phase_of c.args.phase)) (sym c.in-OutOfSteps.is))
-    c.last_line-in-OutOfSteps.ensures)
+    c.put_line-in-OutOfSteps.ensures (outcome_line (phase_of c.args.phase) c.args.outcome) (line_as c.last_line-in-OutOfSteps.result _ _
+    (ap (outcome_line (phase_of c.args.phase)) (sym c.in-OutOfSteps.is)) c.last_line-in-OutOfSteps.ensures)
