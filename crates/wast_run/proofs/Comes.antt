@@ -1,5 +1,5 @@
 -- What the units of a set ran is what the modules of the set come to.
-use Rattle.wast_run.proofs.Common.{◌≡◌, ℕ, suc, ◌<◌, ◌≤◌, true, ◌≢◌, List, [], ◌∷◌, ◌++◌, map, length, Some, None, sym, refl, ap, ◌∙◌}
+use Rattle.wast_run.proofs.Common.{◌≡◌, ℕ, suc, ◌≤◌, true, ◌≢◌, List, [], ◌∷◌, ◌++◌, map, length, Some, None, sym, refl, ap, ◌∙◌}
 use Rattle.wast_run.proofs.Common.{subst, arith, Bor, AllByRecursion, Reply, TrapKind, LinkedSet, ListedCall, wasm_run, Program, SymbolCall}
 use Rattle.wast_run.proofs.Common.{fits, CRun, c_run, IsAcceptedSet, IsListing, NeverStops, UnitsDoTheSame, program_of, symbol_call, Call}
 use Rattle.wast_run.proofs.Common.{HasRan, came_in, symbol_of, symbols_of, EnoughStepsEndRuns, HasCome, IsLong, IsOver, RunsAreAlike}
@@ -75,13 +75,10 @@ is_long enough s accepted calls listing steps out = λ n most ends. enough s acc
 
 -- ---- the calls by their symbols
 
-mapped_calls : (kept : List (Bor Call)) (last : Call) → map symbol_call (listed_calls kept ++ listed_call last ∷ []) ≡ symbols_of kept last
-mapped_calls [] last = refl
-mapped_calls (call ∷ kept) last = ap (λ cs. symbol_of call.now ∷ cs) (mapped_calls kept last)
-
 pub symbols_are : (kept : List (Bor Call)) (last : Call)
     → symbols_of kept last ≡ map symbol_call (listed_calls kept ++ listed_call last ∷ [])
-symbols_are kept last = sym (mapped_calls kept last)
+symbols_are [] last = refl
+symbols_are (call ∷ kept) last = ap (λ cs. symbol_of call.now ∷ cs) (symbols_are kept last)
 
 pub count_is : (kept : List (Bor Call)) (last : Call) → suc (length kept) ≡ length (listed_calls kept ++ listed_call last ∷ [])
 count_is [] last = refl
@@ -121,50 +118,34 @@ module _ (s : LinkedSet) (calls : List ListedCall) (steps count : ℕ) (counted 
     modules_trapped : (modules_run s calls steps).outcome ≡ wasm.Stopped (exec.Trapped kind)
     modules_trapped = trapped_alike _ kind (subst (OutcomesAlike (modules_run s calls steps).outcome) is both_trapped.outcome)
 
-  not_last : (number : ℕ) → suc number ≡ length calls → number < count → ⊥
-  not_last number is less = omega (arith, counted, is, less)
-
   pub has_come : (r : Ran) (what : Came) → came_in r ≡ Some what → HasRan (units_run s calls steps) count r → HasCome s calls steps what
-  has_come (ran.Last (outcome.Ended value)) what e run_is = subst (HasCome s calls steps) (came_is e) (
-    ended_over run_is.is.end,
-    modules_ended run_is.is.end,
-    run_is.is.others,
-    (both_ended run_is.is.end).values ∙ run_is.is.last,
-  )
-  has_come (ran.Last (outcome.Trapped kind)) what e run_is = subst (HasCome s calls steps) (came_is e) (
-    trapped_over kind run_is.is,
-    modules_trapped kind run_is.is,
-    count,
-    counted,
-    (both_trapped kind run_is.is).phase ∙ run_is.at,
-  )
-  has_come (ran.Last (outcome.Undefined u)) what e run_is = absurd cc
+  has_come (ran.Last (outcome.Ended value)) what e run_is =
+      let end = run_is.is.end in
+      let values = (both_ended end).values ∙ run_is.is.last in
+      subst (HasCome s calls steps) (came_is e) (ended_over end, modules_ended end, run_is.is.others, values)
+  has_come (ran.Last (outcome.Trapped kind)) what e run_is =
+      let phase = (both_trapped kind run_is.is).phase ∙ run_is.at in
+      subst (HasCome s calls steps) (came_is e) (trapped_over kind run_is.is, modules_trapped kind run_is.is, count, counted, phase)
   has_come (ran.Last outcome.OutOfSteps) what e run_is = subst (HasCome s calls steps) (came_is e) (run_is.is, long run_is.is)
-  has_come (ran.Before (outcome.Ended value)) what e run_is = absurd cc
   has_come (ran.Before (outcome.Trapped kind)) what e run_is = subst (HasCome s calls steps) (came_is e) (
     trapped_over kind run_is.is,
     kind,
     modules_trapped kind run_is.is,
-    λ number last at. not_last number last (run_is.before number (sym (both_trapped kind run_is.is).phase ∙ at)),
+    λ number last at. omega (arith, counted, last, run_is.before number (sym (both_trapped kind run_is.is).phase ∙ at)),
   )
-  has_come (ran.Before (outcome.Undefined u)) what e run_is = absurd cc
   has_come (ran.Before outcome.OutOfSteps) what e run_is = subst (HasCome s calls steps) (came_is e) (run_is.is, long run_is.is)
+  has_come _ what e run_is = absurd cc
 
   -- nothing undefined was done
   pub came_to_something : NeverStops (program_of s) s → IsListing s calls → (r : Ran) → HasRan (units_run s calls steps) count r
       → came_in r ≡ None → ⊥
-  came_to_something never listing (ran.Last (outcome.Ended value)) run_is e = absurd cc
   came_to_something never listing (ran.Last (outcome.Undefined u)) run_is e =
       never.never_undefined calls [] steps u.kind (place_of u) listing run_is.is
-  came_to_something never listing (ran.Last _) run_is e = absurd cc
-  came_to_something never listing (ran.Before (outcome.Ended value)) run_is e = absurd (stops_at_no_end run_is.stop)
-    where
-      stops_at_no_end : None ≡ Some (outcome.Ended value) → ⊥
-      stops_at_no_end is = absurd cc
-  came_to_something never listing (ran.Before (outcome.Trapped kind)) run_is e = absurd cc
+  came_to_something never listing (ran.Before (outcome.Ended value)) run_is e =
+      let stop : None ≡ Some (outcome.Ended value) = run_is.stop in absurd cc
   came_to_something never listing (ran.Before (outcome.Undefined u)) run_is e =
       never.never_undefined calls [] steps u.kind (place_of u) listing run_is.is
-  came_to_something never listing (ran.Before outcome.OutOfSteps) run_is e = absurd cc
+  came_to_something never listing _ run_is e = absurd cc
 
 -- ---- calls that fit
 

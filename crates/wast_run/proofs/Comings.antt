@@ -1,10 +1,10 @@
 -- What a command comes to, from what its parts come to.
 use Rattle.wast_run.proofs.Common.{◌≡◌, ℕ, ◌≤◌, List, [], ◌∷◌, ◌++◌, map, length, Some, None, Option, sym, refl, ap, ◌∙◌, subst, inl, inr}
-use Rattle.wast_run.proofs.Common.{Bor, TrapKind, Value, file_told, long_file_told, no_file_told, Contents, HasFile, HasLongFile, HasNoFile}
-use Rattle.wast_run.proofs.Common.{Name, Told, Tells, Module, most_module_bytes, FileVerdict, Accepted, Invalid, Fits, WasmRun, named_of}
-use Rattle.wast_run.proofs.Common.{ModuleFile, seen_call, Call, Agrees, says_invalid, says_malformed, tree_of, Asserts, Comes}
-use Rattle.wast_run.proofs.Common.{IsFile, IsTimely, Joins, Keeps, Setting, accepted_tree, holds, is_invalid, is_malformed, listed, set_at}
-use Rattle.wast_run.proofs.Common.{listed_call, listed_calls, HasRun, setting_of, IsUnreadFile, Judged, Stage, Word}
+use Rattle.wast_run.proofs.Common.{Bor, TrapKind, Value, file_told, long_file_told, Contents, HasFile, HasLongFile, Name, Told, Tells}
+use Rattle.wast_run.proofs.Common.{Module, most_module_bytes, FileVerdict, Accepted, Invalid, Fits, WasmRun, named_of, ModuleFile}
+use Rattle.wast_run.proofs.Common.{seen_call, Call, Agrees, says_invalid, says_malformed, tree_of, Asserts, Comes, IsFile, IsTimely, Joins}
+use Rattle.wast_run.proofs.Common.{Keeps, Setting, accepted_tree, holds, is_invalid, is_malformed, listed, set_at, listed_call}
+use Rattle.wast_run.proofs.Common.{listed_calls, HasRun, setting_of, Judged, Stage, Word}
 use Rattle.wasm_spelling.specs.declared.fault.Cause.{Cause}
 use Rattle.wasm_spelling.specs.declared.fault.Which.{Which}
 use Rattle.wasm_spelling.specs.declared.fault.ReadFault.TheVariants as fault
@@ -56,10 +56,6 @@ long_file told name has m tells =
     let long = long_file_told told m name most_module_bytes tells has in
     (None, (long.0, long.1, long.2), record { tree = refl; invalid = refl; malformed = refl })
 
-pub absent_file : (told : Told) (name : List ℕ) (before after : ℕ) (named : Option Name) → HasNoFile told name
-    → IsUnreadFile told name before after named
-absent_file told name before after named has = inr (no_file_told told name has)
-
 pub invalid_word : (told : Told) (name : List ℕ) (j : Judged)
     → Tells told (λ contents. (verdict : Option FileVerdict) × IsFile contents name verdict × Agrees j verdict)
     → Tells told (λ contents. (verdict : Option FileVerdict) × IsFile contents name verdict
@@ -82,11 +78,8 @@ pub file_accepted : (told : Told) (at after : Setting) (file : ModuleFile) (file
     → Tells told (λ contents. Comes contents 0 at (script.Module file) w after)
 file_accepted told at after file filename name j tree w filename_is name_is is said joins m tells =
     let s = said m tells in
-    let tree_is = s.2.tree ∙ ap tree_of is in (
-      s.0,
-      subst (λ n. IsFile m n s.0) filename_is s.1,
-      subst (λ n. Joins at n (accepted_tree s.0) w after) name_is (subst (λ t. Joins at name t w after) (sym tree_is) joins),
-    )
+    let here = subst (λ t. Joins at name t w after) (sym (s.2.tree ∙ ap tree_of is)) joins in
+    (s.0, subst (λ n. IsFile m n s.0) filename_is s.1, subst (λ n. Joins at n (accepted_tree s.0) w after) name_is here)
 
 module _ (contents : Contents) (at after : Setting) where
   pub module_refused : (file : ModuleFile) (j : Judged) → tree_of j ≡ None → after ≡ at
@@ -94,16 +87,6 @@ module _ (contents : Contents) (at after : Setting) where
       → Comes contents 0 at (script.Module file) word.Refused after
   module_refused file j none same (verdict, is_file, agrees) =
       (verdict, is_file, subst (λ t. Joins at file.name t word.Refused after) (sym (agrees.tree ∙ none)) (refl, same))
-
-  pub invalid_comes : (steps : ℕ) (file : Name) (w : Word) → after ≡ at
-      → (verdict : Option FileVerdict) × IsFile contents file verdict × (w ≡ holds (is_invalid verdict))
-      → Comes contents steps at (script.AssertInvalid file) w after
-  invalid_comes steps file w same (verdict, is_file, is) = (verdict, is_file, is, same)
-
-  pub malformed_comes : (steps : ℕ) (file : Name) (w : Word) → after ≡ at
-      → (verdict : Option FileVerdict) × IsFile contents file verdict × (w ≡ holds (is_malformed verdict))
-      → Comes contents steps at (script.AssertMalformed file) w after
-  malformed_comes steps file w same (verdict, is_file, is) = (verdict, is_file, is, same)
 
 -- ---- calls
 

@@ -1,9 +1,10 @@
 -- The worked script: what its text says, what the files hold, and the word that each command comes to.
-use Rattle.wast_run.proofs.Common.{◌≡◌, ℕ, zero, suc, List, [], ◌∷◌, length, Some, None, codes, Option, MatchOption, refl, ap, ◌∙◌, subst}
-use Rattle.wast_run.proofs.Common.{inl, inr, arith, leb-true, get, AllByRecursion, I32, Contents, extended, Module, most_module_bytes}
-use Rattle.wast_run.proofs.Common.{Accepted, IsLinked, ModuleFunc, NamedModule, Fits, Line, Command, Usage, IsScript, most_script_bytes}
-use Rattle.wast_run.proofs.Common.{IsJob, IsJobBehind, Reported, Reports, Stops, AreWords, AreWordsInTime, Comes, EndsWith, Setting}
-use Rattle.wast_run.proofs.Common.{at_first, listed, report_of, report_status, set_at, modules_run, units_run, Word}
+use Rattle.wast_run.proofs.Common.{◌≡◌, ℕ, zero, suc, List, [], ◌∷◌, length, drop, Some, codes, Option, MatchOption, refl, ap, ◌∙◌}
+use Rattle.wast_run.proofs.Common.{subst, inl, inr, arith, leb-true, none-some, same_Some, get, AllByRecursion, I32, Contents, extended}
+use Rattle.wast_run.proofs.Common.{Module, Accepted, most_module_bytes, IsLinked, ModuleFunc, NamedModule, Fits, Line, Command, Usage}
+use Rattle.wast_run.proofs.Common.{IsScript, IsJob, most_script_bytes, IsJobBehind, Reported, Reports, Stops, AreWords, AreWordsInTime}
+use Rattle.wast_run.proofs.Common.{Comes, EndsWith, Lead, Setting, at_first, listed, report_of, report_status, set_at, modules_run}
+use Rattle.wast_run.proofs.Common.{units_run, Word}
 use Rattle.std.specs.Fmt.{digits}
 use Rattle.clap.proofs.OnLiterals.{clap_on_literals}
 use Rattle.w2c_base.specs.declared.value.ValType.TheVariants as type
@@ -26,7 +27,7 @@ use Rattle.wast_run.specs.Example.{two_json, two_report, two_wasm, two_words}
 use Rattle.wasm_spelling.proofs.WorkedModule.{two_spelled, two_tree}
 use Rattle.wasm_typing.specs.ModuleFaults.{module_faults}
 use Rattle.wasm_typing.specs.Verdict.{IsValid}
-use Rattle.wast_run.proofs.Leads.{lead_plain}
+use Rattle.wast_run.proofs.PartLaws.{lead_plain}
 use Rattle.wast_run.proofs.OneReport.{one_report}
 
 -- ---- the words, and the commands
@@ -83,15 +84,9 @@ alone = record { modules = two_named ∷ []; kept = [] }
 abbrev called : Setting
 called = record { modules = two_named ∷ []; kept = listed two_call ∷ [] }
 
-some_same : (m n : Module) → ◌≡◌ {A = Option Module} (Some m) (Some n) → m ≡ n
-some_same m n e = cc
-
-none_some : (m : Module) → ◌≡◌ {A = Option Module} None (Some m) → ⊥
-none_some m e = cc
-
 no_imports : (p : ℕ) (m : Module) → numbered (set_at alone) p ≡ Some m → AllByRecursion (Resolves (set_at alone) p) m.imports
-no_imports zero m is = subst (λ (n : Module). AllByRecursion (Resolves (set_at alone) 0) n.imports) (some_same two_tree m is) tt
-no_imports (suc p) m is = absurd (none_some m is)
+no_imports zero m is = subst (λ (n : Module). AllByRecursion (Resolves (set_at alone) 0) n.imports) (same_Some two_tree m is) tt
+no_imports (suc p) m is = absurd (none-some m is)
 
 two_linked : IsLinked (set_at alone)
 two_linked = record { at_most_16 = omega arith; names_differ = (tt, tt); functions_differ = tt; imports_resolve = no_imports }
@@ -131,22 +126,17 @@ unfolding digits
 five_report = refl
 
 first_holds : (contents : Contents) → Comes contents 100 alone (script.AssertReturn two_call (Some (I32 42))) word.Ok alone
-first_holds contents = (
-  refl,
-  inl (two_fits, inr (not_spent (units_run (set_at alone) (listed two_call ∷ []) 100).outcome one_ends, inl (one_gives, refl))),
-)
+first_holds contents =
+    let over = not_spent (units_run (set_at alone) (listed two_call ∷ []) 100).outcome one_ends in
+    (refl, inl (two_fits, inr (over, inl (one_gives, refl))))
 
 call_kept : (contents : Contents) → Comes contents 100 alone (script.Invoke two_call) word.Ok called
 call_kept contents = inl (two_fits, (refl, refl))
 
 second_holds : (contents : Contents) → Comes contents 100 called (script.AssertReturn two_call (Some (I32 42))) word.Ok called
-second_holds contents = (
-  refl,
-  inl (
-    two_fits,
-    inr (not_spent (units_run (set_at alone) (listed two_call ∷ listed two_call ∷ []) 100).outcome both_end, inl (both_give, refl)),
-  ),
-)
+second_holds contents =
+    let over = not_spent (units_run (set_at alone) (listed two_call ∷ listed two_call ∷ []) 100).outcome both_end in
+    (refl, inl (two_fits, inr (over, inl (both_give, refl))))
 
 module _ (contents : Contents) (script_there : get contents (codes "examples/two.json") ≡ Some two_json)
     (module_there : get contents (codes "examples/two.wasm") ≡ Some two_wasm) where
@@ -158,39 +148,21 @@ module _ (contents : Contents) (script_there : get contents (codes "examples/two
   )
 
   script_is_none : Comes contents 100 called (script.AssertMalformed (codes "examples/two.json")) word.Ok called
-  script_is_none = (
-    Some (Unread (fault.Malformed 0 cause.BadMagic)),
-    (two_json, script_there, (leb-true (length two_json) most_module_bytes refl, no_module)),
-    refl,
-    refl,
-  )
+  script_is_none =
+      let short = leb-true (length two_json) most_module_bytes refl in
+      (Some (Unread (fault.Malformed 0 cause.BadMagic)), (two_json, script_there, (short, no_module)), refl, refl)
 
   five_are : AreWords contents 100 two_commands five
-  five_are = (
-    called,
-    (
-      word.Ok,
-      word.Ok ∷ word.Ok ∷ word.Ok ∷ word.Ok ∷ [],
-      alone,
-      module_joins,
-      (
-        word.Ok,
-        word.Ok ∷ word.Ok ∷ word.Ok ∷ [],
-        alone,
-        first_holds contents,
-        (
-          word.Ok,
-          word.Ok ∷ word.Ok ∷ [],
-          called,
-          call_kept contents,
-          (word.Ok, word.Ok ∷ [], called, second_holds contents, (word.Ok, [], called, script_is_none, (refl, refl), refl), refl),
-          refl,
-        ),
-        refl,
-      ),
-      refl,
-    ),
-  )
+  five_are =
+      let fifth : Lead contents 100 called (drop 4 two_commands) (drop 4 five) called =
+      (word.Ok, [], called, script_is_none, (refl, refl), refl) in
+      let fourth : Lead contents 100 called (drop 3 two_commands) (drop 3 five) called =
+      (word.Ok, drop 4 five, called, second_holds contents, fifth, refl) in
+      let third : Lead contents 100 alone (drop 2 two_commands) (drop 2 five) called =
+      (word.Ok, drop 3 five, called, call_kept contents, fourth, refl) in
+      let second : Lead contents 100 alone (drop 1 two_commands) (drop 1 five) called =
+      (word.Ok, drop 2 five, alone, first_holds contents, third, refl) in
+      (called, (word.Ok, drop 1 five, alone, module_joins, second, refl))
 
   -- ---- what the words ask for
 

@@ -1,6 +1,6 @@
 -- What words ask for is one thing: a report on one list of commands, or reasons of one status.
 use Rattle.wast_run.proofs.Common.{◌≡◌, ℕ, ◌≢◌, List, Some, None, Option, MatchOption, sym, refl, ap, ◌∙◌, get, Contents, Name, Line}
-use Rattle.wast_run.proofs.Common.{line_of, Command, Reason, Refused, Unread, Usage, fault_status, status_of, IsFault, IsScript}
+use Rattle.wast_run.proofs.Common.{line_of, Command, Reason, Refused, Unread, Usage, status_of, IsFault, IsScript}
 use Rattle.wast_run.proofs.Common.{ScriptFault, IsJob, IsJobBehind, Job, Reports, Stops}
 use Rattle.wast_script.specs.declared.fault.ScriptFault.TheVariants as fault
 
@@ -23,17 +23,14 @@ by_line words m a b P without behind = go (line_of words)
     go None first second = without first second
     go (Some line) first second = behind line (get m line.script) first second
 
-pub fault_status_is : (why : ScriptFault) → why ≢ fault.Memory → fault_status why ≡ 2
-fault_status_is fault.Memory not = absurd (not refl)
-fault_status_is _ not = refl
-
 abbrev reason_of_job : Job → Reason
 reason_of_job (Stops why) = why
 reason_of_job (Reports steps commands) = Usage
 
 -- a script that is refused has status 2
 refused_status : (line : Line) (text : List ℕ) (why : Reason) → IsJobBehind line (Some text) (Stops why) → status_of why ≡ 2
-refused_status line text (Refused why) job = fault_status_is why job.1
+refused_status line text (Refused fault.Memory) job = absurd (job.1 refl)
+refused_status line text (Refused _) job = refl
 refused_status line text _ job = absurd job
 
 pub one_status : (words : List Name) (m : Contents) (a b : Reason) → IsJob words m (Stops a) → IsJob words m (Stops b)

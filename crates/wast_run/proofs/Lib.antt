@@ -5,19 +5,14 @@ mod Lists
 -- Words, and their lines
 mod WordLines
 -- Commands one behind another, and parts of a report
-mod Leads
 mod PartLaws
 -- One report for commands, of which a part is a prefix
 mod OneReport
 mod ReportStops
--- A set that grows
-mod Growing
 -- Runs of sessions without hosts, and of the units of a linked set
-mod Kept
 mod Sessions
 mod Comes
 mod JoinedUnits
-mod Units
 -- What a run says of an assertion
 mod Assertions
 -- A stage with one module or one call more

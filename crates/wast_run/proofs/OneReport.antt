@@ -8,7 +8,7 @@ use Rattle.wast_run.proofs.Common.{command_line, holds, is_invalid, is_malformed
 use Rattle.wast_run.proofs.Common.{total_line, Word}
 use Rattle.wasm_valid.proofs.Files.{one_file_verdict}
 use Rattle.wast_script.specs.Commands as script
-use Rattle.wast_run.proofs.Leads.{lead_plain}
+use Rattle.wast_run.proofs.PartLaws.{lead_plain}
 
 -- two things that are said by one choice are said in the same case of it
 same_case : (P A B C D G : Type 0) → (A → C → G) → (B → D → G) → Where P A B → Where P C D → G

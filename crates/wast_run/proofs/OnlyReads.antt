@@ -1,14 +1,12 @@
 -- Through the files pass reads alone: of the script, and of files that its commands name.
 use Rattle.wast_run.proofs.Common.{◌≡◌, ℕ, ◌⊎◌, List, [], ◌∷◌, ◌++◌, Some, None, Ok, Err, Option, MatchOption, sym, refl, ◌∙◌, subst, inl}
-use Rattle.wast_run.proofs.Common.{inr, append_assoc, append-nil, AllByRecursion, all_append, passed_so, Name, Event, Passes, FileVerdict}
-use Rattle.wast_run.proofs.Common.{Line, line_of, Command, Reason, Refused, Unread, Unwritten, Usage, WantOfMemory, Job, Reports, Stops}
-use Rattle.wast_run.proofs.Common.{IsNamed, file_of, Answer, AreReadsFor, ComesOver, DoesJob, DoesLine, Ending, EndsSo, IsJobBy, IsReadAs}
-use Rattle.wast_run.proofs.Common.{IsReadOf, LastReads, LeadOver, OnlyReads, ReadsNext, ReportsOver, WantsMemory, module_read, Setting}
-use Rattle.wast_run.proofs.Common.{at_first, Word}
+use Rattle.wast_run.proofs.Common.{inr, append_assoc, append-nil, AllByRecursion, all_append, Name, Event, Passes, FileVerdict, Line}
+use Rattle.wast_run.proofs.Common.{line_of, Command, Reason, Unread, Unwritten, Usage, WantOfMemory, Job, Reports, Stops, IsNamed, file_of}
+use Rattle.wast_run.proofs.Common.{Answer, AreReadsFor, ComesOver, DoesJob, DoesLine, Ending, EndsSo, IsJobBy, IsReadAs, IsReadOf}
+use Rattle.wast_run.proofs.Common.{LastReads, LeadOver, OnlyReads, ReadsNext, ReportsOver, WantsMemory, module_read, Setting, at_first}
+use Rattle.wast_run.proofs.Common.{Word}
 use Rattle.w2c_io.specs.declared.answers.ReadAnswer.TheVariants as reading
-use Rattle.wast_script.specs.declared.fault.ScriptFault.TheVariants as fault
 use Rattle.wast_script.specs.Commands as script
-use Rattle.wast_run.proofs.JobLaws.{no_report_stops}
 
 module _ (all : List Command) where
   abbrev AreReads : List Event → Type 0
@@ -74,13 +72,8 @@ job_reads line (Ok text) (Stops why) old new ending events by (ends, same, none)
 job_reads line (Ok text) (Reports steps commands) old new ending events by does =
     inr (commands, by.0, report_reads commands steps old new ending events does)
 job_reads line (Err why) (Stops reason) old new ending events by (ends, same, none) = none
-job_reads line (Err reading.Absent) (Reports steps commands) old new ending events by does =
-    absurd (no_report_stops steps commands (Unread line.script) by)
-job_reads line (Err reading.Failed) (Reports steps commands) old new ending events by does =
-    absurd (no_report_stops steps commands (Unread line.script) by)
-job_reads line (Err reading.TooLong) (Reports steps commands) old new ending events by does =
-    absurd (no_report_stops steps commands (Refused fault.TooLong) by)
 job_reads line (Err reading.Memory) (Reports steps commands) old new ending events by does = absurd by
+job_reads line (Err _) (Reports steps commands) old new ending events by does = absurd cc
 
 no_reads : (answer : Answer) → AreReadsFor answer []
 no_reads (Ok text) = inl refl
@@ -107,5 +100,5 @@ only_reads words old new ending events ends = by (line_of words) refl ends
 
 pub ends_with_reads : (trace trace' : List Event) (words : List Name) (old new : Option (List ℕ)) (ending : Ending)
     → Passes trace trace' (EndsSo words old new ending) → Passes trace trace' (OnlyReads words)
-ends_with_reads trace trace' words old new ending =
-    passed_so trace trace' (EndsSo words old new ending) (OnlyReads words) (only_reads words old new ending)
+ends_with_reads trace trace' words old new ending (events, called, ends) =
+    (events, called, only_reads words old new ending events ends)

@@ -1,15 +1,61 @@
--- Parts of a report: what a stream has gained in the midst of the commands.
-use Rattle.wast_run.proofs.Common.{◌≡◌, ℕ, suc, ◌+◌, List, [], ◌∷◌, ◌++◌, length, if◌then◌else◌, ◌==◌, Some, None, Option, sym, refl, ap}
-use Rattle.wast_run.proofs.Common.{◌∙◌, subst, inl, inr, append_assoc, append-nil, get, AllByRecursion, Contents, IsPrefix, Name, Told}
-use Rattle.wast_run.proofs.Common.{extended, SaysPart, Tells, extended_twice, none_written, prefix_behind, prefix_in_front}
-use Rattle.wast_run.proofs.Common.{prefix_of_itself, whole_behind, Command, HasItsFile, IsPart, IsPartOfLines, file_of, lines_before}
-use Rattle.wast_run.proofs.Common.{LeadInTime, Setting, at_first, command_line, is_ok, lines_of, ok_count, total_line, HasGained}
-use Rattle.wast_run.proofs.Common.{HasReported, IsBehind, TellsCommand, TellsPart, Word}
+-- The words of commands, one command more; and parts of a report: what a stream has gained in the midst of the commands.
+use Rattle.wast_run.proofs.Common.{◌≡◌, ℕ, suc, ◌≢◌, List, [], ◌∷◌, ◌++◌, length, Some, None, Option, refl, ap, ◌∙◌, subst, same_Some, get}
+use Rattle.wast_run.proofs.Common.{AllByRecursion, Contents, Name, FileVerdict, Command, HasItsFile, Comes, IsFile, IsTimely, Lead}
+use Rattle.wast_run.proofs.Common.{LeadInTime, Setting, Word, ◌+◌, if◌then◌else◌, ◌==◌, sym, inl, inr, append_assoc, append-nil, IsPrefix}
+use Rattle.wast_run.proofs.Common.{Told, extended, SaysPart, Tells, extended_twice, prefix_behind, prefix_in_front, prefix_of_itself}
+use Rattle.wast_run.proofs.Common.{whole_behind, IsPart, IsPartOfLines, file_of, lines_before, at_first, command_line, is_ok, lines_of}
+use Rattle.wast_run.proofs.Common.{ok_count, total_line, HasGained, HasReported, IsBehind, TellsCommand, TellsPart}
+use Rattle.wast_script.specs.Commands as script
 use Rattle.wast_run.proofs.WordLines.{count_more, line_more, lines_in_front}
-use Rattle.wast_run.proofs.Leads.{lead_length, lead_more, lead_plain, lead_there}
 
-pub behind_none : (contents : Contents) (steps : ℕ) (old : Option (List ℕ)) → IsBehind contents steps [] at_first old old 0
-behind_none contents steps old = record { words = []; lead = (refl, refl); written = none_written old; counted = refl }
+module _ (contents : Contents) (steps : ℕ) where
+  pub lead_more : (at : Setting) (front : List Command) (words : List Word) (between after : Setting) (command : Command) (w : Word)
+      → LeadInTime contents steps at front words between
+      → Comes contents steps between command w after × IsTimely steps between command w
+      → LeadInTime contents steps at (front ++ command ∷ []) (words ++ w ∷ []) after
+  lead_more at [] words between after command w lead comes =
+      let here = subst (λ s. Comes contents steps s command w after × IsTimely steps s command w) lead.1 comes in
+      (w, [], after, here, (refl, refl), ap (λ l. l ++ w ∷ []) lead.0)
+  lead_more at (c ∷ front) words between after command w (v, others, next, first, later, is) comes =
+      (v, others ++ w ∷ [], next, first, lead_more next front others between after command w later comes, ap (λ l. l ++ w ∷ []) is)
+
+  -- whether timely or not
+  pub lead_plain : (at : Setting) (front : List Command) (words : List Word) (after : Setting)
+      → LeadInTime contents steps at front words after → Lead contents steps at front words after
+  lead_plain at [] words after lead = lead
+  lead_plain at (c ∷ front) words after (v, others, next, first, later, is) =
+      (v, others, next, first.0, lead_plain next front others after later, is)
+
+  pub lead_length : (at : Setting) (front : List Command) (words : List Word) (after : Setting)
+      → LeadInTime contents steps at front words after → length words ≡ length front
+  lead_length at [] words after lead = ap length lead.0
+  lead_length at (c ∷ front) words after (v, others, next, first, later, is) =
+      ap length is ∙ ap suc (lead_length next front others after later)
+
+file_there : (contents : Contents) (file : Name) (verdict : Option FileVerdict) → IsFile contents file verdict → (name : Name)
+    → Some file ≡ Some name → get contents name ≢ None
+file_there contents file verdict (bytes, held, judged) name same none =
+    let e : get contents file ≡ None = ap (get contents) (same_Some file name same) ∙ none in absurd cc
+
+-- a command that comes to a word has its file
+pub has_its_file : (contents : Contents) (steps : ℕ) (at : Setting) (command : Command) (w : Word) (after : Setting)
+    → Comes contents steps at command w after → HasItsFile contents command
+has_its_file contents steps at (script.Module file) w after comes = file_there contents file.filename comes.0 comes.1
+has_its_file contents steps at (script.AssertInvalid file) w after comes = file_there contents file comes.0 comes.1
+has_its_file contents steps at (script.AssertMalformed file) w after comes = file_there contents file comes.0 comes.1
+has_its_file contents steps at _ w after comes = λ name is. absurd cc
+
+pub lead_there : (contents : Contents) (steps : ℕ) (at : Setting) (front : List Command) (words : List Word) (after : Setting)
+    → Lead contents steps at front words after → AllByRecursion (HasItsFile contents) front
+lead_there contents steps at [] words after lead = tt
+lead_there contents steps at (c ∷ front) words after (v, others, next, first, later, is) =
+    (has_its_file contents steps at c v next first, lead_there contents steps next front others after later)
+
+-- of commands that all have their files, each one has
+pub there_at : (contents : Contents) (front rest : List Command) (command : Command)
+    → AllByRecursion (HasItsFile contents) (front ++ command ∷ rest) → HasItsFile contents command
+there_at contents [] rest command all = all.0
+there_at contents (x ∷ front) rest command all = there_at contents front rest command all.1
 
 pub behind_more : (contents : Contents) (steps index : ℕ) (front : List Command) (command : Command) (w : Word) (at after : Setting)
     (old now new : Option (List ℕ)) (ok count : ℕ) → length front ≡ index → count ≡ (if is_ok w then suc ok else ok)
@@ -30,14 +76,11 @@ all_reported : (contents : Contents) (steps : ℕ) (commands : List Command) (at
     → HasReported contents steps commands old new (ok == length commands)
 all_reported contents steps commands at old now new ok behind gained =
     let words = behind.words in
-    let many = lead_length contents steps at_first commands words at behind.lead in (
-      words,
-      (at, behind.lead),
-      whole_behind old now new (lines_of words) (total_line (length commands) ok) behind.written gained
-          ∙ ap (λ line. extended old (lines_of words ++ line))
-          (ap (λ n. total_line n ok) (sym many) ∙ ap (total_line (length words)) behind.counted),
-      ap (λ n. n == length commands) behind.counted ∙ ap (λ n. ok_count words == n) (sym many),
-    )
+    let many = lead_length contents steps at_first commands words at behind.lead in
+    let line_is = ap (λ n. total_line n ok) (sym many) ∙ ap (total_line (length words)) behind.counted in
+    let written = whole_behind old now new (lines_of words) (total_line (length commands) ok) behind.written gained
+    ∙ ap (λ line. extended old (lines_of words ++ line)) line_is in
+    (words, (at, behind.lead), written, ap (λ n. n == length commands) behind.counted ∙ ap (λ n. ok_count words == n) (sym many))
 
 -- all lines, and the last
 pub whole_report : (told : Told) (steps : ℕ) (commands : List Command) (old now new : Option (List ℕ)) (ok total : ℕ)
@@ -67,11 +110,8 @@ module _ (contents : Contents) (steps : ℕ) (commands front rest : List Command
   pub gained_lines : (at : Setting) (old now : Option (List ℕ)) (ok : ℕ) → IsBehind contents steps front at old now ok
       → HasGained contents steps commands old now
   gained_lines at old now ok behind =
-      let words = behind.words in (
-        lines_of words,
-        part_of words at (lines_of words) behind.lead (prefix_of_itself (lines_of words)),
-        behind.written,
-      )
+      let lines = lines_of behind.words in
+      (lines, part_of behind.words at lines behind.lead (prefix_of_itself lines), behind.written)
 
 -- the lines so far, and a part of the next
 pub gained_part : (contents : Contents) (steps : ℕ) (commands front rest : List Command) (command : Command) (index : ℕ)

@@ -4,8 +4,7 @@ use Rattle.wast_run.proofs.Common.{Name, Told, SaysPart, Tells, Command, Reason,
 use Rattle.wast_run.proofs.Common.{seen_commands, Comes, IsTimely, Setting, at_first, command_line, total_line, HasGained, StopsLine}
 use Rattle.wast_run.proofs.Common.{StopsReport, IsBehind, StopsTelling, Word}
 use Rattle.wast_script.specs.declared.command.Command.{Command as CodeCommand}
-use Rattle.wast_run.proofs.Leads.{lead_plain, lead_there}
-use Rattle.wast_run.proofs.PartLaws.{gained_lines, gained_part, gained_total}
+use Rattle.wast_run.proofs.PartLaws.{gained_lines, gained_part, gained_total, lead_plain, lead_there}
 
 -- a command has come to its word, and its line is not written
 pub line_stops : (told : Told) (steps index : ℕ) (at : Setting) (command : Command) (w : Word) (after : Setting) (reads reads' : ℕ)

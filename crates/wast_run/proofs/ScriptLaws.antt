@@ -30,8 +30,7 @@ of_module (Some name) (Some filename) c is = by (is_module_name name) refl is
         → option_map script.Module (if b then Some (record { name = name; filename = filename }) else None) ≡ Some c → HasModuleName c
     by true named is = subst HasModuleName (same_Some _ c is) (long_enough (length name) named)
     by false named is = absurd (none-some c is)
-of_module (Some name) None c is = absurd (none-some c is)
-of_module None filename c is = absurd (none-some c is)
+of_module _ _ c is = absurd (none-some c is)
 
 of_return : (call : Option Call) (expected : Option (Option Value)) (c : Command) → return_with call expected ≡ Some c → HasModuleName c
 of_return (Some call) (Some expected) c is = subst HasModuleName (same_Some (script.AssertReturn call expected) c is) tt
@@ -57,23 +56,16 @@ of_text : (d : Data) (text : Option (List ℕ)) (c : Command)
     → option_and_then (command_by d) (option_and_then kind_named text) ≡ Some c → HasModuleName c
 of_text d None c is = absurd (none-some c is)
 of_text d (Some text) c is =
-    of_first (command_by d) (λ kind. bytes_eq (kind_text kind) text) kinds (
-      of_module (text_in (codes "name") d) (text_in (codes "filename") d),
-      (
-        of_found script.Invoke (λ call. tt) (call_in d),
-        (
-          of_return (call_in d) (expected_in d),
-          (
-            of_trap (call_in d) (cause_in d),
-            (
-              of_found script.AssertInvalid (λ file. tt) (text_in (codes "filename") d),
-              (of_found script.AssertMalformed (λ file. tt) (text_in (codes "filename") d), tt),
-            ),
-          ),
-        ),
-      ),
-    )
-    c is
+    let call = call_in d in
+    let file = text_in (codes "filename") d in
+    let joins = of_module (text_in (codes "name") d) file in
+    let invokes = of_found script.Invoke (λ call. tt) call in
+    let returns = of_return call (expected_in d) in
+    let traps = of_trap call (cause_in d) in
+    let invalid = of_found script.AssertInvalid (λ file. tt) file in
+    let malformed = of_found script.AssertMalformed (λ file. tt) file in
+    of_first (command_by d) (λ kind. bytes_eq (kind_text kind) text) kinds
+    (joins, (invokes, (returns, (traps, (invalid, (malformed, tt)))))) c is
 
 all_named : (ds : List Data) (commands : List Command) → all_given command_of ds ≡ Some commands → AllByRecursion HasModuleName commands
 all_named [] commands is = subst (AllByRecursion HasModuleName) (same_Some [] commands is) tt

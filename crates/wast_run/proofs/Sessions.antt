@@ -14,7 +14,7 @@ use Rattle.crun.specs.declared.outcome.Outcome.{Outcome}
 use Rattle.crun.specs.declared.outcome.Outcome.TheVariants as outcome
 use Rattle.crun.specs.declared.outcome.Standing.TheVariants as standing
 use Rattle.crun.specs.Sessions.{objects_of, program_of, standing_of, told_by, IsEnd, IsLast, IsOutcome, Stands, State}
-use Rattle.wast_run.proofs.Kept.{front_count, front_split}
+use Rattle.wast_run.proofs.Lists.{front_count, front_split}
 use Rattle.wast_run.specs.Ran.{stop_in, CameTo, IsBehind, IsOutcomeOf, RunsTheSame}
 
 abbrev pub seen : Bor Call → SymbolCall

@@ -1,18 +1,17 @@
 -- What the work's stop means for the status, and for what stands.
-use Rattle.wast_run.proofs.Common.{◌≡◌, ℕ, ◌<◌, ◌≤◌, Bool, true, false, ◌≢◌, ◌⊎◌, List, [], ◌∷◌, ◌++◌, length, if◌then◌else◌, ◌==◌, Some}
-use Rattle.wast_run.proofs.Common.{None, Option, MatchOption, sym, refl, ◌∙◌, subst, inl, inr, append-nil, arith, same_Some, get}
-use Rattle.wast_run.proofs.Common.{AllByRecursion, Rose, Contents, Name, Tells, none_written, prefix_of_itself, line_of, Command, Reason}
-use Rattle.wast_run.proofs.Common.{Refused, Unread, Unwritten, Usage, WantOfMemory, fault_status, status_of, ScriptFault, Answers}
-use Rattle.wast_run.proofs.Common.{GainedPart, GainsPrefix, IsAnswered, IsJob, IsJobBehind, IsUnread, Refuses, Reported, ReportedPart}
-use Rattle.wast_run.proofs.Common.{Reports, Stops, GainsLinesBefore, HasItsFile, IsFirstMissing, IsNamed, IsPart, file_of, LeadInTime}
-use Rattle.wast_run.proofs.Common.{Setting, at_first, ok_count, report_of, StopsWork, Word, GivesFirst}
+use Rattle.wast_run.proofs.Common.{◌≡◌, ℕ, ◌≤◌, Bool, true, false, ◌≢◌, ◌⊎◌, List, [], ◌∷◌, ◌++◌, length, if◌then◌else◌, ◌==◌, Some, None}
+use Rattle.wast_run.proofs.Common.{Option, MatchOption, sym, refl, ◌∙◌, subst, inl, inr, append-nil, arith, same_Some, get, AllByRecursion}
+use Rattle.wast_run.proofs.Common.{Rose, Contents, Name, Tells, none_written, prefix_of_itself, line_of, Command, Reason, Refused, Unread}
+use Rattle.wast_run.proofs.Common.{Unwritten, Usage, WantOfMemory, fault_status, status_of, ScriptFault, Answers, GainedPart, GainsPrefix}
+use Rattle.wast_run.proofs.Common.{IsAnswered, IsJob, IsJobBehind, IsUnread, Refuses, Reported, ReportedPart, Reports, Stops}
+use Rattle.wast_run.proofs.Common.{GainsLinesBefore, HasItsFile, IsFirstMissing, IsNamed, IsPart, file_of, LeadInTime, Setting, at_first}
+use Rattle.wast_run.proofs.Common.{ok_count, report_of, StopsWork, Word, GivesFirst}
 use Rattle.w2c_io.specs.declared.files.Files.{Ghosts as Files}
 use Rattle.w2c_io.specs.declared.sink.Sink.{Ghosts as Sink}
 use Rattle.wast_script.specs.declared.fault.ScriptFault.TheVariants as fault
 use Rattle.wast_run.proofs.JobLaws.{AreApart, IsOneScript, job_apart, one_list, one_status}
-use Rattle.wast_run.proofs.Leads.{lead_plain, lead_there, there_at}
+use Rattle.wast_run.proofs.PartLaws.{lead_plain, lead_there, part_before, there_at}
 use Rattle.wast_run.proofs.OneReport.{part_is_prefix}
-use Rattle.wast_run.proofs.PartLaws.{part_before}
 
 -- the whole report is a part of it
 pub whole_part : (m : Contents) (steps : ℕ) (commands : List Command) (all : List Word) (after : Setting)
@@ -34,13 +33,10 @@ zero_or_one false status is = inr (inl is)
 between : (n : ℕ) → 2 ≤ n → n ≤ 5 → (2 ≤ n) × (n ≤ 5)
 between n low high = (low, high)
 
-fault_between : (why : ScriptFault) → (2 ≤ fault_status why) × (fault_status why ≤ 5)
-fault_between fault.Memory = between 5 (omega arith) (omega arith)
-fault_between _ = between 2 (omega arith) (omega arith)
-
 pub status_between : (why : Reason) → (2 ≤ status_of why) × (status_of why ≤ 5)
 status_between Usage = between 2 (omega arith) (omega arith)
-status_between (Refused why) = fault_between why
+status_between (Refused fault.Memory) = between 5 (omega arith) (omega arith)
+status_between (Refused _) = between 2 (omega arith) (omega arith)
 status_between (Unread file) = between 3 (omega arith) (omega arith)
 status_between Unwritten = between 4 (omega arith) (omega arith)
 status_between WantOfMemory = between 5 (omega arith) (omega arith)
@@ -71,6 +67,11 @@ ends_so why S status wanted (inl is) (inl says) e few = (sym is ∙ e, says)
 ends_so why S status wanted (inr five) says e few = absurd (omega (arith, five, e, few))
 ends_so why S status wanted is (inr five) e few = absurd (omega (arith, five, e, few))
 
+-- words without a reading
+pub job_of_usage : (words : List Name) (m : Contents) → line_of words ≡ None → IsJob words m (Stops Usage)
+job_of_usage words m none =
+    subst (λ o. MatchOption o (Stops Usage ≡ Stops Usage) (λ line. IsJobBehind line (get m line.script) (Stops Usage))) (sym none) refl
+
 module _ {F O : Type 0} (words : List Name) (files : Files F) (out : Sink O) (x y : F) (u v : O) where
   abbrev Gives : Name → List ℕ → Type 0
   Gives = GivesFirst (files.told x) (files.trace x) (files.trace y)
@@ -81,11 +82,6 @@ module _ {F O : Type 0} (words : List Name) (files : Files F) (out : Sink O) (x 
 
   abbrev NotRead : Name → Type 0
   NotRead file = IsUnread words (files.told x) Gives (files.read_faults x) (files.read_faults y) (files.fault_name y) file
-
-  -- words without a reading
-  usage_job : (m : Contents) → line_of words ≡ None → IsJob words m (Stops Usage)
-  usage_job m none =
-      subst (λ o. MatchOption o (Stops Usage ≡ Stops Usage) (λ line. IsJobBehind line (get m line.script) (Stops Usage))) (sym none) refl
 
   -- whatever stops it, the stream has gained a part
   pub stop_part : (why : Reason) → Stopped why → Tells (files.told x) (λ m. GainedPart words m (out.told u) (out.told v))
@@ -150,10 +146,10 @@ module _ {F O : Type 0} (words : List Name) (files : Files F) (out : Sink O) (x 
     -- the answer is that to the job, unless a line was not written or memory was wanting
     answered : (m : Contents) → files.told x ≡ Some m → (Rose (files.read_faults x) (files.read_faults y) → ⊥)
         → Stopped Unwritten ⊎ (status ≡ 5) ⊎ IsAnswered words m status
-    answered m tells no_read = either ends
+    answered m tells no_read = elim ends [ inl is ↦ by why stop is | inr five ↦ inr (inl five) ]
       where
         by : (why : Reason) → Stopped why → status ≡ status_of why → Stopped Unwritten ⊎ (status ≡ 5) ⊎ IsAnswered words m status
-        by Usage stop is = inr (inr (Stops Usage, usage_job m stop.0, is))
+        by Usage stop is = inr (inr (Stops Usage, job_of_usage words m stop.0, is))
         by (Refused why) stop is = inr (inr (Stops (Refused why), stop.0.1 m tells, is))
         by (Unread file) ((to_read, inl faulted), part) is = absurd (no_read faulted.rose)
         by (Unread file) ((to_read, inr (n, tells_n, inl job)), part) is =
@@ -168,10 +164,6 @@ module _ {F O : Type 0} (words : List Name) (files : Files F) (out : Sink O) (x 
             ))
         by Unwritten stop is = inl stop
         by WantOfMemory stop is = inr (inl is)
-
-        either : Ends why status → Stopped Unwritten ⊎ (status ≡ 5) ⊎ IsAnswered words m status
-        either (inl is) = by why stop is
-        either (inr five) = inr (inl five)
 
     pub stop_complete : Tells (files.told x) (λ m. (Rose (files.read_faults x) (files.read_faults y) → ⊥)
         → (Rose (out.faults u) (out.faults v) → ⊥) → (status ≡ 5) ⊎ IsAnswered words m status)
@@ -214,12 +206,9 @@ module _ (words : List Name) (m : Contents) (old new : Option (List ℕ)) where
       same ∙ none_written old,
     )
     gained_before (inr (others, commands, asked, (text, part, gained))) =
-        let same = one_list one words m others steps commands (before ++ command ∷ behind) asked job in (
-          text,
-          part_before m steps before behind command file text names missing
-              (subst (λ s. IsPart m s (before ++ command ∷ behind) text) same.0 (subst (λ cs. IsPart m others cs text) same.1 part)),
-          gained,
-        )
+        let same = one_list one words m others steps commands (before ++ command ∷ behind) asked job in
+        let here = subst (λ s. IsPart m s (before ++ command ∷ behind) text) same.0 (subst (λ cs. IsPart m others cs text) same.1 part) in
+        (text, part_before m steps before behind command file text names missing here, gained)
 
     pub not_reported : (status : ℕ) → Reported words m old new status → ⊥
     not_reported status (others, commands, asked, (all, (after, lead), gained, is)) =
@@ -241,14 +230,13 @@ module _ (apart : AreApart) (one : IsOneScript) (words : List Name) (m : Content
 
   pub reported_always : (status : ℕ) → AllByRecursion (HasItsFile m) commands → (status ≡ 5) ⊎ IsAnswered words m status
       → (status ≡ 0) ⊎ (status ≡ 1) ⊎ (status ≡ 5)
-  reported_always status there came = by (answer_to status came)
-    where
-      by : (status ≡ 5) ⊎ Answers m (Reports steps commands) status → (status ≡ 0) ⊎ (status ≡ 1) ⊎ (status ≡ 5)
-      by (inl five) = inr (inr five)
-      by (inr (inl (file, first, is))) =
-          absurd (there_at m first.front first.rest first.command (subst (AllByRecursion (HasItsFile m)) first.split there)
-          file first.names first.missing)
-      by (inr (inr (all, are, is))) = zero_or_one (ok_count all == length all) status is
+  reported_always status there came = elim (answer_to status came) [
+    | inl five ↦ inr (inr five)
+    | inr (inl (file, first, is)) ↦
+        absurd (there_at m first.front first.rest first.command (subst (AllByRecursion (HasItsFile m)) first.split there)
+        file first.names first.missing)
+    | inr (inr (all, are, is)) ↦ zero_or_one (ok_count all == length all) status is
+  ]
 
   pub missing_always : (status : ℕ) (file : Name) → IsNamed commands file → get m file ≡ None
       → (status ≡ 5) ⊎ IsAnswered words m status → (status ≡ 3) ⊎ (status ≡ 5)
@@ -268,11 +256,9 @@ module _ (one : IsOneScript) (words : List Name) (m : Contents) (old new : Optio
   pub part_gains : GainedPart words m old new → GainsPrefix words m old new
   part_gains (inl same) steps commands all job are = ([], (report_of all, refl), same ∙ none_written old)
   part_gains (inr (others, asked, other, (text, part, gained))) steps commands all job are =
-      let same = one_list one words m others steps asked commands other job in (
-        text,
-        part_is_prefix m steps commands all text are (rw same.0 at (subst (λ commands. IsPart m others commands text) same.1 part)),
-        gained,
-      )
+      let same = one_list one words m others steps asked commands other job in
+      let here = rw same.0 at (subst (λ commands. IsPart m others commands text) same.1 part) in
+      (text, part_is_prefix m steps commands all text are here, gained)
 
   pub report_gains : (status : ℕ) → Reported words m old new status → GainsPrefix words m old new
   report_gains status (others, asked, other, (whole, (behind, in_time), gained, is)) =

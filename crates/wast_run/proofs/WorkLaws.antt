@@ -1,53 +1,27 @@
 -- Why the commands stop, and why a script is refused, as why the work stops.
-use Rattle.wast_run.proofs.Common.{◌≡◌, ℕ, ◌≤◌, Bool, ◌⊎◌, List, if◌then◌else◌, Some, None, Option, sym, refl, ap, ◌∙◌, subst, inl, inr}
-use Rattle.wast_run.proofs.Common.{none-some, get, rose_from, Faulted, Contents, Name, Told, Tells, Line, line_of, Command, Reason, Refused}
-use Rattle.wast_run.proofs.Common.{Unread, Unwritten, Usage, WantOfMemory, IsScript, HasReading, IsJob, IsJobBehind, IsToRead, Job}
-use Rattle.wast_run.proofs.Common.{Reported, ReportedPart, Reports, Stops, IsNamed, HasGained, IsUnreadFile, StopsCommand, StopsFile}
-use Rattle.wast_run.proofs.Common.{StopsReport, StopsScript, StopsWords, StopsWork, HasReported, file_told, HasFile, IsFault, ScriptFault}
-use Rattle.wast_script.specs.declared.fault.ScriptFault.TheVariants as fault
-use Rattle.wast_run.specs.Stopping.{IsUnreadStop, fault_reason}
+use Rattle.wast_run.proofs.Common.{◌≡◌, ℕ, ◌≤◌, Bool, ◌⊎◌, List, if◌then◌else◌, Some, None, sym, refl, ap, ◌∙◌, subst, inl, inr, none-some}
+use Rattle.wast_run.proofs.Common.{get, rose_from, Faulted, Contents, Event, Name, Passes, Tells, Line, line_of, Command, Reason, Refused}
+use Rattle.wast_run.proofs.Common.{Unread, Unwritten, Usage, WantOfMemory, IsScript, GivesFirst, HasReading, IsJob, IsJobBehind, IsToRead}
+use Rattle.wast_run.proofs.Common.{Job, Reported, ReportedPart, Reports, Stops, IsNamed, ReadsScript, HasGained, StopsReport, StopsScript}
+use Rattle.wast_run.proofs.Common.{StopsWords, StopsWork, HasReported}
+use Rattle.w2c_io.specs.declared.files.Files.{Ghosts as Files}
+use Rattle.w2c_io.specs.declared.sink.Sink.{Ghosts as Sink}
+use Rattle.wast_run.proofs.Passing.{first_gives}
 
-pub file_stops : (told : Told) (file : Name) (before after : ℕ) (named : Option Name) (why : Reason)
-    → StopsFile told file before after named why → StopsCommand told (Some file) before after named why
-file_stops told file before after named (Unread name) stop =
-    (ap Some (sym stop.0), subst (λ f. IsUnreadFile told f before after named) (sym stop.0) stop.1)
-file_stops told file before after named WantOfMemory stop = tt
-file_stops told file before after named _ stop = absurd stop
+-- why the work of these words stops, with the files and the stream before it and behind it
+abbrev pub WorkStops : {F O : Type 0} → List Name → Files F → Sink O → F → F → O → O → Reason → Type 0
+WorkStops words files out x y u v why =
+    StopsWork words (files.told x) (GivesFirst (files.told x) (files.trace x) (files.trace y)) (files.read_faults x) (files.read_faults y)
+    (files.fault_name y) (out.told u) (out.told v) (out.faults u) (out.faults v) why
 
--- a file that is not read
-pub unread_stops : (told : Told) (file : Name) (before after : ℕ) (named : Option Name) (why : Reason) → IsUnreadStop file why
-    → IsUnreadFile told file before after named → StopsFile told file before after named why
-unread_stops told file before after named why (inl is) unread = subst (StopsFile told file before after named) (sym is) (refl, unread)
-unread_stops told file before after named why (inr is) unread = subst (StopsFile told file before after named) (sym is) tt
+pub words_stop : {F O : Type 0} (words : List Name) (files : Files F) (out : Sink O) (x : F) (u : O) (why : Reason)
+    → StopsWords words why → WorkStops words files out x x u u why
+words_stop words files out x u Usage stop = (stop, refl)
+words_stop words files out x u WantOfMemory stop = λ m tells. inl refl
+words_stop words files out x u _ stop = absurd stop
 
-pub unread_script_stops : (told : Told) (file : Name) (before after : ℕ) (named : Option Name) (why : Reason) → IsUnreadStop file why
-    → IsUnreadFile told file before after named → StopsScript told file before after named why
-unread_script_stops told file before after named why (inl is) unread =
-    subst (StopsScript told file before after named) (sym is) (refl, unread)
-unread_script_stops told file before after named why (inr is) unread = subst (StopsScript told file before after named) (sym is) tt
-
--- a script that is refused
-pub fault_stops : (told : Told) (file : Name) (before after : ℕ) (named : Option Name) (bytes : List ℕ) (why : ScriptFault)
-    → HasFile told file bytes → IsFault bytes why → StopsScript told file before after named (fault_reason why)
-fault_stops told file before after named bytes fault.Memory has is = tt
-fault_stops told file before after named bytes fault.TooLong has is =
-    (λ e. absurd cc, λ m tells. (bytes, file_told told m file bytes tells has, is))
-fault_stops told file before after named bytes fault.NotJson has is =
-    (λ e. absurd cc, λ m tells. (bytes, file_told told m file bytes tells has, is))
-fault_stops told file before after named bytes fault.NoCommands has is =
-    (λ e. absurd cc, λ m tells. (bytes, file_told told m file bytes tells has, is))
-fault_stops told file before after named bytes (fault.Command number) has is =
-    (λ e. absurd cc, λ m tells. (bytes, file_told told m file bytes tells has, is))
-
-pub words_stop : (words : List Name) (told : Told) (Gives : Name → List ℕ → Type 0) (reads reads' : ℕ) (named : Option Name)
-    (old : Option (List ℕ)) (faults : ℕ) (why : Reason)
-    → StopsWords words why → StopsWork words told Gives reads reads' named old old faults faults why
-words_stop words told Gives reads reads' named old faults Usage stop = (stop, refl)
-words_stop words told Gives reads reads' named old faults WantOfMemory stop = λ m tells. inl refl
-words_stop words told _ reads reads' named old faults _ stop = absurd stop
-
-module _ (words : List Name) (line : Line) (is : line_of words ≡ Some line) (told : Told) (Gives : Name → List ℕ → Type 0) where
-  has_reading : HasReading words
+module _ (words : List Name) (line : Line) (is : line_of words ≡ Some line) where
+  pub has_reading : HasReading words
   has_reading none = none-some line (sym none ∙ is)
 
   -- what a line asks for is what the words ask for
@@ -61,53 +35,63 @@ module _ (words : List Name) (line : Line) (is : line_of words ≡ Some line) (t
   job_of_none : (m : Contents) → get m line.script ≡ None → IsJob words m (Stops (Unread line.script))
   job_of_none m none = job_by_line m _ (subst (λ o. IsJobBehind line o (Stops (Unread line.script))) (sym none) refl)
 
-  to_read : (file : Name)
+  to_read : (Gives : Name → List ℕ → Type 0) (file : Name)
       → (file ≡ line.script)
       ⊎ ((text : List ℕ) × Gives line.script text × (commands : List Command) × IsScript text commands × IsNamed commands file)
       → IsToRead words Gives file
-  to_read file which = rw is which
+  to_read Gives file which = rw is which
 
-  pub script_stops : (reads reads' : ℕ) (named : Option Name) (old : Option (List ℕ)) (faults : ℕ) (why : Reason)
-      → StopsScript told line.script reads reads' named why
-      → StopsWork words told Gives reads reads' named old old faults faults why
-  script_stops reads reads' named old faults (Unread name) (same, inl faulted) =
-      ((to_read name (inl same), inl (subst (λ f. Faulted f reads reads' named) (sym same) faulted)), λ m tells. inl refl)
-  script_stops reads reads' named old faults (Unread name) (same, inr (m, tells, none)) = (
-    (to_read name (inl same), inr (m, tells, inl (rw same (job_of_none m none)))),
-    λ m tells. inl refl,
-  )
-  script_stops reads reads' named old faults (Refused why) (not, faulty) =
-      ((has_reading, λ m tells. let f = faulty m tells in job_of_text m f.0 (Stops (Refused why)) f.1 (f.2, not)), refl)
-  script_stops reads reads' named old faults WantOfMemory stop = λ m tells. inl refl
-  script_stops reads reads' named old faults _ stop = absurd stop
+module _ {F O : Type 0} (words : List Name) (line : Line) (is : line_of words ≡ Some line) (files : Files F) (out : Sink O) (x : F) where
+  pub script_stops : (y : F) (u : O) (why : Reason)
+      → StopsScript (files.told x) line.script (files.read_faults x) (files.read_faults y) (files.fault_name y) why
+      → WorkStops words files out x y u u why
+  script_stops y u (Unread name) (same, inl faulted) =
+      let named = to_read words line is (GivesFirst (files.told x) (files.trace x) (files.trace y)) name (inl same) in
+      let here = subst (λ f. Faulted f (files.read_faults x) (files.read_faults y) (files.fault_name y)) (sym same) faulted in
+      ((named, inl here), λ m tells. inl refl)
+  script_stops y u (Unread name) (same, inr (m, tells, none)) =
+      let named = to_read words line is (GivesFirst (files.told x) (files.trace x) (files.trace y)) name (inl same) in
+      ((named, inr (m, tells, inl (rw same (job_of_none words line is m none)))), λ m tells. inl refl)
+  script_stops y u (Refused why) (not, faulty) =
+      let job = λ (m : Contents) (tells : files.told x ≡ Some m).
+      job_of_text words line is m (faulty m tells).0 (Stops (Refused why)) (faulty m tells).1 ((faulty m tells).2, not) in
+      ((has_reading words line is, job), refl)
+  script_stops y u WantOfMemory stop = λ m tells. inl refl
+  script_stops y u _ stop = absurd stop
 
-  module _ (commands : List Command)
-      (job : Tells told (λ m. IsJob words m (Reports line.steps commands)))
-      (gave : (text : List ℕ) × Gives line.script text × IsScript text commands) where
-    gained : (old new : Option (List ℕ)) → Tells told (λ m. HasGained m line.steps commands old new)
-        → Tells told (λ m. ReportedPart words m old new)
-    gained old new gains m tells = (line.steps, commands, job m tells, gains m tells)
+  -- the script was read, and then the commands were done
+  module _ (y z : F) (u v : O) (commands : List Command)
+      (said : Tells (files.told x) (λ m. (text : List ℕ) × (get m line.script ≡ Some text) × IsScript text commands))
+      (P : List Event → Type 0) (read : Passes (files.trace x) (files.trace y) (ReadsScript (files.told x) line.script commands))
+      (done : Passes (files.trace y) (files.trace z) P) where
+    job : Tells (files.told x) (λ m. IsJob words m (Reports line.steps commands))
+    job m tells = let s = said m tells in job_of_text words line is m s.0 (Reports line.steps commands) s.1 (s.2, refl)
 
-    pub reports : (m : Contents) → told ≡ Some m → (old new : Option (List ℕ)) (all_ok : Bool) (status : ℕ)
-        → HasReported m line.steps commands old new all_ok → status ≡ (if all_ok then 0 else 1) → Reported words m old new status
-    reports m tells old new all_ok status (all, words_are, gained, ok_is) status_is =
+    gained : Tells (files.told x) (λ m. HasGained m line.steps commands (out.told u) (out.told v))
+        → Tells (files.told x) (λ m. ReportedPart words m (out.told u) (out.told v))
+    gained gains m tells = (line.steps, commands, job m tells, gains m tells)
+
+    named : (file : Name) → IsNamed commands file → IsToRead words (GivesFirst (files.told x) (files.trace x) (files.trace z)) file
+    named file is_named =
+        let gave = first_gives (files.trace x) (files.trace y) (files.trace z) (files.told x) line.script commands P read done in
+        to_read words line is (GivesFirst (files.told x) (files.trace x) (files.trace z)) file
+        (inr (gave.0, gave.1, commands, gave.2, is_named))
+
+    pub reports : (m : Contents) → files.told x ≡ Some m → (all_ok : Bool) (status : ℕ)
+        → HasReported m line.steps commands (out.told u) (out.told v) all_ok → status ≡ (if all_ok then 0 else 1)
+        → Reported words m (out.told u) (out.told v) status
+    reports m tells all_ok status (all, words_are, gained, ok_is) status_is =
         (line.steps, commands, job m tells, (all, words_are, gained, status_is ∙ ap (λ b. if b then 0 else 1) ok_is))
 
-    pub report_stops : (start reads reads' : ℕ) (named : Option Name) (old new : Option (List ℕ)) (faults faults' : ℕ) (why : Reason)
-        → start ≤ reads
-        → StopsReport told line.steps commands reads reads' named old new faults faults' why
-        → StopsWork words told Gives start reads' named old new faults faults' why
-    report_stops start reads reads' named old new faults faults' (Unread file) later (is_named, inl faulted, gains) = (
-      (
-        to_read file (inr (gave.0, gave.1, commands, gave.2, is_named)),
-        inl (record { rose = rose_from start reads reads' later faulted.rose; named = faulted.named }),
-      ),
-      λ m tells. inr (gained old new gains m tells),
-    )
-    report_stops start reads reads' named old new faults faults' (Unread file) later (is_named, inr (m, tells, missing), gains) = (
-      (to_read file (inr (gave.0, gave.1, commands, gave.2, is_named)), inr (m, tells, inr (line.steps, commands, job m tells, missing))),
-      λ m tells. inr (gained old new gains m tells),
-    )
-    report_stops start reads reads' named old new faults faults' Unwritten later (rose, gains) = (rose, has_reading, gained old new gains)
-    report_stops start reads reads' named old new faults faults' WantOfMemory later gains = λ m tells. inr (gained old new gains m tells)
-    report_stops start reads reads' named old new faults faults' _ later stop = absurd stop
+    pub report_stops : (why : Reason) → files.read_faults x ≤ files.read_faults y
+        → StopsReport (files.told x) line.steps commands (files.read_faults y) (files.read_faults z) (files.fault_name z) (out.told u)
+        (out.told v) (out.faults u) (out.faults v) why
+        → WorkStops words files out x z u v why
+    report_stops (Unread file) later (is_named, inl faulted, gains) =
+        let rose = rose_from (files.read_faults x) (files.read_faults y) (files.read_faults z) later faulted.rose in
+        ((named file is_named, inl (record { rose = rose; named = faulted.named })), λ m tells. inr (gained gains m tells))
+    report_stops (Unread file) later (is_named, inr (m, tells, missing), gains) =
+        ((named file is_named, inr (m, tells, inr (line.steps, commands, job m tells, missing))), λ m tells. inr (gained gains m tells))
+    report_stops Unwritten later (rose, gains) = (rose, has_reading words line is, gained gains)
+    report_stops WantOfMemory later gains = λ m tells. inr (gained gains m tells)
+    report_stops _ later stop = absurd stop

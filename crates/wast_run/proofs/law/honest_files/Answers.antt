@@ -3,30 +3,20 @@ use Rattle.wast_run.proofs.Honest.{honest_refusal, honest_report, honest_there, 
 use Rattle.wast_run.proofs.law.honest_files.Goals as goal
 
 pub returns : goal.returns
-returns c = record {
-  reported = honest_report;
-  refused = honest_refusal;
-  unread = honest_unread;
-  part = honest_part;
-  answered = honest_answer;
-  refused_always = λ words m old new said said' status faults faults' events current told after passes honest.
-      honest_decided words m old new said said' status faults faults' events current told after passes honest
-      c.one_reading.ensures.apart;
-  reported_always = λ words m old new said said' status faults faults' events current told after passes honest.
-      honest_there words m old new said said' status faults faults' events current told after passes honest
-      c.one_reading.ensures.apart c.one_reading.ensures.script;
-  missing_always = λ words m old new said said' status faults faults' events current told after passes honest.
-      honest_not_there words m old new said said' status faults faults' events current told after passes honest
-      c.one_reading.ensures.apart c.one_reading.ensures.script;
-  write_fault = honest_unwritten;
-  nothing_without_script = λ words m old new said said' status faults faults' events current told after passes honest.
-      honest_quiet words m old new said said' status faults faults' events current told after passes honest
-      c.one_reading.ensures.apart;
-  prefix = λ words m old new said said' status faults faults' events current told after passes honest.
-      honest_prefix words m old new said said' status faults faults' events current told after passes honest
-      c.one_reading.ensures.script;
-  part_before = λ words m old new said said' status faults faults' events current told after passes honest.
-      honest_before words m old new said said' status faults faults' events current told after passes honest
-      c.one_reading.ensures.script;
-  stands = told_kept;
-}
+returns c =
+    let laws = c.one_reading.ensures in
+    record {
+      reported = honest_report laws.apart laws.script;
+      refused = honest_refusal laws.apart laws.script;
+      unread = honest_unread laws.apart laws.script;
+      part = honest_part laws.apart laws.script;
+      answered = honest_answer laws.apart laws.script;
+      refused_always = honest_decided laws.apart laws.script;
+      reported_always = honest_there laws.apart laws.script;
+      missing_always = honest_not_there laws.apart laws.script;
+      write_fault = honest_unwritten laws.apart laws.script;
+      nothing_without_script = honest_quiet laws.apart laws.script;
+      prefix = honest_prefix laws.apart laws.script;
+      part_before = honest_before laws.apart laws.script;
+      stands = told_kept laws.apart laws.script;
+    }

@@ -1,5 +1,5 @@
 use Rattle.wast_run.proofs.Common.{map, unit_of}
-use Rattle.wast_run.proofs.Units.{not_twice, not_unlike, not_unresolved}
+use Rattle.wast_run.proofs.JoinedUnits.{not_twice, not_unlike, not_unresolved}
 use Rattle.wast_run.proofs.module_units.linked_alone.Goals as goal
 
 pub unreachable-requires : goal.unreachable-requires

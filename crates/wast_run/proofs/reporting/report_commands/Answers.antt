@@ -29,18 +29,16 @@ returns-in-Err-write_line-clause-stop g c =
 pub returns-in-Ok-write_line-clause-passed : goal.returns-in-Ok-write_line-clause-passed
 returns-in-Ok-write_line-clause-passed g c =
     let commands = c.args.commands.now in
-    reported_over (g.F.Files.trace c.args.files.now) (g.F.Files.trace c.tell_commands.new.files) c.args.steps (seen_commands commands)
-    (g.O.Sink.told c.args.out.now) (g.O.Sink.told c.tell_commands.new.out) (g.O.Sink.told c.write_line.new.out) c.in-Ok.ok (length commands)
-    (many_seen commands (length commands) refl) c.in-Ok.ensures.passed
+    reported_over _ _ c.args.steps (seen_commands commands) (g.O.Sink.told c.args.out.now) (g.O.Sink.told c.tell_commands.new.out)
+    (g.O.Sink.told c.write_line.new.out) c.in-Ok.ok (length commands) (many_seen commands (length commands) refl) c.in-Ok.ensures.passed
     (c.in-Ok-write_line.ensures.whole (total_line (length commands) c.in-Ok.ok) c.total_line.ensures)
 
 pub returns-in-Err-write_line-clause-tried : goal.returns-in-Err-write_line-clause-tried
 returns-in-Err-write_line-clause-tried g c =
     let commands = c.args.commands.now in
     let out = g.O.Sink in
-    no_total_over (g.F.Files.trace c.args.files.now) (g.F.Files.trace c.tell_commands.new.files) c.args.steps (seen_commands commands)
-    (out.told c.args.out.now) (out.told c.tell_commands.new.out) (out.told c.write_line.new.out) c.in-Ok.ok (length commands)
-    (many_seen commands (length commands) refl) c.in-Ok.ensures.passed
+    no_total_over _ _ c.args.steps (seen_commands commands) (out.told c.args.out.now) (out.told c.tell_commands.new.out)
+    (out.told c.write_line.new.out) c.in-Ok.ok (length commands) (many_seen commands (length commands) refl) c.in-Ok.ensures.passed
     (out.faults c.tell_commands.new.out) (out.faults c.write_line.new.out) (reason_of c.in-Err-write_line.stop)
     (c.in-Err-write_line.ensures.part (total_line (length commands) c.in-Ok.ok) c.total_line.ensures)
     c.in-Err-write_line.ensures.stop

@@ -64,8 +64,7 @@ loop-index-preserved g c =
           (IsBehindOver c.args.steps front (setting_of c.tell_command.new.stage) (out.told c.args.out.now)
           (out.told c.tell_command.new.out) c.counted-ok.result))
           (sym (mapped_next seen_command commands k item lt c.index-commands-index.is))
-          (behind_more_over (files.trace c.args.files.now) (files.trace c.loop-index.files) (files.trace c.tell_command.new.files)
-          c.args.steps k (take k (seen_commands commands)) (seen_command item) c.in-Ok.word
+          (behind_more_over _ _ _ c.args.steps k (take k (seen_commands commands)) (seen_command item) c.in-Ok.word
           (setting_of c.loop-index.stage) (setting_of c.tell_command.new.stage)
           (out.told c.args.out.now) (out.told c.loop-index.out) (out.told c.tell_command.new.out) c.loop-index.ok c.counted-ok.result
           (mapped_front seen_command commands k lt) c.counted-ok.ensures c.loop-index.invariant.passed c.in-Ok.ensures.passed);
@@ -75,10 +74,8 @@ pub returns-clause-behind : goal.returns-clause-behind
 returns-clause-behind g c = λ m tells.
     let commands = c.args.commands.now in
     let k = c.loop-index.index in
-    let past : length (seen_commands commands) ≤ k = omega (arith, c.loop-index-test.false, length-map commands seen_command) in (
-      setting_of c.loop-index.stage,
-      rw (take_all k (seen_commands commands) past) at (c.loop-index.invariant.behind m tells),
-    )
+    let past : length (seen_commands commands) ≤ k = omega (arith, c.loop-index-test.false, length-map commands seen_command) in
+    (setting_of c.loop-index.stage, rw (take_all k (seen_commands commands) past) at (c.loop-index.invariant.behind m tells))
 
 pub returns-in-Err-clause-tried : goal.returns-in-Err-clause-tried
 returns-in-Err-clause-tried g c =
@@ -88,16 +85,13 @@ returns-in-Err-clause-tried g c =
     let k = c.loop-index.index in
     let item = c.index-commands-index.result in
     let lt = c.loop-index-test.true in
-    stops_in (g.F.Files.trace c.args.files.now) (g.F.Files.trace c.loop-index.files) (g.F.Files.trace c.tell_command.new.files)
-    c.args.steps k seen (take k seen) (drop (k + 1) seen) (seen_command item) (setting_of c.loop-index.stage)
+    stops_in _ _ _ c.args.steps k seen (take k seen) (drop (k + 1) seen) (seen_command item) (setting_of c.loop-index.stage)
     (out.told c.args.out.now) (out.told c.loop-index.out) (out.told c.tell_command.new.out) c.loop-index.ok (reason_of c.in-Err.stop)
     (mapped_split seen_command commands k item lt c.index-commands-index.is) (mapped_front seen_command commands k lt)
     c.loop-index.invariant.passed c.in-Err.ensures.tried
 
 pub returns-clause-passed : goal.returns-clause-passed
 returns-clause-passed g c =
-    let files = g.F.Files in
-    let out = g.O.Sink in
     let commands = c.args.commands.now in
     let k = c.loop-index.index in
     let past : length (seen_commands commands) ≤ k = omega (arith, c.loop-index-test.false, length-map commands seen_command) in

@@ -1,13 +1,12 @@
 use Rattle.wast_run.proofs.Common.{◌≡◌, true, [], ◌∷◌, length, sym, ◌∙◌, subst, arith, fits, AllFit, StopsAt, symbol_of, symbols_in}
 use Rattle.wast_run.proofs.Common.{symbols_of}
 use Rattle.crun.specs.Sessions.{program_of}
-use Rattle.wast_run.proofs.Kept.{all_before, all_last}
+use Rattle.wast_run.proofs.Lists.{all_before, all_last}
 use Rattle.wast_run.proofs.Sessions.{last_came, of_first, runs_further, stops_later}
 use Rattle.wast_run.proofs.session_runs.run_all.Goals as goal
 
 pub returns-in-Ok-Some-clause-ran : goal.returns-in-Ok-Some-clause-ran
 returns-in-Ok-Some-clause-ran g c =
-    let s = c.args.session.now in
     let stopped = rw c.in-Ok-Some.field-0-is at c.in-Ok-Some.ensures.stopped in
     stops_later c.in-Ok-Some.stop 0 (length c.args.kept.now) _ (omega arith) (stopped (symbols_of c.args.kept.now c.args.last.now))
 

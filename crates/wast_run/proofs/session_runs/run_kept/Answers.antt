@@ -1,7 +1,7 @@
 use Rattle.wast_run.proofs.Common.{◌≡◌, true, take, sym, ◌∙◌, subst, fits, symbol_of, symbols_in}
 use Rattle.crun.specs.Sessions.{program_of}
 use Rattle.wast_run.specs.Ran.{IsBehind}
-use Rattle.wast_run.proofs.Kept.{all_at, front_next}
+use Rattle.wast_run.proofs.Lists.{all_mapped_at, front_next}
 use Rattle.wast_run.proofs.Sessions.{kept_stop, runs_further, seen}
 use Rattle.wast_run.proofs.session_runs.run_kept.Goals as goal
 
@@ -10,8 +10,8 @@ run_call-requires-clause-fits g c =
     let item = c.call-item.result in
     let p = program_of g.H.HostModule c.args.session.now in
     subst (λ p. fits p (symbol_of item.now) ≡ true) (sym c.loop-call.invariant.same.program)
-    (subst (λ x. fits p (symbol_of x.now) ≡ true) (sym c.call-item.is)
-    (all_at seen (λ x. fits p x ≡ true) c.args.kept.now c.loop-call.call-index item c.loop-call-test.true c.requires.fit))
+    (all_mapped_at (λ x. fits p x ≡ true) seen c.args.kept.now c.loop-call.call-index item c.loop-call-test.true c.call-item.is
+    c.requires.fit)
 
 pub loop-call-preserved : goal.loop-call-preserved
 loop-call-preserved g c =

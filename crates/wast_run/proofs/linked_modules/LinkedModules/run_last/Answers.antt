@@ -3,7 +3,7 @@ use Rattle.wast_run.proofs.Common.{alone, symbols_of, listed_call, listed_calls}
 use Rattle.w2c_sim.proofs.Wiring.{calls_fit}
 use Rattle.wast_run.proofs.Comes.{all_fit, came_to_something, count_is, has_come, is_long, ran_by_set, symbols_are}
 use Rattle.wast_run.proofs.JoinedUnits.{none_fits}
-use Rattle.wast_run.proofs.Kept.{all_last}
+use Rattle.wast_run.proofs.Lists.{all_last}
 use Rattle.wast_run.proofs.linked_modules.LinkedModules.run_last.Goals as goal
 
 pub unreachable-requires : goal.unreachable-requires
