@@ -3,7 +3,7 @@
 use Rattle.body_meaning.proofs.Common.{◌≡◌, ℕ, zero, suc, ◌+◌, ◌*◌, ◌<◌, ◌≤◌, List, [], ◌∷◌, ◌++◌, None, Option, sym, refl, ap, ◌∙◌, subst}
 use Rattle.body_meaning.proofs.Common.{append_assoc, arith, Trail, types_of, ValType, Value, Stack, values, join, stays, Program, Reaches}
 use Rattle.body_meaning.proofs.Common.{Going, IsGoing, Over, Pending, Progress, Stopped, over, at_rest, Arrives, Branches, BranchesTo}
-use Rattle.body_meaning.proofs.Common.{EndsAlike, Follows, GoesOn, Site, StandsAt, StopsAlike, Target, at, labelled}
+use Rattle.body_meaning.proofs.Common.{Agrees, EndsAlike, Follows, GoesOn, Paid, SameStop, Site, StandsAt, StopsAlike, Target, at, labelled}
 use Rattle.c_tree.specs.Tree as tree
 use Rattle.wasm_meaning.specs.LinkedSet as link
 use Rattle.wasm_meaning.specs.Store as store
@@ -20,6 +20,21 @@ pub record Covers (spare spare' n m k : ℕ) : Type 0 where
   pub fewer : m ≤ n
   pub most : k + 400 * m + spare ≤ 400 * n + spare'
 
+-- ---- where a run comes to
+
+pub arrives_by : {g : Site} {spare : ℕ} {rest : List tree.Stmt} {from : Progress} {n left : ℕ} {stack : List Value} {now : store.State}
+    {m : state.Machine} {vars : state.Vars} {statements : ℕ} → StandsAt g stack now m vars
+    → Reaches g.program statements from (at g m rest vars) → Paid spare n left statements → Arrives g spare rest from n left stack now
+arrives_by {m} {vars} {statements} stands way paid =
+    record { machine = m; vars = vars; stands = stands; statements = statements; way = way; paid = paid }
+
+pub ends_by : {p : Program} {s : link.LinkedSet} {pending : Pending} {spare : ℕ} {from : Progress} {n : ℕ} {why : exec.Stop}
+    {made : store.Store} {trail : Trail} (m : state.Machine) (reason : state.Stop) {statements : ℕ}
+    → SameStop why reason → Agrees p s m made trail → Reaches p statements from (Over (over pending m (Stopped reason)))
+    → statements ≤ 400 * n + spare → EndsAlike p s pending spare from n why made trail
+ends_by m reason {statements} same agrees way few =
+    record { machine = m; reason = reason; same = same; agrees = agrees; statements = statements; way = way; few = few }
+
 -- ---- labels
 
 pub labelled_twice : (xs ys : List state.Name) (rest : List tree.Stmt) → labelled xs (labelled ys rest) ≡ labelled (xs ++ ys) rest
@@ -29,11 +44,8 @@ labelled_twice (x ∷ xs) ys rest = ap (λ code. tree.Label x ∷ code) (labelle
 -- labels are put in front of where a run stands
 abbrev in_front : List state.Name → Progress → Progress
 in_front names (Over run) = Over run
-in_front names (Going pending s) = Going pending (record {
-  machine = s.machine;
-  running = at_rest s.running (labelled names s.running.rest);
-  below = s.below;
-})
+in_front names (Going pending s) = Going pending (record
+    { machine = s.machine; running = at_rest s.running (labelled names s.running.rest); below = s.below })
 
 stays_so : (p : Program) {x y : Progress} → x ≡ y → Reaches p 0 x y
 stays_so p {x} e = subst (λ z. Reaches p 0 x z) e (stays p x)
@@ -45,37 +57,16 @@ arrives_past : (g : Site) (spare : ℕ) (names : List state.Name) (code rest : L
     → (more : List state.Name) × Arrives g spare (labelled more rest) (at g m (labelled names code) vars) n left stack now
 arrives_past g spare names code rest m vars n left stack now x zero e =
     let a = x.1 in
-    let here : at g m code vars ≡ at g a.machine (labelled x.0 rest) a.vars =
-    (rw e at a.way).there in
+    let here : at g m code vars ≡ at g a.machine (labelled x.0 rest) a.vars = (rw e at a.way).there in
     let there : at g m (labelled names code) vars ≡ at g a.machine (labelled (names ++ x.0) rest) a.vars =
-    ap (in_front names) here ∙ ap (λ xs. at g a.machine xs a.vars) (labelled_twice names x.0 rest) in (
-      names ++ x.0,
-      record {
-        machine = a.machine;
-        vars = a.vars;
-        stands = a.stands;
-        statements = 0;
-        way = stays_so g.program there;
-        paid = rw e at a.paid;
-      },
-    )
+    ap (in_front names) here ∙ ap (λ xs. at g a.machine xs a.vars) (labelled_twice names x.0 rest) in
+    (names ++ x.0, arrives_by a.stands (stays_so g.program there) (rw e at a.paid))
 arrives_past g spare names code rest m vars n left stack now x (suc k) e =
-    let a = x.1 in (
-      x.0,
-      record {
-        machine = a.machine;
-        vars = a.vars;
-        stands = a.stands;
-        statements = suc k;
-        way = past_way g names (rw e at a.way);
-        paid = rw e at a.paid;
-      },
-    )
+    let a = x.1 in (x.0, arrives_by a.stands (past_way g names (rw e at a.way)) (rw e at a.paid))
 
 branches_past : {g : Site} {spare : ℕ} (names : List state.Name) {code : List tree.Stmt} {m : state.Machine} {vars : state.Vars}
-    {t : Target} {n left : ℕ} {stack : List Value} {now : store.State}
-    → (b : Branches g spare t (at g m code vars) n left stack now) → (k : ℕ) → b.arrives.statements ≡ k
-    → Branches g spare t (at g m (labelled names code) vars) n left stack now
+    {t : Target} {n left : ℕ} {stack : List Value} {now : store.State} → (b : Branches g spare t (at g m code vars) n left stack now)
+    → (k : ℕ) → b.arrives.statements ≡ k → Branches g spare t (at g m (labelled names code) vars) n left stack now
 branches_past names b zero e = absurd (omega (arith, b.less, b.arrives.paid.least, e))
 branches_past {g} {spare} names {code} {m} {vars} {t} {n} {left} b (suc k) e =
     let a = b.arrives in
@@ -84,20 +75,12 @@ branches_past {g} {spare} names {code} {m} {vars} {t} {n} {left} b (suc k) e =
       kept_is = b.kept_is;
       typed = b.typed;
       less = b.less;
-      arrives = record {
-        machine = a.machine;
-        vars = a.vars;
-        stands = a.stands;
-        statements = suc k;
-        way = past_way g names (rw e at a.way);
-        paid = rw e at a.paid;
-      };
+      arrives = arrives_by a.stands (past_way g names (rw e at a.way)) (rw e at a.paid);
     }
 
 -- what holds of each target that a branch may go to
 branches_to_each : (g : Site) {spare spare' : ℕ} (ts : List Target) {from to : Progress} {n m : ℕ} (label left : ℕ) (stack : List Value)
-    (now : store.State)
-    → ((t : Target) → Branches g spare t to m left stack now → Branches g spare' t from n left stack now)
+    (now : store.State) → ((t : Target) → Branches g spare t to m left stack now → Branches g spare' t from n left stack now)
     → BranchesTo g spare ts label to m left stack now → BranchesTo g spare' ts label from n left stack now
 branches_to_each g [] label left stack now each h = h
 branches_to_each g (t ∷ ts) zero left stack now each h = each t h
@@ -110,32 +93,16 @@ ends_past : (g : Site) {spare : ℕ} (names : List state.Name) {code : List tree
 ends_past g names {code} {m} {vars} x zero e =
     absurd (subst
     IsGoing (subst (λ k. Reaches g.program k (at g m code vars) (Over (over g.pending x.machine (Stopped x.reason)))) e x.way).there tt)
-ends_past g {spare} names {code} {m} {vars} {n} x (suc k) e = record {
-  machine = x.machine;
-  reason = x.reason;
-  same = x.same;
-  agrees = x.agrees;
-  statements = suc k;
-  way = past_way g names (subst (λ j. Reaches g.program j (at g m code vars) (Over (over g.pending x.machine (Stopped x.reason)))) e x.way);
-  few = rw e at x.few;
-}
+ends_past g names {code} {m} {vars} x (suc k) e =
+    ends_by x.machine x.reason x.same x.agrees (past_way g names
+    (subst (λ j. Reaches g.program j (at g m code vars) (Over (over g.pending x.machine (Stopped x.reason)))) e x.way)) (rw e at x.few)
 
 goes_on_past : (g : Site) (names : List state.Name) {code : List tree.Stmt} {m : state.Machine} {vars : state.Vars} {n : ℕ}
     → (x : GoesOn g.program (at g m code vars) n) → (k : ℕ) → x.statements ≡ k → GoesOn g.program (at g m (labelled names code) vars) n
-goes_on_past g names {code} {m} {vars} {n} x zero e = record {
-  to = at g m (labelled names code) vars;
-  goes = tt;
-  statements = 0;
-  way = stays g.program (at g m (labelled names code) vars);
-  least = rw e at x.least;
-}
-goes_on_past g names {code} {m} {vars} {n} x (suc k) e = record {
-  to = x.to;
-  goes = x.goes;
-  statements = suc k;
-  way = past_way g names (rw e at x.way);
-  least = rw e at x.least;
-}
+goes_on_past g names {code} {m} {vars} x zero e =
+    record { to = at g m (labelled names code) vars; goes = tt; statements = 0; way = stays g.program _; least = rw e at x.least }
+goes_on_past g names x (suc k) e =
+    record { to = x.to; goes = x.goes; statements = suc k; way = past_way g names (rw e at x.way); least = rw e at x.least }
 
 -- code is followed from before labels as it is from behind them
 pub follows_past : (g : Site) (spare : ℕ) (names : List state.Name) (ts : List Target) (exit : Target) (base : List Value)
@@ -159,17 +126,11 @@ follows_past g spare names ts exit base code rest outs m vars n (exec.Stops exec
 -- ---- statements that were run before
 
 arrives_before : {g : Site} {spare spare' : ℕ} {rest : List tree.Stmt} {from to : Progress} {n m left k : ℕ} {stack : List Value}
-    {now : store.State}
-    → Reaches g.program k from to → Covers spare spare' n m k → Arrives g spare rest to m left stack now
+    {now : store.State} → Reaches g.program k from to → Covers spare spare' n m k → Arrives g spare rest to m left stack now
     → Arrives g spare' rest from n left stack now
-arrives_before {g} {rest} {from} {to} {k} way covers a = record {
-  machine = a.machine;
-  vars = a.vars;
-  stands = a.stands;
-  statements = k + a.statements;
-  way = join g.program k a.statements from to (at g a.machine rest a.vars) way a.way;
-  paid = record { least = omega (arith, covers.least, a.paid.least); most = omega (arith, covers.most, a.paid.most) };
-}
+arrives_before {g} {rest} {from} {to} {k} way covers a =
+    arrives_by a.stands (join g.program k a.statements from to (at g a.machine rest a.vars) way a.way)
+    (record { least = omega (arith, covers.least, a.paid.least); most = omega (arith, covers.most, a.paid.most) })
 
 branches_before : {g : Site} {spare spare' : ℕ} {t : Target} {from to : Progress} {n m left k : ℕ} {stack : List Value} {now : store.State}
     → Reaches g.program k from to → Covers spare spare' n m k → Branches g spare t to m left stack now
@@ -183,42 +144,27 @@ branches_before way covers b = record {
 }
 
 pub ends_before : {p : Program} {s : link.LinkedSet} {pending : Pending} {spare : ℕ} (spare' : ℕ) {from to : Progress} (n : ℕ) {m k : ℕ}
-    {why : exec.Stop} {made : store.Store} {trail : Trail}
-    → Reaches p k from to → k + 400 * m + spare ≤ 400 * n + spare' → EndsAlike p s pending spare to m why made trail
-    → EndsAlike p s pending spare' from n why made trail
-ends_before {p} {pending} spare' {from} {to} n {k} way most x = record {
-  machine = x.machine;
-  reason = x.reason;
-  same = x.same;
-  agrees = x.agrees;
-  statements = k + x.statements;
-  way = join p k x.statements from to (Over (over pending x.machine (Stopped x.reason))) way x.way;
-  few = omega (arith, most, x.few);
-}
+    {why : exec.Stop} {made : store.Store} {trail : Trail} → Reaches p k from to → k + 400 * m + spare ≤ 400 * n + spare'
+    → EndsAlike p s pending spare to m why made trail → EndsAlike p s pending spare' from n why made trail
+ends_before {p} {pending} spare' {from} {to} n {k} way most x = ends_by x.machine x.reason x.same x.agrees
+    (join p k x.statements from to (Over (over pending x.machine (Stopped x.reason))) way x.way) (omega (arith, most, x.few))
 
 pub goes_on_before : {p : Program} {from to : Progress} (n : ℕ) {m k : ℕ}
     → Reaches p k from to → n ≤ m + k → GoesOn p to m → GoesOn p from n
-goes_on_before {p} {from} {to} n {k} way least x = record {
-  to = x.to;
-  goes = x.goes;
-  statements = k + x.statements;
-  way = join p k x.statements from to x.to way x.way;
-  least = omega (arith, least, x.least);
-}
+goes_on_before {p} n {k} way least x = record
+    { to = x.to; goes = x.goes; statements = k + x.statements; way = join p k _ _ _ _ way x.way; least = omega (arith, least, x.least) }
 
-pub stops_before : {p : Program} (s : link.LinkedSet)
-    (pending : Pending) (spare spare' : ℕ) {from to : Progress} (n m : ℕ) {k : ℕ} (why : exec.Stop) (made : store.Store) (trail : Trail)
-    → Reaches p k from to → Covers spare spare' n m k → StopsAlike p s pending spare to m why made trail
-    → StopsAlike p s pending spare' from n why made trail
+pub stops_before : {p : Program} (s : link.LinkedSet) (pending : Pending) (spare spare' : ℕ) {from to : Progress} (n m : ℕ) {k : ℕ}
+    (why : exec.Stop) (made : store.Store) (trail : Trail) → Reaches p k from to → Covers spare spare' n m k
+    → StopsAlike p s pending spare to m why made trail → StopsAlike p s pending spare' from n why made trail
 stops_before s pending spare spare' n m (exec.Trapped kind) made trail way covers h = ends_before spare' n way covers.most h
 stops_before s pending spare spare' n m exec.Asks made trail way covers h = ends_before spare' n way covers.most h
 stops_before s pending spare spare' n m exec.OutOfSteps made trail way covers h = goes_on_before n way covers.least h
 stops_before s pending spare spare' n m exec.Stuck made trail way covers h = h
 
 -- what is followed from a place is followed from statements before it
-pub before : (g : Site) (spare spare' : ℕ)
-    (ts : List Target) (exit : Target) (base : List Value) (rest : List tree.Stmt) (outs : Stack) {from to : Progress} (n m : ℕ) {k : ℕ}
-    → Reaches g.program k from to → Covers spare spare' n m k → (r : exec.Result)
+pub before : (g : Site) (spare spare' : ℕ) (ts : List Target) (exit : Target) (base : List Value) (rest : List tree.Stmt) (outs : Stack)
+    {from to : Progress} (n m : ℕ) {k : ℕ} → Reaches g.program k from to → Covers spare spare' n m k → (r : exec.Result)
     → Follows g spare ts exit base rest outs to m r → Follows g spare' ts exit base rest outs from n r
 before g spare spare' ts exit base rest outs n m way covers (exec.Normal left stack now) h = (h.0, h.1, arrives_before way covers h.2)
 before g spare spare' ts exit base rest outs n m way covers (exec.Branch label left stack now) h =
@@ -239,8 +185,7 @@ with_spare g spare ts exit base rest outs from n r h =
 pub continues : (g : Site) (spare : ℕ) (ts : List Target) (exit : Target) (base : List Value) (middle rest : List tree.Stmt) (outs : Stack)
     (from : Progress) (n left : ℕ) (stack : List Value) (now : store.State) (r : exec.Result)
     → (x : (names : List state.Name) × Arrives g spare (labelled names middle) from n left stack now) → left ≤ n
-    → Follows g 0 ts exit base rest outs (at g x.1.machine middle x.1.vars) left r
-    → Follows g spare ts exit base rest outs from n r
+    → Follows g 0 ts exit base rest outs (at g x.1.machine middle x.1.vars) left r → Follows g spare ts exit base rest outs from n r
 continues g spare ts exit base middle rest outs from n left stack now r x less h =
     let a = x.1 in
     before g 0 spare ts exit base rest outs n left a.way (record {
@@ -256,8 +201,7 @@ pub sequel : (g : Site) (ts : List Target) (exit : Target) (base : List Value) (
     (from : Progress) (n : ℕ) (r : exec.Result) (go : ℕ → List Value → store.State → exec.Result)
     → Follows g 0 ts exit base middle mids from n r
     → ((left : ℕ) (stack : List Value) (now : store.State) (m : state.Machine) (vars : state.Vars) → types_of stack ≡ mids
-    → StandsAt g (stack ++ base) now m vars
-    → Follows g 0 ts exit base rest outs (at g m middle vars) left (go left stack now))
+    → StandsAt g (stack ++ base) now m vars → Follows g 0 ts exit base rest outs (at g m middle vars) left (go left stack now))
     → Follows g 0 ts exit base rest outs from n (exec.and_then r go)
 sequel g ts exit base middle rest mids outs from n (exec.Normal left stack now) go h next =
     let a = h.2 in
@@ -306,7 +250,6 @@ leaves g spare ts exit t l h stack base names rest from n (exec.Normal left inne
 leaves g spare ts exit t l h stack base names rest {outs} from n (exec.Branch zero left inner now) e f =
     subst (λ o. Follows g spare ts exit base rest outs from n (exec.onto left o stack now))
     (sym f.kept_is) (outs_over t f.kept stack e f.typed, [], arrives_over f.kept stack base f.arrives)
-leaves g spare ts exit t l h stack base names rest from n (exec.Branch (suc label) left inner now) e f = f
 leaves g spare ts exit t l h stack base names rest from n _ e f = f
 
 -- a turn of a loop
@@ -333,7 +276,6 @@ turn_follows g ts exit t l h stack base start rest {outs} from n again (exec.Bra
       fewer = omega (arith, f.less);
       most = omega (arith, a.paid.most);
     }) (again left now) (next left now a.machine a.vars f.less stands)
-turn_follows g ts exit t l h stack base start rest from n again (exec.Branch (suc label) left inner now) e f next = f
 turn_follows g ts exit t l h stack base start rest from n again _ e f next = f
 
 -- the turns of a loop, which are more than the budget

@@ -22,6 +22,7 @@ use Rattle.body_meaning.proofs.Operands.{zeros_types, types_append}
 use Rattle.body_meaning.proofs.Exits.{end_stmts, BodyIsPlaced, body_is_placed}
 use Rattle.body_meaning.proofs.There.{body_is_there}
 use Rattle.body_meaning.proofs.Function.{exit_target, begins, too_deep, Around, finish_follows}
+use Rattle.body_meaning.proofs.Before.{ends_by}
 use Rattle.body_meaning.proofs.Spaces.{module_named}
 use Rattle.alike.proofs.Store.{with_depth_together}
 
@@ -58,14 +59,8 @@ enters {p} count pending below depth {u} {m} {index} own machine args fit =
     ap (λ (d : Option Definition). go_on p pending (begin d u machine (map state.Number args) below)) own.defined
     ∙ ap (λ (o : Option state.Vars). go_on p pending (elim o [
       | None ↦ Stops machine state.Stuck
-      | Some vars ↦ next machine (record {
-        unit = u;
-        item = own.item;
-        result = c_result_of own.ty.result;
-        stmts = stmts;
-        rest = stmts;
-        vars = vars;
-      }) below
+      | Some vars ↦ next machine (record
+          { unit = u; item = own.item; result = c_result_of own.ty.result; stmts = stmts; rest = stmts; vars = vars }) below
     ])) (first_vars_are m index own.item own.ty own.entry args fit)
 
 -- ---- calls of a module's function
@@ -85,16 +80,9 @@ full_follows {p} {s} {count} {pending} {below} {u} {m} own {a} {args} n {depth} 
     let start : Progress = at g machine (stmts_of g.setting own.entry.code) vars in
     let from : Progress = called p pending a machine args below in
     let end : Progress = Over (over pending machine (Stopped (state.Trapped trap.Exhaustion))) in
-    record {
-      machine = machine;
-      reason = state.Trapped trap.Exhaustion;
-      same = refl;
-      agrees = together.agrees;
-      statements = passes.there + 2;
-      way = join p passes.there 2 from start end (subst (λ x. Reaches p passes.there from x) (enters count pending frames
-          depth own machine args fit) passes.calls) (too_deep g machine own.entry.code vars (omega (arith, full, together.depth_is)));
-      few = omega (arith, passes.few);
-    }
+    ends_by machine (state.Trapped trap.Exhaustion) refl together.agrees (join p passes.there 2 from start end
+    (subst (λ x. Reaches p passes.there from x) (enters count pending frames depth own machine args fit) passes.calls)
+    (too_deep g machine own.entry.code vars (omega (arith, full, together.depth_is)))) (omega (arith, passes.few))
 
 -- with room its code is followed
 code_follows : AllCodeFollows → {p : Program} {s : link.LinkedSet} → AreServed p s → {count : ℕ} (room : ℕ) (calls : exec.Calls)
@@ -169,28 +157,19 @@ code_follows all {p} {s} served {count} room calls calls_follow
     (exec.exec s calls u code n [] now) =
     all g room calls code site there (exit_target ty ∷ []) (exit_target ty) [] [] 2 n (end_stmts ty.result code)
     (values ty.result) now deeper vars
-    own.valid
-    (target, (λ e. places.exit (or_left (targets 0 code) (any_in is_return code) e)), tt)
-    (record {
-      target = target;
-      found = λ e. places.exit (or_right (targets 0 code) (any_in is_return code) e);
-      aim_is = refl;
-      base_is = refl;
-    })
-    (λ t height e. or_right (stands t height (values ty.result)) (occurs t height c [] code) e)
-    (omega (arith, own.within.labels))
+    own.valid (target, (λ e. places.exit (or_left (targets 0 code) (any_in is_return code) e)), tt) (record
+    { target = target; found = λ e. places.exit (or_right (targets 0 code) (any_in is_return code) e); aim_is = refl; base_is = refl })
+    (λ t height e. or_right (stands t height (values ty.result)) (occurs t height c [] code) e) (omega (arith, own.within.labels))
     own.within.numbers
     places.code_is
-    stands_now
-    in
+    stands_now in
     finish_follows around (omega (arith, sum)) code n (exec.exec s calls u code n [] now) follows
 
 -- ---- all calls
 
-passes_as : {p : Program} {s : link.LinkedSet} {f : link.FuncAddress}
-    {a : state.FuncAddress} {ty : FuncType} (pending : Pending) (machine : state.Machine) (args : List Value) (below : List state.Frame)
-    → StandsFor p s f a → link.func_type s f ≡ Some ty → types_of args ≡ ty.params
-    → PassesOn p wrapper_statements ty a (core f) pending machine args below
+passes_as : {p : Program} {s : link.LinkedSet} {f : link.FuncAddress} {a : state.FuncAddress} {ty : FuncType} (pending : Pending)
+    (machine : state.Machine) (args : List Value) (below : List state.Frame) → StandsFor p s f a → link.func_type s f ≡ Some ty
+    → types_of args ≡ ty.params → PassesOn p wrapper_statements ty a (core f) pending machine args below
 passes_as {p} {f} {a} {ty} pending machine args below stands typed fit =
     let same : stands.ty ≡ ty = same_Some stands.ty ty (sym stands.ty_is ∙ typed) in
     subst (λ t. PassesOn p wrapper_statements t a (core f) pending machine args below) same
@@ -210,15 +189,12 @@ owned {s} {u} {index} {ty} served func typed =
     let own = own_is u served found.1 (subst (λ tree. IsDefined tree index) (sym found.2) func.defined) in
     record { m = found.0; is = found.1; own = own; same = same_Some own.ty ty (sym own.typed ∙ typed) }
 
-host_call : {p : Program} {s : link.LinkedSet} → AreServed p s
-    → {count : ℕ}
+host_call : {p : Program} {s : link.LinkedSet} → AreServed p s → {count : ℕ}
     (room h k : ℕ) {a : state.FuncAddress} {ty : FuncType} (args : List Value) (n : ℕ) {depth : ℕ} {made : store.Store} {trail : Trail}
     {machine : state.Machine} (pending : Pending) (below : List state.Frame)
     → link.func_type s (link.HostFunc h k) ≡ Some ty → StandsFor p s (link.HostFunc h k) a → types_of args ≡ ty.params
-    → Together p s count depth machine made trail
-    → CallFollows p s count depth pending below ty (called p pending a machine args below) n
-    (exec.replied (link.func_type s (link.HostFunc h k)) trail.replies trail.events
-    (record { host = h; function = k; args = args }) n made)
+    → Together p s count depth machine made trail → CallFollows p s count depth pending below ty (called p pending a machine args below) n
+    (exec.replied (link.func_type s (link.HostFunc h k)) trail.replies trail.events (record { host = h; function = k; args = args }) n made)
 host_call {p} {s} served {count} room h k {a} {ty} args n {depth} {made} {trail} {machine} pending below typed stands fit together =
     subst (λ o. CallFollows p s count depth pending below ty (called p pending a machine args below)
     n (exec.replied o trail.replies trail.events (record { host = h; function = k; args = args }) n made))
@@ -236,8 +212,7 @@ no_room {p} {s} served
     made trail)) o.same (λ fits passing. full_follows o.own n fits passing together (omega (arith, sum))) fit passes
 
 more_room : AllCodeFollows → {p : Program} {s : link.LinkedSet} → AreServed p s → (count room : ℕ)
-    → CallsFollow p s count room (exec.call_within s room)
-    → CallsFollow p s count (suc room) (exec.call_within s (suc room))
+    → CallsFollow p s count room (exec.call_within s room) → CallsFollow p s count (suc room) (exec.call_within s (suc room))
 more_room all served count room before (link.HostFunc h k) a ty args n depth made trail machine pending
     below typed callable stands fit numbers together sum = host_call served (suc room) h k args n pending below typed stands fit together
 more_room all {p} {s} served count room
@@ -247,8 +222,7 @@ more_room all {p} {s} served count room
     let passes = passes_as pending machine args below stands typed fit in
     let entered : exec.enter s calls u (link.body_of s u index) (link.func_type s (link.ModuleFunc u index)) args n made trail ≡ exec.finish
     o.own.ty.result (exec.exec s calls u o.own.entry.code n [] (record
-    { locals = args ++ zeros (declared_locals o.own.entry.runs); store = made; trail = trail })) = rw (o.own.code_is, o.own.typed) refl
-    in
+    { locals = args ++ zeros (declared_locals o.own.entry.runs); store = made; trail = trail })) = rw (o.own.code_is, o.own.typed) refl in
     subst (λ t. types_of args ≡ t.params → PassesOn p wrapper_statements t a (state.UnitFunc u (func_name index)) pending machine args below
     → CallFollows p s count depth pending below t (called p pending a machine args below)
     n (exec.enter s calls u (link.body_of s u index) (link.func_type s (link.ModuleFunc u index)) args n made trail)) o.same (λ fits

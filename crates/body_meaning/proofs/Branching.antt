@@ -15,7 +15,7 @@ use Rattle.c_tree.specs.Tree as tree
 use Rattle.wasm_meaning.specs.Store as store
 use Rattle.wasm_meaning.specs.Execution as exec
 use Rattle.c_meaning.specs.State as state
-use Rattle.body_meaning.proofs.Before.{spends}
+use Rattle.body_meaning.proofs.Before.{arrives_by, ends_by, spends}
 use Rattle.alike.proofs.Placed.{placed_back}
 use Rattle.body_meaning.proofs.Slots.{SlotIsSet}
 use Rattle.body_meaning.proofs.Jumps.{way_by, goes_to, if_passes, if_goes, eq_more, ne_more, TargetAt, target_at, straight, Lands, lands}
@@ -61,12 +61,10 @@ branch_by b types l aim =
     else jump_if op.Eq (length types) l ∷ (jump aim types ++ tree.Label (label_name l) ∷ [])
 
 -- the condition holds
-br_if_taken : {g : Site}
-    → SlotIsSet g → {base : List Value} (stack : List Value) {x : Target} (more : Stack) (l left c : ℕ) (rest : List tree.Stmt)
-    {now : store.State} {m : state.Machine} {vars : state.Vars}
-    → IsTarget g base x → after_label (label_name x.aim.label) g.body.stmts ≡ Some x.rest → types_of stack ≡ values x.aim.value ++ more
-    → StandsAt g (I32 (suc c) ∷ (stack ++ base)) now m vars
-    → (b : Bool) → is_straight x.aim (types_of (stack ++ base)) ≡ b
+br_if_taken : {g : Site} → SlotIsSet g → {base : List Value} (stack : List Value) {x : Target} (more : Stack) (l left c : ℕ)
+    (rest : List tree.Stmt) {now : store.State} {m : state.Machine} {vars : state.Vars} → IsTarget g base x
+    → after_label (label_name x.aim.label) g.body.stmts ≡ Some x.rest → types_of stack ≡ values x.aim.value ++ more
+    → StandsAt g (I32 (suc c) ∷ (stack ++ base)) now m vars → (b : Bool) → is_straight x.aim (types_of (stack ++ base)) ≡ b
     → Branches g 0 x (at g m (branch_by b (types_of (stack ++ base)) l x.aim ++ rest) vars) (suc left) left stack now
 br_if_taken {g} set {base} stack {x} more l left c rest {now} {m} {vars} is found fits s true straight_is =
     let types = types_of (stack ++ base) in
@@ -85,8 +83,7 @@ br_if_taken {g} set {base} stack {x} more l left c rest {now} {m} {vars} is foun
 
 -- it does not hold
 br_if_left : {g : Site} (base stack : List Value) (aim : Aim) (l left : ℕ) (rest : List tree.Stmt) {now : store.State} {m : state.Machine}
-    {vars : state.Vars}
-    → StandsAt g (I32 0 ∷ (stack ++ base)) now m vars → (b : Bool)
+    {vars : state.Vars} → StandsAt g (I32 0 ∷ (stack ++ base)) now m vars → (b : Bool)
     → IsPlaced g.body.stmts (branch_by b (types_of (stack ++ base)) l aim) rest
     → Reaches g.program 1 (at g m (branch_by b (types_of (stack ++ base)) l aim ++ rest) vars) (at g m rest vars)
 br_if_left {g} base stack aim l left rest {m} {vars} s true placed =
@@ -117,14 +114,9 @@ br_if_so {g} set exit {base} (I32 zero ∷ stack) l left rest {m} {vars} {t} mor
     let way = br_if_left base stack aim l left rest s b (subst (λ xs. IsPlaced g.body.stmts xs rest) same placed) in (
       fits ∙ sym (outs_are ∙ ap (λ xs. xs ++ more) (reversed t)),
       [],
-      record {
-        machine = m;
-        vars = vars;
-        stands = stands_below (I32 0 ∷ []) (stack ++ base) s;
-        statements = 1;
-        way = subst (λ xs. Reaches g.program 1 (at g m (xs ++ rest) vars) (at g m rest vars)) (sym same) way;
-        paid = record { least = omega arith; most = omega arith };
-      },
+      arrives_by (stands_below (I32 0 ∷ []) (stack ++ base) s)
+          (subst (λ xs. Reaches g.program 1 (at g m (xs ++ rest) vars) (at g m rest vars)) (sym same) way)
+          (record { least = omega arith; most = omega arith }),
     )
 br_if_so {g} set {label} exit {base} (I32 (suc c) ∷ stack) l left rest {now} {m} {vars} {t} more x e outs_are code code_is placed s =
     let types = types_of (stack ++ base) in
@@ -182,9 +174,8 @@ case_taken aims types i first (suc x) l (k ∷ labels) default e =
     record { arm = suc c.arm; label_is = rw other label_is; at_it = c.at_it }
 
 -- a case that moves a value is found by its label
-moving_at : (body : List tree.Stmt)
-    (aims : List Aim) (types : Stack) (l : ℕ) (ks : List ℕ) (rest : List tree.Stmt) (j : ℕ) {k : ℕ} {aim : Aim}
-    → slice_get ks j ≡ Some k → slice_get aims k ≡ Some aim → is_straight aim types ≡ false
+moving_at : (body : List tree.Stmt) (aims : List Aim) (types : Stack) (l : ℕ) (ks : List ℕ) (rest : List tree.Stmt) (j : ℕ) {k : ℕ}
+    {aim : Aim} → slice_get ks j ≡ Some k → slice_get aims k ≡ Some aim → is_straight aim types ≡ false
     → IsPlaced body (moving_cases aims types l ks) rest
     → (behind : List tree.Stmt) × (after_label (label_name (j + l)) body ≡ Some (jump aim types ++ behind))
 moving_at body aims types l [] rest j e at_it straight_is placed = absurd (grind (arith, e))
@@ -214,13 +205,11 @@ switch_reaches g m vars h i cases default rest is found =
     let code : List tree.Stmt = tree.Switch (operand type.I32 h) cases default ∷ rest in
     let r = (state_at g m code vars).running in
     way_by g m code vars (ap (λ x. with_value m (place_of r rest) (number_in x) (λ v. goto m r (label_of v cases default) g.below))
-    (slot_value m (state_at g m code vars).running type.I32 h is)
-    ∙ goes_to g m code vars (label_of (I32 i) cases default) found)
+    (slot_value m (state_at g m code vars).running type.I32 h is) ∙ goes_to g m code vars (label_of (I32 i) cases default) found)
 
 -- the label that is taken is one of the table's
 chosen_type : (labels : List (Option ValType)) (ks : List ℕ) (d i : ℕ) {t : Option ValType} → slice_get labels d ≡ Some t
-    → AllByRecursion (λ k. slice_get labels k ≡ Some t) ks
-    → slice_get labels (unwrap_or (slice_get ks i) d) ≡ Some t
+    → AllByRecursion (λ k. slice_get labels k ≡ Some t) ks → slice_get labels (unwrap_or (slice_get ks i) d) ≡ Some t
 chosen_type labels [] d i default others = default
 chosen_type labels (k ∷ ks) d zero default others = others.0
 chosen_type labels (k ∷ ks) d (suc i) default others = chosen_type labels ks d i default others.1
@@ -267,8 +256,7 @@ br_table_so : {g : Site} → SlotIsSet g → (labels : List ℕ) (default : ℕ)
     → KindHasType g.setting.context (map (λ t. t.aim.value) ts) (BrTable labels default) (types_of stack) outs
     → AreTargets g base (λ k. targets_in k (BrTable labels default)) 0 ts
     → IsPlaced g.body.stmts (branch_table (aims_of ts) (drop 1 (types_of (stack ++ base))) l labels default) rest
-    → StandsAt g (stack ++ base) now m vars
-    → Follows g 0 ts exit base rest outs (at g m
+    → StandsAt g (stack ++ base) now m vars → Follows g 0 ts exit base rest outs (at g m
     (branch_table (aims_of ts) (drop 1 (types_of (stack ++ base))) l labels default ++ rest) vars) (suc left)
     (exec.pick stack now labels default (λ k under. exec.Branch k left under now))
 br_table_so set labels default ts exit base [] l left rest outs typed all placed s =
@@ -295,8 +283,7 @@ pub br_table_follows : {g : Site} → SlotIsSet g → (calls : exec.Calls) (labe
     → KindHasType g.setting.context (map (λ t. t.aim.value) ts) (BrTable labels default) (types_of stack) outs
     → AreTargets g base (λ k. targets_in k (BrTable labels default)) 0 ts
     → IsPlaced g.body.stmts (emit_kind g.setting (aims_of ts) (types_of (stack ++ base)) l (BrTable labels default)) rest
-    → StandsAt g (stack ++ base) now m vars
-    → Follows g 0 ts exit base rest outs (at g m
+    → StandsAt g (stack ++ base) now m vars → Follows g 0 ts exit base rest outs (at g m
     (emit_kind g.setting (aims_of ts) (types_of (stack ++ base)) l (BrTable labels default) ++ rest) vars) n
     (exec.exec_kind g.linked calls g.unit (BrTable labels default) n stack now)
 br_table_follows {g} set calls labels default ts exit base stack l n rest outs {now} {m} {vars} typed all placed s =
@@ -325,12 +312,5 @@ pub unreachable_follows : {g : Site} (calls : exec.Calls) (ts : List Target) (ex
     → Follows g 0 ts exit base rest outs (at g m (emit_kind g.setting (aims_of ts) (types_of (stack ++ base)) l Unreachable ++ rest) vars) n
     (exec.exec_kind g.linked calls g.unit Unreachable n stack now)
 unreachable_follows {g} calls ts exit base stack l n rest outs {now} {m} {vars} s =
-    spends g 0 ts exit base _ rest outs m vars n now _ (λ left. record {
-      machine = m;
-      reason = state.Trapped trap.Unreachable;
-      same = refl;
-      agrees = s.together.agrees;
-      statements = 1;
-      way = step g.program g.pending _;
-      few = omega arith;
-    })
+    spends g 0 ts exit base _ rest outs m vars n now _ (λ left.
+    ends_by m (state.Trapped trap.Unreachable) refl s.together.agrees (step g.program g.pending _) (omega arith))

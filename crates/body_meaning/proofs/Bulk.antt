@@ -1,12 +1,12 @@
 -- The instructions that copy and fill bytes of the memory are followed by their statements. They cost a step for each
 -- byte, and their helpers take more statements than that.
-use Rattle.body_meaning.proofs.Common.{◌≡◌, ℕ, zero, suc, ◌+◌, ◌*◌, ◌%◌, ◌^◌, ◌<◌, ◌≤◌, Bool, true, false, ◌&&◌, List, [], ◌∷◌, ◌++◌}
-use Rattle.body_meaning.proofs.Common.{length, drop, replicate, if◌then◌else◌, nat_le, Some, None, Option, sym, refl, ap, ◌∙◌, subst, arith}
-use Rattle.body_meaning.proofs.Common.{length-drop, length-take, nat_tests, length-replicate, none-some, same_Some, AllByRecursion}
-use Rattle.body_meaning.proofs.Common.{bytes_at, with_bytes, named, types_of, Value, I32, Kind, MemoryCopy, MemoryFill, HasMemory, Turns}
-use Rattle.body_meaning.proofs.Common.{memory_at, copy_bytes, fill_bytes, with_content, Reaches, Progress, Is, Pointer, evaluate_args}
-use Rattle.body_meaning.proofs.Common.{helper_right, helper_of, Helper, MemoryAgrees, EndsAlike, Follows, Site, StandsAt, Target, at, slot}
-use Rattle.body_meaning.proofs.Common.{memory_arg, IsSite, IsThere, KindFollows, bytes_stmt, call_helper, operand, Defines, under, Spot}
+use Rattle.body_meaning.proofs.Common.{◌≡◌, ℕ, zero, suc, ◌+◌, ◌*◌, ◌%◌, ◌^◌, ◌<◌, ◌≤◌, ◌&&◌, List, [], ◌∷◌, ◌++◌, length, drop, replicate}
+use Rattle.body_meaning.proofs.Common.{nat_le, Some, None, Option, sym, refl, ap, ◌∙◌, subst, arith, length-drop}
+use Rattle.body_meaning.proofs.Common.{length-take, nat_tests, length-replicate, AllByRecursion, bytes_at, named, types_of, Value, I32}
+use Rattle.body_meaning.proofs.Common.{Kind, MemoryCopy, MemoryFill, HasMemory, Turns, memory_at, copy_bytes, fill_bytes, with_content}
+use Rattle.body_meaning.proofs.Common.{Reaches, Progress, Is, Pointer, evaluate_args, helper_right, helper_of, Helper, MemoryAgrees}
+use Rattle.body_meaning.proofs.Common.{EndsAlike, Follows, Site, StandsAt, Target, at, slot, memory_arg, IsSite, IsThere, KindFollows}
+use Rattle.body_meaning.proofs.Common.{both_hold, bytes_stmt, call_helper, operand, Defines, under, Spot}
 use Rattle.w2c_base.specs.declared.value.ValType.TheVariants as type
 use Rattle.w2c_base.specs.declared.trap.TrapKind.TheVariants as trap
 use Rattle.w2c_base.proofs.Lists.{all_replicate, all_take, all_drop}
@@ -17,12 +17,12 @@ use Rattle.c_meaning.specs.State as state
 use Rattle.c_meaning.specs.Machine as machine
 use Rattle.c_helpers.specs.declared.operation.Helper.TheVariants as helper
 use Rattle.c_prelude.specs.Operators.{number, DoesBytes, ComesToBytes}
-use Rattle.body_meaning.proofs.Before.{spends}
+use Rattle.body_meaning.proofs.Before.{arrives_by, spends}
 use Rattle.alike.specs.Objects.{memory_object}
 use Rattle.body_meaning.proofs.Seen.{MemoryFound, memory_found}
 use Rattle.body_meaning.proofs.Gives.{running, operand_is, helper_comes, helper_comes_between, traps}
 use Rattle.body_meaning.proofs.Numeric.{helper_there}
-use Rattle.body_meaning.proofs.Memories.{memory_done, written_agrees, rewritten}
+use Rattle.body_meaning.proofs.Memories.{memory_done, tested_agrees, rewritten}
 use Rattle.body_meaning.proofs.Vars.{height}
 use Rattle.body_meaning.proofs.Locals.{three_of}
 
@@ -57,18 +57,8 @@ module _ (g : Site) (s : Spot) (exit : Target) (code : List tree.Stmt) where
       → Follows g 0 s.targets exit s.base s.rest s.outs from n (exec.spend_all count left s.now (λ left. exec.Normal left stack now))
   all_paid total stack now moves paid zero left n e f =
       let many = moves.many in
-      let few = moves.few in (
-        moves.typed,
-        [],
-        record {
-          machine = moves.machine;
-          vars = moves.vars;
-          stands = moves.stands;
-          statements = moves.statements;
-          way = moves.way;
-          paid = record { least = omega (arith, e, f, many); most = omega (arith, e, f, few) };
-        },
-      )
+      let few = moves.few in
+      (moves.typed, [], arrives_by moves.stands moves.way (record { least = omega (arith, e, f, many); most = omega (arith, e, f, few) }))
   all_paid total stack now moves paid (suc count) zero n e f =
       let many = moves.many in record {
         to = at g moves.machine s.rest moves.vars;
@@ -100,38 +90,19 @@ copied_length bytes from count within = omega (arith, within, length-take count 
 
 copy_keeps : KeepsMemories copy_bytes
 copy_keeps memory other to from count bytes e agrees =
-    go (nat_le (from + count) (length memory.bytes)) (nat_le (to + count) (length memory.bytes)) refl refl e
-  where
-    new : List ℕ
-    new = bytes_at memory.bytes from count
-
-    go : (a b : Bool) → nat_le (from + count) (length memory.bytes) ≡ a → nat_le (to + count) (length memory.bytes) ≡ b
-        → (if a && b then Some (with_bytes memory.bytes to new) else None) ≡ Some bytes
-        → MemoryAgrees (record { bytes = bytes; max = memory.max }) (with_content other bytes)
-    go true true is also e =
-        let read : from + count ≤ length memory.bytes = grind (arith, nat_tests, is) in
-        let within : to + count ≤ length memory.bytes = grind (arith, nat_tests, also) in
-        subst (λ bytes. MemoryAgrees (record { bytes = bytes; max = memory.max }) (with_content other bytes)) (same_Some
-        (with_bytes memory.bytes to new) bytes e) (written_agrees to new (omega (arith, copied_length memory.bytes from count read, within))
-        (all_take (λ b. b < 256) count (drop from memory.bytes) (all_drop (λ b. b < 256) from memory.bytes agrees.are_bytes)) agrees)
-    go true false is also e = absurd (none-some bytes e)
-    go false b is also e = absurd (none-some bytes e)
+    tested_agrees agrees (nat_le (from + count) (length memory.bytes) && nat_le (to + count) (length memory.bytes)) to
+    (bytes_at memory.bytes from count) (λ is.
+    let both = both_hold (nat_le (from + count) (length memory.bytes)) (nat_le (to + count) (length memory.bytes)) is in
+    let read : from + count ≤ length memory.bytes = grind (arith, nat_tests, both.0) in
+    let within : to + count ≤ length memory.bytes = grind (arith, nat_tests, both.1) in
+    omega (arith, copied_length memory.bytes from count read, within))
+    (all_take (λ b. b < 256) count (drop from memory.bytes) (all_drop (λ b. b < 256) from memory.bytes agrees.are_bytes)) e
 
 fill_keeps : KeepsMemories fill_bytes
-fill_keeps memory other place n count bytes e agrees = go (nat_le (place + count) (length memory.bytes)) refl e
-  where
-    new : List ℕ
-    new = replicate count (n % 256)
-
-    go : (b : Bool) → nat_le (place + count) (length memory.bytes) ≡ b
-        → (if b then Some (with_bytes memory.bytes place new) else None) ≡ Some bytes
-        → MemoryAgrees (record { bytes = bytes; max = memory.max }) (with_content other bytes)
-    go true is e =
-        let within : place + count ≤ length memory.bytes = grind (arith, nat_tests, is) in
-        subst (λ bytes. MemoryAgrees (record { bytes = bytes; max = memory.max }) (with_content other bytes)) (same_Some (with_bytes
-        memory.bytes place new) bytes e) (written_agrees place new (omega (arith, length-replicate {A = ℕ} count (n % 256), within))
-        (all_replicate (λ b. b < 256) count (n % 256) (λ some. omega arith)) agrees)
-    go false is e = absurd (none-some bytes e)
+fill_keeps memory other place n count bytes e agrees =
+    tested_agrees agrees (nat_le (place + count) (length memory.bytes)) place (replicate count (n % 256)) (λ is.
+    let within : place + count ≤ length memory.bytes = grind (arith, nat_tests, is) in
+    omega (arith, length-replicate {A = ℕ} count (n % 256), within)) (all_replicate (λ b. b < 256) count (n % 256) (λ some. omega arith)) e
 
 -- ---- the statement
 
@@ -154,12 +125,10 @@ module _ (g : Site) (room : ℕ) (calls : exec.Calls) (site : IsSite g room call
   stmt_at h = bytes_stmt g.setting.named.tree which h
 
   -- the helper's call, by what it comes to
-  written_does : (x y count : ℕ) (stack : List Value)
-      → StandsAt g (I32 count ∷ I32 y ∷ I32 x ∷ (stack ++ s.base)) s.now s.machine s.vars
+  written_does : (x y count : ℕ) (stack : List Value) → StandsAt g (I32 count ∷ I32 y ∷ I32 x ∷ (stack ++ s.base)) s.now s.machine s.vars
       → (f : MemoryFound g s.now.store s.machine s.vars) → s.outs ≡ types_of stack → (args : List tree.Arg)
       → evaluate_args g.program s.machine (running g (call_helper None which args ∷ s.rest) s.vars) args
-      ≡ Is (given_to (memory_object f.owner) x y count)
-      → (result : Option (List ℕ)) → change f.memory.bytes x y count ≡ result
+      ≡ Is (given_to (memory_object f.owner) x y count) → (result : Option (List ℕ)) → change f.memory.bytes x y count ≡ result
       → ComesToBytes (helper_of which) (given_to (memory_object f.owner) x y count) s.machine (memory_object f.owner) f.other count result
       → DoesAll g s (call_helper None which args ∷ []) count (exec.written f.owner f.memory result stack s.now)
   written_does x y count stack stood f typed args evaluated None is comes = λ left.
@@ -209,8 +178,7 @@ module _ (g : Site) (room : ℕ) (calls : exec.Calls) (site : IsSite g room call
       ≡ exec.on_memory (memory_at g.linked g.unit 0) s.now
       (λ owner memory. exec.written owner memory (change memory.bytes x y count) under s.now))
       → HasMemory g.setting.context → (stack : List Value) → Turns (type.I32 ∷ type.I32 ∷ type.I32 ∷ []) [] (types_of stack) s.outs
-      → StandsAt g (stack ++ s.base) s.now s.machine s.vars
-      → Follows g 0 s.targets exit s.base s.rest s.outs
+      → StandsAt g (stack ++ s.base) s.now s.machine s.vars → Follows g 0 s.targets exit s.base s.rest s.outs
       (at g s.machine (stmt_at (under 3 (types_of (stack ++ s.base))) ∷ s.rest) s.vars) n
       (exec.spend n s.now (λ left. exec.did_all (exec.count_on stack) left s.now (exec.plain g.linked g.unit kind stack s.now)))
   bytes_follow exit kind n done has stack turns stood =

@@ -1,6 +1,6 @@
 -- A call in code: its arguments, the function that it reaches, and what comes back (WebAssembly Core 1.0,
 -- 4.4.5 `call`; C11, 6.5.2.2).
-use Rattle.body_meaning.proofs.Common.{◌≡◌, ℕ, suc, ◌+◌, ◌≤◌, Bool, true, List, [], ◌∷◌, ◌++◌, map, reverse, length, take, drop}
+use Rattle.body_meaning.proofs.Common.{◌≡◌, ℕ, suc, ◌≤◌, Bool, true, List, [], ◌∷◌, ◌++◌, map, reverse, length, take, drop}
 use Rattle.body_meaning.proofs.Common.{if◌then◌else◌, slice_get, Some, None, Option, sym, refl, ap, ◌∙◌, subst, append_assoc, arith}
 use Rattle.body_meaning.proofs.Common.{drop-append_seam, take-append_seam, length-reverse, reverse-reverse, result_is_number, at_index}
 use Rattle.body_meaning.proofs.Common.{if_found, named, with_named, IsNumber, equal_types, is_result, type_of, types_of, FuncType, ValType}
@@ -22,7 +22,7 @@ use Rattle.body_definition.specs.Stack.{stands}
 use Rattle.body_meaning.proofs.Indexes.{own_of_context, import_of_context, func_callable}
 use Rattle.body_meaning.proofs.Vars.{stacked_below, agree_below}
 use Rattle.body_meaning.proofs.Slots.{SlotIsSet, slots_are_set}
-use Rattle.body_meaning.proofs.Before.{stops_before, spends}
+use Rattle.body_meaning.proofs.Before.{arrives_by, stops_before, spends}
 use Rattle.body_meaning.proofs.Operands.{reversed_front, arguments, arguments_are_numbers, types_append, reversed}
 use Rattle.body_meaning.proofs.Own.{own_is, own_stands}
 use Rattle.body_meaning.proofs.Gives.{slot_value, waiting, assign_slot, running}
@@ -69,10 +69,9 @@ resumes_with g set v {whole} {locals} machine m rest {vars} declared number agre
     r : state.Running
     r = (state_at g m rest vars).running
 
-resumes : (g : Site) → SlotIsSet g → (t : Option ValType)
-    (value : Option Value) {whole locals : List Value} (machine m : state.Machine) (rest : List tree.Stmt) {vars : state.Vars}
-    → is_result t value ≡ true → ((u : ValType) → t ≡ Some u → g.slots u (length (types_of whole)) ≡ true)
-    → VarsAgree g.slots g.has_element whole locals vars
+resumes : (g : Site) → SlotIsSet g → (t : Option ValType) (value : Option Value) {whole locals : List Value} (machine m : state.Machine)
+    (rest : List tree.Stmt) {vars : state.Vars} → is_result t value ≡ true
+    → ((u : ValType) → t ≡ Some u → g.slots u (length (types_of whole)) ≡ true) → VarsAgree g.slots g.has_element whole locals vars
     → Resumes g t whole locals value machine (waiting g (result_slot t (length (types_of whole))) rest vars) rest
 resumes g set None None machine m rest {vars} typed declared agree = record { vars = vars; there = refl; agree = agree; types = refl }
 resumes g set (Some type.I32) (Some (I32 n)) machine m rest typed declared agree =
@@ -98,8 +97,7 @@ pub call_done : (g : Site) → SlotIsSet g → (targets : List Target) (exit : T
     → Reaches g.program k from to → 1 ≤ k → k ≤ 340
     → VarsAgree g.slots g.has_element (under ++ base) now.locals vars → types_of now.locals ≡ g.setting.context.locals
     → ((u : ValType) → ty.result ≡ Some u → g.slots u (length (types_of (under ++ base))) ≡ true)
-    → outs ≡ values ty.result ++ types_of under
-    → CallFollows g.program g.linked g.count (suc g.depth) g.pending
+    → outs ≡ values ty.result ++ types_of under → CallFollows g.program g.linked g.count (suc g.depth) g.pending
     (waiting g (result_slot ty.result (length (types_of (under ++ base)))) rest vars) ty to left o
     → Follows g 0 targets exit base rest outs from (suc left) (exec.came_back o under now)
 call_done g set targets exit base
@@ -107,18 +105,12 @@ call_done g set targets exit base
     let r = resumes g set ty.result value c.machine m rest c.typed declared agree in (
       result_types value under ty.result r.types ∙ sym outs_are,
       [],
-      record {
-        machine = c.machine;
-        vars = r.vars;
-        stands = record {
-          together = c.together;
-          variables = subst (λ xs. VarsAgree g.slots g.has_element xs now.locals r.vars) (sym (result_over value under base)) r.agree;
-          local_types = locals;
-        };
-        statements = k + c.statements;
-        way = join g.program k c.statements from to _ way (subst (λ x. Reaches g.program c.statements to x) r.there c.way);
-        paid = record { least = omega (arith, least, c.paid.least); most = omega (arith, most, c.paid.most) };
-      },
+      arrives_by {m = c.machine} {vars = r.vars} (record {
+        together = c.together;
+        variables = subst (λ xs. VarsAgree g.slots g.has_element xs now.locals r.vars) (sym (result_over value under base)) r.agree;
+        local_types = locals;
+      }) (join g.program k c.statements from to _ way (subst (λ x. Reaches g.program c.statements to x) r.there c.way))
+          (record { least = omega (arith, least, c.paid.least); most = omega (arith, most, c.paid.most) }),
     )
 call_done g set targets exit base under rest ty now m left (exec.CallStops why made trail) way least most agree locals declared outs_are c =
     stops_before g.linked g.pending call_spare
@@ -189,8 +181,7 @@ callee_found {g} index {ty} site typed = by_import (slice_get (func_imports m.tr
 pub call_begins : (g : Site) (m : state.Machine) (vars : state.Vars) (rest : List tree.Stmt)
     (target : Option state.Name) (name : state.Name) (exprs : List tree.Arg) (args : List Value) {address : state.FuncAddress}
     → evaluate_args g.program m (state_at g m (tree.Call target (tree.Called name) exprs ∷ rest) vars).running exprs
-    ≡ state.Is (map state.Number args)
-    → primitive name ≡ None → func_named g.program g.unit name ≡ Some address
+    ≡ state.Is (map state.Number args) → primitive name ≡ None → func_named g.program g.unit name ≡ Some address
     → Reaches g.program 1 (at g m (tree.Call target (tree.Called name) exprs ∷ rest) vars)
     (called g.program g.pending address m args (waiting g target rest vars))
 call_begins g m vars rest target name exprs args {address} evaluated no_primitive named =
@@ -199,9 +190,8 @@ call_begins g m vars rest target name exprs args {address} evaluated no_primitiv
     (rw (evaluated, no_primitive, named) refl)
 
 -- the module's call of a function with the arguments on its operands
-pub invoked : (calls : exec.Calls)
-    (f : link.FuncAddress) {params : List ValType} (left : ℕ) {stack : List Value} (args under : List Value) (now : store.State)
-    → stack ≡ reverse args ++ under → types_of args ≡ params
+pub invoked : (calls : exec.Calls) (f : link.FuncAddress) {params : List ValType} (left : ℕ) {stack : List Value} (args under : List Value)
+    (now : store.State) → stack ≡ reverse args ++ under → types_of args ≡ params
     → exec.invoke calls f params left stack now ≡ exec.came_back (calls f args left now.store now.trail) under now
 invoked calls f {params} left {stack} args under now is typed =
     let long : length params ≡ length (reverse args) = ap length (sym typed) ∙ (types_many args ∙ sym (length-reverse args)) in
@@ -217,26 +207,22 @@ called_by : (s : link.LinkedSet) (calls : exec.Calls) {o : Option link.FuncAddre
     (stack : List Value) (now : store.State) → o ≡ Some f → link.func_type s f ≡ Some ty
     → exec.call s calls o left stack now ≡ exec.invoke calls f ty.params left stack now
 called_by s calls {f} left stack now found typed =
-    ap (λ (x : Option link.FuncAddress). exec.call s calls x left stack now) found
-    ∙ ap (λ (t : Option FuncType). elim t
+    ap (λ (x : Option link.FuncAddress). exec.call s calls x left stack now) found ∙ ap (λ (t : Option FuncType). elim t
     [ None ↦ exec.Stops exec.Stuck now | Some t ↦ exec.invoke calls f t.params left stack now ]) typed
 
 -- what lies under the arguments
 pub types_under : {params : List ValType} {stack : List Value} (base args under : List Value)
-    → stack ≡ reverse args ++ under → types_of args ≡ params
-    → drop (length params) (types_of (stack ++ base)) ≡ types_of (under ++ base)
+    → stack ≡ reverse args ++ under → types_of args ≡ params → drop (length params) (types_of (stack ++ base)) ≡ types_of (under ++ base)
 types_under {params} {stack} base args under is typed =
     let whole : types_of (stack ++ base) ≡ types_of (reverse args) ++ types_of (under ++ base) =
-    ap (λ xs. types_of (xs ++ base)) is ∙ (ap types_of (append_assoc (reverse args) under base) ∙ types_append _ _)
-    in
+    ap (λ xs. types_of (xs ++ base)) is ∙ (ap types_of (append_assoc (reverse args) under base) ∙ types_append _ _) in
     let long : length params ≡ length (types_of (reverse args)) = ap length (sym typed)
     ∙ (types_many args ∙ (sym (length-reverse args) ∙ sym (types_many _))) in
     ap (drop (length params)) whole ∙ (rw long (drop-append_seam (types_of (reverse args)) (types_of (under ++ base))))
 
 -- the result stands on what lies under the arguments
 stands_behind : (c : Context) (types : Stack) (index : ℕ) {ty : FuncType} {low : Stack} {u : ValType} → at_index c.funcs index ≡ Some ty
-    → drop (length ty.params) types ≡ low → ty.result ≡ Some u
-    → stands u (length low) (after c types (Call index)) ≡ true
+    → drop (length ty.params) types ≡ low → ty.result ≡ Some u → stands u (length low) (after c types (Call index)) ≡ true
 stands_behind c types index {ty} {low} {u} known is result =
     let h : ℕ = length low in
     let called : stands u h (after_call (at_index c.funcs index) types) ≡ stands u h (values ty.result ++ drop (length ty.params) types) =
@@ -255,8 +241,7 @@ pub args_follow : {g : Site} {room : ℕ} {calls : exec.Calls} → IsSite g room
     → link.func_type g.linked f ≡ Some ty → IsCallable g.linked g.count f → StandsFor g.program g.linked f a
     → types_of stack ≡ reverse ty.params ++ more → outs ≡ reverse (values ty.result) ++ more
     → ((u : ValType) → ty.result ≡ Some u → (types : Stack) → drop (length ty.params) (types_of (stack ++ base)) ≡ types
-    → g.slots u (length types) ≡ true)
-    → StandsAt g (stack ++ base) now m vars → (callee : tree.Callee)
+    → g.slots u (length types) ≡ true) → StandsAt g (stack ++ base) now m vars → (callee : tree.Callee)
     → ((args : List Value) (target : Option state.Name) (exprs : List tree.Arg)
     → evaluate_args g.program m (running g (tree.Call target callee exprs ∷ rest) vars) exprs ≡ state.Is (map state.Number args)
     → Reaches g.program 1 (at g m (tree.Call target callee exprs ∷ rest) vars)

@@ -90,9 +90,10 @@ pub use Rattle.c_meaning.specs.Step.{call, evaluate, evaluate_arg, evaluate_args
 pub use Rattle.c_meaning.specs.Step.{in_unit, label_of, locals_of, next, number_in, param_names, param_types, place_of, put_in, returned}
 pub use Rattle.c_meaning.specs.Step.{take_effect, value_of, with_value, with_vars}
 pub use Rattle.alike.specs.Agree.{ElementAgrees, ElementsAgree, IsCallable, IsCallableIfAny, IsDefined, IsFuncOf, IsMade, MemoryAgrees}
-pub use Rattle.alike.specs.Agree.{PointersAreSet, PointsTo, TableAgrees}
+pub use Rattle.alike.specs.Agree.{Agrees, PointersAreSet, PointsTo, TableAgrees}
 pub use Rattle.alike.specs.Alike.{first_global}
-pub use Rattle.alike.specs.CallsFollow.{CallFollows, CallsFollow, ComesBack, EndsAlike, GoesOn, StopsAlike, Together, call_spare}
+pub use Rattle.alike.specs.CallsFollow.{CallFollows, CallsFollow, ComesBack, EndsAlike, GoesOn, Paid, SameStop, StopsAlike, Together}
+pub use Rattle.alike.specs.CallsFollow.{call_spare}
 pub use Rattle.alike.specs.Passing.{PassesOn, StandsFor, called, core, given, wrapper_statements}
 pub use Rattle.c_helpers.specs.Helpers.{helper_of}
 pub use Rattle.c_helpers.specs.Needed.{calls_helper}

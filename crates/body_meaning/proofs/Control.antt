@@ -21,7 +21,7 @@ use Rattle.body_meaning.proofs.Plain.{plain_kinds_follow}
 use Rattle.body_meaning.proofs.Calls.{calls_in_code_follow}
 use Rattle.body_meaning.proofs.Past.{past_way}
 use Rattle.body_meaning.proofs.Before.{before, with_spare, follows_past, sequel, spends, arrives_over, target_by, outs_over, leaves}
-use Rattle.body_meaning.proofs.Before.{turns_follow}
+use Rattle.body_meaning.proofs.Before.{arrives_by, turns_follow}
 use Rattle.alike.proofs.Placed.{placed_front, placed_back}
 use Rattle.body_meaning.proofs.Placed.{label_found, last_label_found}
 use Rattle.body_meaning.proofs.Jumps.{goto_reaches, if_passes, if_goes, eq_more, target_over, targets_over, targets_unshift}
@@ -143,8 +143,7 @@ record Inside (g : Site) (base : List Value) (ts : List Target) (exit : Target) 
   narrow : finds has_wide ≡ false
 
 there_less : {g : Site} {finds : (Kind → Bool) → Bool} (fewer : (Kind → Bool) → Bool)
-    → ((test : Kind → Bool) → fewer test ≡ true → finds test ≡ true)
-    → IsThere g finds → IsThere g fewer
+    → ((test : Kind → Bool) → fewer test ≡ true → finds test ≡ true) → IsThere g finds → IsThere g fewer
 there_less fewer less h = record { helpers = λ which is. h.helpers which (less _ is); element = λ is. h.element (less _ is) }
 
 false_too : {a : Bool} (b : Bool) → (b ≡ true → a ≡ true) → a ≡ false → b ≡ false
@@ -152,10 +151,9 @@ false_too true less e = absurd (true≢false (sym (less refl) ∙ e))
 false_too false less e = refl
 
 -- a part of it, over more operands
-part : {g : Site} (stack : List Value) {base : List Value}
-    {ts : List Target} {exit : Target} {finds : (Kind → Bool) → Bool} (fewer : (Kind → Bool) → Bool) {names : ℕ → Bool} (some : ℕ → Bool)
-    → ((test : Kind → Bool) → fewer test ≡ true → finds test ≡ true) → ((k : ℕ) → some k ≡ true → names k ≡ true)
-    → Inside g base ts exit finds names → Inside g (stack ++ base) ts exit fewer some
+part : {g : Site} (stack : List Value) {base : List Value} {ts : List Target} {exit : Target} {finds : (Kind → Bool) → Bool}
+    (fewer : (Kind → Bool) → Bool) {names : ℕ → Bool} (some : ℕ → Bool) → ((test : Kind → Bool) → fewer test ≡ true → finds test ≡ true)
+    → ((k : ℕ) → some k ≡ true → names k ≡ true) → Inside g base ts exit finds names → Inside g (stack ++ base) ts exit fewer some
 part {g} stack {base} {ts} fewer {names} some less less_named h = record {
   targets = targets_over g stack base names some 0 ts less_named h.targets;
   is_exit = record {
@@ -184,13 +182,11 @@ declared_none : (g : Site) (height : ℕ) (u : ValType) → None ≡ Some u → 
 declared_none g height u e = absurd (grind (arith, e))
 
 -- code inside a block, whose label is target 0 there
-opened : {g : Site}
-    {ts : List Target} {exit : Target} (l : ℕ) (v : Option ValType) (stack : List Value) {base : List Value} (to : List tree.Stmt)
-    {finds : (Kind → Bool) → Bool} (fewer : (Kind → Bool) → Bool) (names some : ℕ → Bool)
+opened : {g : Site} {ts : List Target} {exit : Target} (l : ℕ) (v : Option ValType) (stack : List Value) {base : List Value}
+    (to : List tree.Stmt) {finds : (Kind → Bool) → Bool} (fewer : (Kind → Bool) → Bool) (names some : ℕ → Bool)
     → ((test : Kind → Bool) → fewer test ≡ true → finds test ≡ true) → ((k : ℕ) → some k ≡ true → names k ≡ true)
     → ((u : ValType) → v ≡ Some u → g.slots u (length (types_of (stack ++ base))) ≡ true)
-    → (some 0 ≡ true → after_label (label_name l) g.body.stmts ≡ Some to)
-    → Inside g base ts exit finds (λ k. names (suc k))
+    → (some 0 ≡ true → after_label (label_name l) g.body.stmts ≡ Some to) → Inside g base ts exit finds (λ k. names (suc k))
     → Inside g (stack ++ base) (target_by l (length (types_of (stack ++ base))) v (stack ++ base) to ∷ ts) exit fewer some
 opened {g} {ts} l v stack {base} to fewer names some less less_named declared found h =
     let p = part stack fewer _ less (λ k is. less_named (suc k) is) h in
@@ -227,8 +223,7 @@ block_outs t {more} e f = f ∙ (ap (λ xs. xs ++ more) (reversed t) ∙ ap (λ 
 -- a loop, from what its turns do
 loop_turns : {g : Site} (ts : List Target) (exit : Target) (t : Option ValType) (l h : ℕ) (stack base : List Value) (named : Bool)
     (inner rest : List tree.Stmt) {outs : Stack} (body : ℕ → store.State → exec.Result) (n : ℕ) {now : store.State} {m : state.Machine}
-    {vars : state.Vars}
-    → outs ≡ values t ++ types_of stack → StandsAt g (stack ++ base) now m vars
+    {vars : state.Vars} → outs ≡ values t ++ types_of stack → StandsAt g (stack ++ base) now m vars
     → ((n : ℕ) (now : store.State) (m : state.Machine) (vars : state.Vars) → StandsAt g (stack ++ base) now m vars
     → Follows g 0 (target_by l h None (stack ++ base) (inner ++ rest) ∷ ts) exit (stack ++ base) rest (values t)
     (at g m (inner ++ rest) vars) n (body n now))
@@ -241,32 +236,22 @@ loop_turns {g} ts exit t l h stack base named inner rest {outs} body n {now} {m}
 -- ---- if
 
 -- the first branch of an `if` is left by a jump over the second
-arrives_over_jump : {g : Site}
-    (names : List state.Name) (l : ℕ) (skipped : List tree.Stmt) {rest : List tree.Stmt} {from : Progress} {n left : ℕ}
-    {stack : List Value} {now : store.State} → after_label (label_name l) g.body.stmts ≡ Some rest
+arrives_over_jump : {g : Site} (names : List state.Name) (l : ℕ) (skipped : List tree.Stmt) {rest : List tree.Stmt} {from : Progress}
+    {n left : ℕ} {stack : List Value} {now : store.State} → after_label (label_name l) g.body.stmts ≡ Some rest
     → Arrives g 0 (labelled names (tree.Goto (label_name l) ∷ skipped)) from n left stack now → Arrives g 1 rest from n left stack now
-arrives_over_jump {g} names l skipped {rest} {from} found a = record {
-  machine = a.machine;
-  vars = a.vars;
-  stands = a.stands;
-  statements = a.statements + 1;
-  way = join g.program a.statements 1 from (at g a.machine (labelled names (tree.Goto (label_name l) ∷ skipped)) a.vars)
-      (at g a.machine rest a.vars) a.way (past_way g names (goto_reaches g a.machine a.vars (label_name l) skipped found));
-  paid = record { least = omega (arith, a.paid.least); most = omega (arith, a.paid.most) };
-}
+arrives_over_jump {g} names l skipped {rest} {from} found a =
+    arrives_by a.stands (join g.program a.statements 1 from (at g a.machine (labelled names (tree.Goto (label_name l) ∷ skipped)) a.vars)
+    (at g a.machine rest a.vars) a.way (past_way g names (goto_reaches g a.machine a.vars (label_name l) skipped found)))
+    (record { least = omega (arith, a.paid.least); most = omega (arith, a.paid.most) })
 
-leaves_over : (g : Site) (ts : List Target) (exit : Target) (t : Option ValType)
-    (l h : ℕ) (stack base : List Value) (skipped rest : List tree.Stmt) {outs : Stack} (from : Progress) (n : ℕ) (r : exec.Result)
-    → outs ≡ values t ++ types_of stack → (b : Bool) → (b ≡ false → NotNormal r)
-    → (b ≡ true → after_label (label_name l) g.body.stmts ≡ Some rest)
+leaves_over : (g : Site) (ts : List Target) (exit : Target) (t : Option ValType) (l h : ℕ) (stack base : List Value)
+    (skipped rest : List tree.Stmt) {outs : Stack} (from : Progress) (n : ℕ) (r : exec.Result) → outs ≡ values t ++ types_of stack
+    → (b : Bool) → (b ≡ false → NotNormal r) → (b ≡ true → after_label (label_name l) g.body.stmts ≡ Some rest)
     → Follows g 0 (target_by l h t (stack ++ base) rest ∷ ts) exit (stack ++ base) (jump_over b l ++ skipped) (values t) from n r
     → Follows g 1 ts exit base rest outs from n (exec.leave t stack r)
 leaves_over g ts exit t l h stack base skipped rest from n (exec.Normal left inner now) e false never found f = absurd (never refl)
-leaves_over g ts exit t l h stack base skipped rest from n (exec.Normal left inner now) e true never found f = (
-  outs_over t inner stack e f.0,
-  [],
-  arrives_over inner stack base (arrives_over_jump f.1 l skipped (found refl) f.2),
-)
+leaves_over g ts exit t l h stack base skipped rest from n (exec.Normal left inner now) e true never found f =
+    (outs_over t inner stack e f.0, [], arrives_over inner stack base (arrives_over_jump f.1 l skipped (found refl) f.2))
 leaves_over g ts exit t l h stack base skipped rest {outs} from n (exec.Branch label left inner now) e b never found f =
     with_spare g 1 ts exit base rest outs from n (exec.leave t stack (exec.Branch label left inner now))
     (leaves g 0 ts exit t l h stack base [] rest from n (exec.Branch label left inner now) e f)
@@ -286,8 +271,7 @@ behind_one g spare ts exit base rest outs left r few way f =
 -- an `if` with one branch
 if_alone : {g : Site} (ts : List Target) (exit : Target) {t : Option ValType} (base stack : List Value) (l left c : ℕ) (rest
     : List tree.Stmt) {outs : Stack} {now : store.State} {m : state.Machine} {vars : state.Vars} (first : List tree.Stmt) (r : exec.Result)
-    → t ≡ None → outs ≡ values t ++ types_of stack
-    → IsPlaced g.body.stmts (first ++ tree.Label (label_name l) ∷ []) rest
+    → t ≡ None → outs ≡ values t ++ types_of stack → IsPlaced g.body.stmts (first ++ tree.Label (label_name l) ∷ []) rest
     → StandsAt g (I32 c ∷ (stack ++ base)) now m vars
     → Follows g 0 (target_by l (length (types_of (stack ++ base))) t (stack ++ base) rest ∷ ts) exit (stack ++ base)
     (tree.Label (label_name l) ∷ rest) (values t) (at g m (first ++ (tree.Label (label_name l) ∷ rest)) vars) left r
@@ -299,15 +283,9 @@ if_alone {g} ts exit base stack l left zero rest {m} {vars} first r none e place
     let h = length (types_of (stack ++ base)) in (
       sym (e ∙ ap (λ o. values o ++ types_of stack) none),
       [],
-      record {
-        machine = m;
-        vars = vars;
-        stands = stands_below (I32 0 ∷ []) (stack ++ base) s;
-        statements = 1;
-        way = if_goes g m vars
-            op.Eq h 0 l code s.variables.stacked.0 refl (placed_back g.body.stmts first (tree.Label (label_name l) ∷ []) rest placed).0;
-        paid = record { least = omega arith; most = omega arith };
-      },
+      arrives_by (stands_below (I32 0 ∷ []) (stack ++ base) s) (if_goes g m vars
+          op.Eq h 0 l code s.variables.stacked.0 refl (placed_back g.body.stmts first (tree.Label (label_name l) ∷ []) rest placed).0)
+          (record { least = omega arith; most = omega arith }),
     )
 if_alone {g} ts exit {t} base stack l left (suc c) rest {outs} {m} {vars} first r none e placed s f =
     let code = (first ++ tree.Label (label_name l) ∷ []) ++ rest in
@@ -325,12 +303,9 @@ if_both : {g : Site}
     → Follows g 0 (target_by (suc l) (length (types_of (stack ++ base))) t (stack ++ base) rest ∷ ts) exit (stack ++ base)
     ((jump_over b (suc l) ++ (tree.Label (label_name l) ∷ (second ++ label_if (b || named) (suc l)))) ++ rest) (values t)
     (at g m (first ++ ((jump_over b (suc l) ++ (tree.Label (label_name l) ∷ (second ++ label_if (b || named) (suc l)))) ++ rest))
-    vars) left r
-    → Follows g 0 (target_by (suc l) (length (types_of (stack ++ base))) t (stack ++ base) rest ∷ ts) exit (stack ++ base)
-    (label_if (b || named) (suc l) ++ rest) (values t)
-    (at g m (second ++ (label_if (b || named) (suc l) ++ rest)) vars) left r'
-    → Follows g 0 ts exit base rest outs
-    (at g m (jump_if op.Eq (length (types_of (stack ++ base))) l ∷
+    vars) left r → Follows g 0 (target_by (suc l) (length (types_of (stack ++ base))) t (stack ++ base) rest ∷ ts) exit (stack ++ base)
+    (label_if (b || named) (suc l) ++ rest) (values t) (at g m (second ++ (label_if (b || named) (suc l) ++ rest)) vars) left r'
+    → Follows g 0 ts exit base rest outs (at g m (jump_if op.Eq (length (types_of (stack ++ base))) l ∷
     ((first ++ (jump_over b (suc l) ++ (tree.Label (label_name l) ∷ (second ++ label_if (b || named) (suc l))))) ++ rest)) vars) (suc left)
     (exec.choose (I32 c ∷ stack) now (λ under. exec.leave t under r) (λ under. exec.leave t under r'))
 if_both {g} ts exit t base stack l left zero rest {outs} {m} {vars} first second r r' b named e never placed s f f' =
@@ -361,8 +336,7 @@ here_of : {g : Site} (kind : Kind) (ts : List Target) (base stack : List Value) 
     (now : store.State) (m : state.Machine) (vars : state.Vars)
     → KindHasType g.setting.context (map (λ t. t.aim.value) ts) kind (types_of stack) outs → ends kind ≡ false
     → (ends kind ≡ false → (t : ValType) (height : ℕ) → stands t height (after g.setting.context (types_of (stack ++ base)) kind) ≡ true
-    → g.slots t height ≡ true)
-    → has_wide kind ≡ false
+    → g.slots t height ≡ true) → has_wide kind ≡ false
     → IsPlaced g.body.stmts (emit_kind g.setting (aims_of ts) (types_of (stack ++ base)) l kind) rest
     → StandsAt g (stack ++ base) now m vars → IsHere g kind (record
     { targets = ts; base = base; label = l; rest = rest; outs = outs; now = now; machine = m; vars = vars }) stack
@@ -374,27 +348,15 @@ here_of kind ts base stack l rest outs now m vars typed goes slots narrow placed
 mutual
   code_goes : (g : Site) (calls : exec.Calls) → Others g calls → (code : Code)
       (ts : List Target) (exit : Target) (base stack : List Value) (l n : ℕ) (rest : List tree.Stmt) (outs : Stack) (now : store.State)
-      (m : state.Machine) (vars : state.Vars)
-      → HasType g.setting.context (map (λ t. t.aim.value) ts) code (types_of stack) outs
+      (m : state.Machine) (vars : state.Vars) → HasType g.setting.context (map (λ t. t.aim.value) ts) code (types_of stack) outs
       → Inside g base ts exit (λ test. any_in test code) (λ k. branches_to k code)
       → ((t : ValType) (height : ℕ) → occurs t height g.setting.context (types_of (stack ++ base)) code ≡ true → g.slots t height ≡ true)
-      → l + labels_in code < 2 ^ 32
-      → IsPlaced g.body.stmts (emit g.setting (aims_of ts) (types_of (stack ++ base)) l code) rest
+      → l + labels_in code < 2 ^ 32 → IsPlaced g.body.stmts (emit g.setting (aims_of ts) (types_of (stack ++ base)) l code) rest
       → StandsAt g (stack ++ base) now m vars
       → Follows g 0 ts exit base rest outs (at g m (emit g.setting (aims_of ts) (types_of (stack ++ base)) l code ++ rest) vars) n
       (exec.exec g.linked calls g.unit code n stack now)
-  code_goes g calls others end_code ts exit base stack l n rest outs now m vars typed inside slots few placed s = (
-    typed,
-    [],
-    record {
-      machine = m;
-      vars = vars;
-      stands = s;
-      statements = 0;
-      way = stays g.program (at g m rest vars);
-      paid = record { least = omega arith; most = omega arith };
-    },
-  )
+  code_goes g calls others end_code ts exit base stack l n rest outs now m vars typed inside slots few placed s =
+      (typed, [], arrives_by s (stays g.program (at g m rest vars)) (record { least = omega arith; most = omega arith }))
   code_goes g calls others (then_code place kind code) ts exit base stack l n rest outs now m vars typed inside slots few placed s =
       let c = g.setting.context in
       let types = types_of (stack ++ base) in
@@ -414,14 +376,12 @@ mutual
 
   kind_goes : (g : Site) (calls : exec.Calls) → Others g calls → (kind : Kind)
       (ts : List Target) (exit : Target) (base stack : List Value) (l n : ℕ) (rest : List tree.Stmt) (outs : Stack) (now : store.State)
-      (m : state.Machine) (vars : state.Vars)
-      → KindHasType g.setting.context (map (λ t. t.aim.value) ts) kind (types_of stack) outs
+      (m : state.Machine) (vars : state.Vars) → KindHasType g.setting.context (map (λ t. t.aim.value) ts) kind (types_of stack) outs
       → Inside g base ts exit (λ test. test kind || any_inside test kind) (λ k. targets_in k kind)
       → (ends kind ≡ false → (t : ValType) (height : ℕ) → stands t height (after g.setting.context (types_of (stack ++ base)) kind) ≡ true
       → g.slots t height ≡ true)
       → ((t : ValType) (height : ℕ) → occurs_in t height g.setting.context (types_of (stack ++ base)) kind ≡ true → g.slots t height ≡ true)
-      → l + labels_of kind < 2 ^ 32
-      → IsPlaced g.body.stmts (emit_kind g.setting (aims_of ts) (types_of (stack ++ base)) l kind) rest
+      → l + labels_of kind < 2 ^ 32 → IsPlaced g.body.stmts (emit_kind g.setting (aims_of ts) (types_of (stack ++ base)) l kind) rest
       → StandsAt g (stack ++ base) now m vars
       → Follows g 0 ts exit base rest outs (at g m (emit_kind g.setting (aims_of ts) (types_of (stack ++ base)) l kind ++ rest) vars) n
       (exec.exec_kind g.linked calls g.unit kind n stack now)

@@ -29,8 +29,7 @@ use Rattle.alike.proofs.Store.{with_depth_together}
 
 -- with room for one more the code is come to, one deeper
 pub begins : (g : Site) (m : state.Machine) {code : Code} (vars : state.Vars) → BodyIsPlaced g.setting code
-    → g.body.stmts ≡ stmts_of g.setting code → m.depth < 1024
-    → Reaches g.program 2 (at g m (stmts_of g.setting code) vars)
+    → g.body.stmts ≡ stmts_of g.setting code → m.depth < 1024 → Reaches g.program 2 (at g m (stmts_of g.setting code) vars)
     (at g (with_depth m (suc m.depth)) (code_stmts g.setting code ++ end_stmts g.setting.context.result code) vars)
 begins g m {code} vars placed stmts_are room =
     let behind : List tree.Stmt = code_stmts g.setting code ++ end_stmts g.setting.context.result code in
@@ -52,8 +51,7 @@ too_deep g m code vars full =
     let first : List tree.Stmt = makers.trap trap.Exhaustion ∷ give_back c.context.result ∷ tree.Label name ∷ change_depth
     op.Add ∷ behind in
     let deep : nat_lt m.depth 1024 ≡ false = le-ltb m.depth 1024 full in
-    let passes : c_step g.program (state_at g m stmts vars) ≡ Next (state_at g m first vars) = rw deep refl
-    in
+    let passes : c_step g.program (state_at g m stmts vars) ≡ Next (state_at g m first vars) = rw deep refl in
     join g.program 1 1 _ _ _ (way_by g m stmts vars passes) (step g.program g.pending _)
 
 -- ---- the exit
@@ -66,16 +64,10 @@ record Result (t : Option ValType) (kept : List Value) : Type 0 where
 
 result_of : (t : Option ValType) (kept : List Value) → types_of kept ≡ values t → AllByRecursion IsNumber kept → Result t kept
 result_of None [] e numbers = record { value = None; typed = refl; kept_is = refl }
-result_of (Some type.I32) (I32 n ∷ []) e numbers = record {
-  value = Some (I32 n);
-  typed = number_is_found (I32 n) numbers.0;
-  kept_is = refl;
-}
-result_of (Some type.I64) (I64 n ∷ []) e numbers = record {
-  value = Some (I64 n);
-  typed = number_is_found (I64 n) numbers.0;
-  kept_is = refl;
-}
+result_of (Some type.I32) (I32 n ∷ []) e numbers =
+    record { value = Some (I32 n); typed = number_is_found (I32 n) numbers.0; kept_is = refl }
+result_of (Some type.I64) (I64 n ∷ []) e numbers =
+    record { value = Some (I64 n); typed = number_is_found (I64 n) numbers.0; kept_is = refl }
 result_of _ _ e numbers = absurd cc
 
 value_returned : (g : Site) (m : state.Machine) (vars : state.Vars) {v : Value} → g.setting.context.result ≡ Some (type_of v)
@@ -90,8 +82,7 @@ value_returned g m vars {v} typed there =
     ) refl)
 
 gives_back : (g : Site) (m : state.Machine) {vars : state.Vars} (t : Option ValType) (value : Option Value) {locals : List Value}
-    → g.setting.context.result ≡ t → is_result t value ≡ true
-    → VarsAgree g.slots g.has_element (exec.with_result value []) locals vars
+    → g.setting.context.result ≡ t → is_result t value ≡ true → VarsAgree g.slots g.has_element (exec.with_result value []) locals vars
     → Reaches g.program 1 (at g m (give_back t ∷ []) vars) (given g.program g.pending m value g.below)
 gives_back g m {vars} None None is typed agree =
     way_by g m (tree.ReturnNone ∷ [])
@@ -108,8 +99,7 @@ exit_gives : (g : Site) (m : state.Machine) {vars : state.Vars} {t : Option ValT
 exit_gives g m {vars} {t} value {d} is typed agree deep room =
     let down : (m.depth + (2 ^ 32 - 1)) % 2 ^ 32 ≡ d = omega (arith, deep, room) in
     let counts : c_step g.program (state_at g m (exit_stmts t) vars) ≡ Next (state_at g (with_depth m d) (give_back t ∷ []) vars) =
-    ap (λ (k : ℕ). Next (state_at g (with_depth m k) (give_back t ∷ []) vars)) down
-    in
+    ap (λ (k : ℕ). Next (state_at g (with_depth m k) (give_back t ∷ []) vars)) down in
     join g.program 1 1 _ _ _ (way_by g m _ vars counts) (gives_back g _ t value is typed agree)
 
 -- ---- the end of a call
@@ -121,8 +111,7 @@ result_all (Some t) (Some v) typed = of_its_type t v (Some v) (same_Some t (type
 result_all _ _ typed = absurd cc
 
 result_top : (t : Option ValType) (stack : List Value) {kept : List Value} (value : Option Value) → exec.top t stack ≡ Some kept
-    → kept ≡ exec.with_result value [] → is_result t value ≡ true
-    → exec.gives_top t stack ≡ Some value
+    → kept ≡ exec.with_result value [] → is_result t value ≡ true → exec.gives_top t stack ≡ Some value
 result_top None stack None e is typed = refl
 result_top (Some t) (v ∷ stack) {kept} (Some w) e is typed = go (equal_type t (type_of v)) e
   where
@@ -143,8 +132,7 @@ pub record Around (g : Site) (ty : FuncType) (below : List state.Frame) (from st
 
 -- the run comes to the exit with the value, and so back
 exit_comes_back : {g : Site} {ty : FuncType} {below : List state.Frame} {from start : Progress} → Around g ty below from start
-    → g.depth < 1024
-    → {n left : ℕ} {kept : List Value} {now : store.State} (names : List state.Name)
+    → g.depth < 1024 → {n left : ℕ} {kept : List Value} {now : store.State} (names : List state.Name)
     → Arrives g 0 (labelled names (exit_stmts ty.result)) start n left kept now
     → (r : Result ty.result kept) → ComesBack g.program g.linked g.count g.depth g.pending below ty from n left r.value now.store now.trail
 exit_comes_back {g} {ty} {below} {from} {start} around room {now} names x r =
@@ -156,8 +144,7 @@ exit_comes_back {g} {ty} {below} {from} {start} around room {now} names x r =
     let agree : VarsAgree g.slots g.has_element (exec.with_result r.value []) now.locals x.vars =
     subst (λ values. VarsAgree g.slots g.has_element values now.locals x.vars) r.kept_is x.stands.variables in
     let leaves : Reaches p 2 arrived inner =
-    past_way g names (exit_gives g x.machine r.value around.result_is r.typed agree x.stands.together.depth_is room)
-    in
+    past_way g names (exit_gives g x.machine r.value around.result_is r.typed agree x.stands.together.depth_is room) in
     record {
       machine = machine;
       together = with_depth_together p g.linked g.count _ g.depth x.machine now.store now.trail x.stands.together;
@@ -181,8 +168,7 @@ to_exit names false rest = (names, refl)
 pub finish_follows : {g : Site} {ty : FuncType} {below : List state.Frame} {from start : Progress} → Around g ty below from start
     → g.depth < 1024
     → (code : Code) (n : ℕ) (r : exec.Result) → Follows g 0 (exit_target ty ∷ []) (exit_target ty) [] (end_stmts ty.result code)
-    (values ty.result) start n r
-    → CallFollows g.program g.linked g.count g.depth g.pending below ty from n (exec.finish ty.result r)
+    (values ty.result) start n r → CallFollows g.program g.linked g.count g.depth g.pending below ty from n (exec.finish ty.result r)
 finish_follows {g} {ty} {below} {from} {start} around room code n r h = go r h
   where
     -- a branch to the exit, or a return, keeps the value
@@ -202,8 +188,7 @@ finish_follows {g} {ty} {below} {from} {start} around room code n r h = go r h
         let named = to_exit h.1 (names_exit code) (exit_stmts ty.result) in
         let x : Arrives g 0 (labelled named.0 (exit_stmts ty.result)) start n left stack now =
         subst (λ values. Arrives g 0 (labelled named.0 (exit_stmts ty.result)) start n left values now) (append-nil stack)
-        (subst (λ rest. Arrives g 0 rest start n left (stack ++ []) now) named.1 h.2)
-        in
+        (subst (λ rest. Arrives g 0 rest start n left (stack ++ []) now) named.1 h.2) in
         let r = result_of ty.result stack h.0 x.stands.variables.stack_numbers in
         let all : exec.gives_all ty.result stack ≡ Some r.value = ap (exec.gives_all ty.result) r.kept_is
         ∙ result_all ty.result r.value r.typed in

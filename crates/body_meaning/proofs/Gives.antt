@@ -16,7 +16,7 @@ use Rattle.c_meaning.specs.State as state
 use Rattle.c_prelude.specs.Operators.{number, answered}
 use Rattle.body_meaning.proofs.Names.{slot_is_no_depth}
 use Rattle.body_meaning.proofs.Slots.{SlotIsSet}
-use Rattle.body_meaning.proofs.Before.{spends}
+use Rattle.body_meaning.proofs.Before.{arrives_by, ends_by, spends}
 use Rattle.body_meaning.proofs.Operands.{value_number}
 use Rattle.body_meaning.proofs.Vars.{height, Takes, number_taken}
 use Rattle.c_prelude.specs.Statements.{Calls}
@@ -62,13 +62,11 @@ abbrev pub running : Site → List tree.Stmt → state.Vars → state.Running
 running g rest vars = (state_at g (record { depth = 0; units = []; trail = record { replies = []; events = [] } }) rest vars).running
 
 pub value_of_variable : (m : state.Machine) (r : state.Running) (name : List ℕ) {v : state.CValue} → bytes_eq name depth_name ≡ false
-    → named name r.vars ≡ Some v
-    → value_of m r name ≡ Some v
+    → named name r.vars ≡ Some v → value_of m r name ≡ Some v
 value_of_variable m r name no_depth is = rw (no_depth, is) refl
 
 pub evaluate-variable : (p : Program) (m : state.Machine) (r : state.Running) (name : List ℕ) {v : Value} → bytes_eq name depth_name ≡ false
-    → named name r.vars ≡ Some (state.Number v)
-    → evaluate p m r (tree.Name name) ≡ Is v
+    → named name r.vars ≡ Some (state.Number v) → evaluate p m r (tree.Name name) ≡ Is v
 evaluate-variable p m r name no_depth is = ap number_in (value_of_variable m r name no_depth is)
 
 pub slot_value : (m : state.Machine) (r : state.Running) (t : ValType) (height : ℕ) {v : state.CValue}
@@ -76,8 +74,7 @@ pub slot_value : (m : state.Machine) (r : state.Running) (t : ValType) (height :
 slot_value m r t height is = value_of_variable m r (slot t height) (slot_is_no_depth t height) is
 
 pub operand_is : (p : Program) (m : state.Machine) (r : state.Running) (t : ValType) (height : ℕ) {v : state.CValue}
-    → named (slot t height) r.vars ≡ Some v
-    → evaluate_arg p m r (tree.Value (operand t height)) ≡ Is v
+    → named (slot t height) r.vars ≡ Some v → evaluate_arg p m r (tree.Value (operand t height)) ≡ Is v
 operand_is p m r t height is = ap state.found (slot_value m r t height is)
 
 found_number : (o : Option state.CValue) {v : Value} → number_in o ≡ Is v → found o ≡ Is (state.Number v)
@@ -105,15 +102,13 @@ assign_variable m r name v below no_depth takes =
 
 -- so is a slot
 pub assign_slot : (m : state.Machine) (r : state.Running) (t : ValType) (height : ℕ) (v : Value) (below : List state.Frame)
-    → HoldsNumber t (named (slot t height) r.vars) → type_of v ≡ t
-    → assign m r (slot t height) (state.Number v) below
+    → HoldsNumber t (named (slot t height) r.vars) → type_of v ≡ t → assign m r (slot t height) (state.Number v) below
     ≡ next m (with_vars r (with_named (slot t height) (state.Number v) r.vars)) below
 assign_slot m r t height v below holds typed = assign_variable m r _ _ below (slot_is_no_depth t height) (number_taken t _ v holds typed)
 
 -- a variable is set to what an expression gives
 pub arg_reaches : (g : Site) (m : state.Machine) (rest : List tree.Stmt) (vars : state.Vars) (name : List ℕ) (e : tree.Expr)
-    {v : state.CValue}
-    → bytes_eq name depth_name ≡ false → Takes (named name vars) v
+    {v : state.CValue} → bytes_eq name depth_name ≡ false → Takes (named name vars) v
     → evaluate_arg g.program m (running g (tree.Set name (tree.Value e) ∷ rest) vars) (tree.Value e) ≡ Is v
     → Reaches g.program 1 (at g m (tree.Set name (tree.Value e) ∷ rest) vars) (at g m rest (with_named name v vars))
 arg_reaches g m rest vars name e {v} no_depth there is =
@@ -150,45 +145,26 @@ pub leaves_value : {g : Site} {s : Spot} {under : List Value} {u : ValType} → 
 leaves_value {g} {s} {under} place {now} {m} stood v is number {from} names left {statements} least most way = (
   ap (λ (t : ValType). t ∷ types_of under) is ∙ sym place.typed,
   names,
-  record {
-    machine = m;
-    vars = with_named (slot (type_of v) (height (under ++ s.base))) (state.Number v) s.vars;
-    stands = record {
-      together = stood.together;
-      variables = place.set v (under ++ s.base) now.locals s.vars (ap (λ t. g.slots t (height (under ++ s.base))) is ∙ place.there) number
-          stood.variables;
-      local_types = stood.local_types;
-    };
-    statements = statements;
-    way = subst (λ t. Reaches g.program statements from
-        (at g m (labelled names s.rest) (with_named (slot t (height (under ++ s.base))) (state.Number v) s.vars))) (sym is) way;
-    paid = record { least = omega (arith, least); most = omega (arith, most) };
-  },
+  arrives_by {m = m} {vars = with_named (slot (type_of v) (height (under ++ s.base))) (state.Number v) s.vars} (record {
+    together = stood.together;
+    variables = place.set v (under ++ s.base) now.locals s.vars (ap (λ t. g.slots t (height (under ++ s.base))) is ∙ place.there) number
+        stood.variables;
+    local_types = stood.local_types;
+  }) (subst (λ t. Reaches g.program statements from
+      (at g m (labelled names s.rest) (with_named (slot t (height (under ++ s.base))) (state.Number v) s.vars))) (sym is) way)
+      (record { least = omega (arith, least); most = omega (arith, most) }),
 )
 
 -- no value
-pub leaves_none : {g : Site} (s : Spot) (under : List Value) → s.outs ≡ types_of under
-    → {now : store.State} {m : state.Machine} → StandsAt g (under ++ s.base) now m s.vars
-    → {from : Progress} (left : ℕ) {statements : ℕ} → 1 ≤ statements → statements ≤ 400
-    → Reaches g.program statements from (at g m s.rest s.vars)
-    → Does g s.base s.rest s.outs from left s.now (exec.Leaves under now)
-leaves_none s under typed {m} stood left {statements} least most way = (
-  sym typed,
-  [],
-  record {
-    machine = m;
-    vars = s.vars;
-    stands = stood;
-    statements = statements;
-    way = way;
-    paid = record { least = omega (arith, least); most = omega (arith, most) };
-  },
-)
+pub leaves_none : {g : Site} (s : Spot) (under : List Value) → s.outs ≡ types_of under → {now : store.State} {m : state.Machine}
+    → StandsAt g (under ++ s.base) now m s.vars → {from : Progress} (left : ℕ) {statements : ℕ} → 1 ≤ statements → statements ≤ 400
+    → Reaches g.program statements from (at g m s.rest s.vars) → Does g s.base s.rest s.outs from left s.now (exec.Leaves under now)
+leaves_none s under typed stood left least most way =
+    (sym typed, [], arrives_by stood way (record { least = omega (arith, least); most = omega (arith, most) }))
 
 -- an assignment to the slot on top
-pub sets : {g : Site} {s : Spot} {under : List Value} {u : ValType} → Place g s under u → (n : ℕ) → n < 2 ^ bits u
-    → (left : ℕ) (e : tree.Expr)
-    → evaluate g.program s.machine (running g (set_slot u (height (under ++ s.base)) e ∷ s.rest) s.vars) e ≡ Is (value u n)
+pub sets : {g : Site} {s : Spot} {under : List Value} {u : ValType} → Place g s under u → (n : ℕ) → n < 2 ^ bits u → (left : ℕ)
+    (e : tree.Expr) → evaluate g.program s.machine (running g (set_slot u (height (under ++ s.base)) e ∷ s.rest) s.vars) e ≡ Is (value u n)
     → Owes g s (set_slot u (height (under ++ s.base)) e ∷ []) left (exec.Leaves (value u n ∷ under) s.now)
 sets {g} {s} {under} {u} place n fits left e is =
     let h : ℕ = height (under ++ s.base) in
@@ -201,15 +177,7 @@ pub traps : {g : Site} {stack : List Value} {now : store.State} {m : state.Machi
     → (kind : _) (left : ℕ) {most : ℕ} {from : Progress}
     → ComesWithin g.program most from (Over (over g.pending m (Stopped (state.Trapped kind)))) → most ≤ 400
     → EndsAlike g.program g.linked g.pending 0 from (suc left) (exec.Trapped kind) now.store now.trail
-traps {m} stood kind left came few = record {
-  machine = m;
-  reason = state.Trapped kind;
-  same = refl;
-  agrees = stood.together.agrees;
-  statements = came.statements;
-  way = came.way;
-  few = omega (arith, came.few, few);
-}
+traps {m} stood kind left came few = ends_by m (state.Trapped kind) refl stood.together.agrees came.way (omega (arith, came.few, few))
 
 -- ---- a call of a helper
 
@@ -218,8 +186,7 @@ abbrev pub waiting : Site → Option state.Name → List tree.Stmt → state.Var
 waiting g target rest vars = record { target = target; running = running g rest vars } ∷ g.below
 
 helper_called : (g : Site) {m : state.Machine} (vars : state.Vars) (target : Option state.Name) (which : Helper) (args : List tree.Arg)
-    {values : List state.CValue} (rest : List tree.Stmt)
-    → Defines g.program g.unit (helper_of which)
+    {values : List state.CValue} (rest : List tree.Stmt) → Defines g.program g.unit (helper_of which)
     → evaluate_args g.program m (running g (call_helper target which args ∷ rest) vars) args ≡ Is values
     → Calls g.program m (running g (call_helper target which args ∷ rest) vars) target (helper_of which) values rest
 helper_called g vars target which args rest defined is = record {
@@ -234,8 +201,7 @@ helper_called g vars target which args rest defined is = record {
 }
 
 pub helper_comes : (g : Site) {m : state.Machine} (vars : state.Vars) (target : Option state.Name) (which : Helper) (args : List tree.Arg)
-    {values : List state.CValue} (rest : List tree.Stmt) {most : ℕ} {end : CallEnd}
-    → Defines g.program g.unit (helper_of which)
+    {values : List state.CValue} (rest : List tree.Stmt) {most : ℕ} {end : CallEnd} → Defines g.program g.unit (helper_of which)
     → evaluate_args g.program m (running g (call_helper target which args ∷ rest) vars) args ≡ Is values
     → CallComesTo most (helper_of which) values m end
     → ComesWithin g.program (suc most) (at g m (call_helper target which args ∷ rest) vars)
@@ -267,8 +233,7 @@ takes_one g (suc n) way = omega arith
 -- the value of a call goes to the slot on top
 pub back_to_top : (g : Site) {m : state.Machine}
     (after : state.Machine) {vars : state.Vars} {s : tree.Stmt} {rest : List tree.Stmt} (t : ValType) (height : ℕ) {most : ℕ} (v : Value)
-    → HoldsNumber t (named (slot t height) vars) → type_of v ≡ t
-    → ComesWithin g.program most (at g m (s ∷ rest) vars)
+    → HoldsNumber t (named (slot t height) vars) → type_of v ≡ t → ComesWithin g.program most (at g m (s ∷ rest) vars)
     (go_on g.program g.pending (assign after (running g rest vars) (slot t height) (state.Number v) g.below))
     → ComesWithin g.program most (at g m (s ∷ rest) vars) (at g after rest (with_named (slot t height) (state.Number v) vars))
 back_to_top g {m} after {vars} {s} {rest} t height v there typed came = record {
@@ -280,8 +245,7 @@ back_to_top g {m} after {vars} {s} {rest} t height v there typed came = record {
 
 -- a helper that changes nothing gives its answer to the slot on top, or traps
 pub answer_does : {g : Site} {s : Spot} {under : List Value} {u : ValType} → Place g s under u → (answer : Answer)
-    → AnswerFits (bits u) answer → (left : ℕ) {stmt : tree.Stmt}
-    → ComesWithin g.program 391 (at g s.machine (stmt ∷ s.rest) s.vars)
+    → AnswerFits (bits u) answer → (left : ℕ) {stmt : tree.Stmt} → ComesWithin g.program 391 (at g s.machine (stmt ∷ s.rest) s.vars)
     (call_ended g.program g.pending (answered s.machine u answer) (waiting g (Some (slot u (height (under ++ s.base)))) s.rest s.vars))
     → Owes g s (stmt ∷ []) left (exec.answered u answer under s.now)
 answer_does {g} {s} {under} {u} place (Gives n) fits left came =
@@ -294,8 +258,7 @@ answer_does place (Traps kind) fits left came = traps place.stands kind left cam
 
 pub helper_gives : {g : Site} {s : Spot} {under : List Value} {u : ValType} → Place g s under u
     → (left : ℕ) (which : Helper) (args : List tree.Arg) {given : List state.CValue} (answer : Answer)
-    → Defines g.program g.unit (helper_of which)
-    → evaluate_args g.program s.machine
+    → Defines g.program g.unit (helper_of which) → evaluate_args g.program s.machine
     (running g (call_helper (Some (slot u (height (under ++ s.base)))) which args ∷ s.rest) s.vars) args ≡ Is given
     → CallComesTo 390 (helper_of which) given s.machine (answered s.machine u answer) → AnswerFits (bits u) answer
     → Owes g s (call_helper (Some (slot u (height (under ++ s.base)))) which args ∷ []) left (exec.answered u answer under s.now)

@@ -22,8 +22,7 @@ global_get_follows {g} index site s stack here exit n =
     let f = global_found index site here.typed.2 here.stands in
     let place : Place g s stack t = value_place site here refl here.typed.3.2 stack here.typed.3.1 here.stands in
     let stmt : tree.Stmt = set_slot t h (global_value g.setting.named.tree index) in
-    plain_follows g s exit n {code = stmt ∷ []}
-    (ap (λ (found : Option (ValType × Bool)). elim found
+    plain_follows g s exit n {code = stmt ∷ []} (ap (λ (found : Option (ValType × Bool)). elim found
     [ None ↦ [] | Some global ↦ set_slot global.0 h (global_value g.setting.named.tree index) ∷ [] ]) here.typed.2)
     (ap (λ o. exec.pushed (if_found o (store.global_in s.now.store)) stack s.now) f.known.address_is
     ∙ ap (λ o. exec.pushed o stack s.now) f.value_is) (λ left. leaves_value place here.stands f.value f.type_is f.is_number [] left
@@ -41,23 +40,19 @@ global_set_follows {g} index site s (v ∷ stack) here exit n =
     let f = global_found index site here.typed.1 here.stands in
     let a = f.known.address in
     let new : store.Store = store.with_global s.now.store a v in
-    let holds : named (slot t h) s.vars ≡ Some (Number v) =
-    ap (λ t. named (slot t h) s.vars) (sym is) ∙ here.stands.variables.stacked.0 in
+    let holds : named (slot t h) s.vars ≡ Some (Number v) = ap (λ t. named (slot t h) s.vars) (sym is) ∙ here.stands.variables.stacked.0 in
     let may : exec.may_set g.linked a v ≡ true =
     ap (λ (o : Option (ValType × Bool)). elim o [ None ↦ false | Some t ↦ t.1 && equal_type t.0 (type_of v) ]) f.known.type_is
     ∙ equal_type_of_same t _ (sym is) in
     let together = together_global g.program g.linked g.count _ s.machine s.now.store s.now.trail a v f.value f.value_is f.few
     (is ∙ sym f.type_is) here.stands.variables.stack_numbers.0 here.stands.together in
     let stmt : tree.Stmt = set_global g.setting.named.tree index (operand t h) in
-    plain_follows g s exit n {code = stmt ∷ []}
-    (ap (λ (found : Option (ValType × Bool)). elim found
+    plain_follows g s exit n {code = stmt ∷ []} (ap (λ (found : Option (ValType × Bool)). elim found
     [ None ↦ [] | Some global ↦ set_global g.setting.named.tree index (operand global.0 h) ∷ [] ]) here.typed.1)
-    (ap (λ o. exec.global_set g.linked o v stack s.now) f.known.address_is
-    ∙ ap (λ (o : Option Value). elim o [
+    (ap (λ o. exec.global_set g.linked o v stack s.now) f.known.address_is ∙ ap (λ (o : Option Value). elim o [
       | None ↦ exec.NoRule
       | Some old ↦ if exec.may_set g.linked a v then exec.Leaves stack (exec.in_store s.now new) else exec.NoRule
-    ]) f.value_is
-    ∙ ap (λ b. if b then exec.Leaves stack (exec.in_store s.now new) else exec.NoRule) may) (λ left. leaves_none s stack
+    ]) f.value_is ∙ ap (λ b. if b then exec.Leaves stack (exec.in_store s.now new) else exec.NoRule) may) (λ left. leaves_none s stack
     (here.typed.2.2 ∙ sym (other_types here.typed.2.1)) (lowered (v ∷ []) whole here.stands together) left (omega arith) (omega arith)
     (one_step g.program g.pending _ _ (global_assigned site here.stands f (slot t h) v (f.type_is ∙ sym is) s.rest
     (λ rest. slot_value s.machine (running g rest s.vars) t h holds))))

@@ -11,6 +11,7 @@ use Rattle.wasm_meaning.specs.Execution as exec
 use Rattle.c_meaning.specs.State as state
 use Rattle.c_meaning.specs.Step.{numbers, replied, give, ask}
 use Rattle.alike.proofs.Store.{with_trail_together}
+use Rattle.body_meaning.proofs.Before.{ends_by}
 
 pub numbers_are_read : (args : List Value) → numbers (map state.Number args) ≡ Some args
 numbers_are_read [] = refl
@@ -20,32 +21,17 @@ numbers_are_read (v ∷ args) = ap (option_map (λ (others : List Value). v ∷ 
 reply_follows : {p : Program} {s : link.LinkedSet} {count depth : ℕ} (pending : Pending) (frames below : List state.Frame) (ty : FuncType)
     {there : ℕ} (back : ℕ) {from : Progress}
     (n : ℕ) {made : store.Store} {trail : Trail} {m : state.Machine} (replies : List Reply) (before : List Event) (a : Ask)
-    → there + back ≤ wrapper_statements
-    → Together p s count depth m made trail
+    → there + back ≤ wrapper_statements → Together p s count depth m made trail
     → Reaches p there from (go_on p pending (replied ty replies before a m frames))
     → ((after : state.Machine) (value : Option Value) → is_result ty.result value ≡ true
     → Reaches p back (given p pending after value frames) (given p pending after value below))
     → CallFollows p s count depth pending below ty from n (exec.replied (Some ty) replies before a n made)
-reply_follows {p} {s} {count} {depth} pending frames below ty {there} back n {made} {trail} {m} [] before a few together way gives =
-    record {
-      machine = with_trail m (asked before a None []);
-      reason = state.Asks;
-      same = refl;
-      agrees = (with_trail_together p s count depth m made trail _ together).agrees;
-      statements = there;
-      way = way;
-      few = omega (arith, few);
-    }
-reply_follows {p} {s} {count}
-    {depth} pending frames below ty {there} back n {made} {trail} {m} (HostTrapped ∷ replies) before a few together way gives = record {
-      machine = with_trail m (asked before a (Some HostTrapped) replies);
-      reason = state.Trapped trap.HostTrap;
-      same = refl;
-      agrees = (with_trail_together p s count depth m made trail _ together).agrees;
-      statements = there;
-      way = way;
-      few = omega (arith, few);
-    }
+reply_follows {p} {s} {count} {depth} pending frames below ty back n {made} {trail} {m} [] before a few together way gives =
+    ends_by (with_trail m (asked before a None [])) state.Asks refl (with_trail_together p s count depth m made trail _ together).agrees
+    way (omega (arith, few))
+reply_follows {p} {s} {count} {depth} pending frames below ty back n {made} {trail} {m} (HostTrapped ∷ replies) before a few together
+    way gives = ends_by (with_trail m (asked before a (Some HostTrapped) replies)) (state.Trapped trap.HostTrap) refl
+    (with_trail_together p s count depth m made trail _ together).agrees way (omega (arith, few))
 reply_follows {p} {s} {count} {depth} pending frames below ty {there}
     back {from} n {made} {trail} {m} (Gave result ∷ replies) before a few together way gives = by_type (is_result ty.result result) refl way
   where
@@ -55,11 +41,9 @@ reply_follows {p} {s} {count} {depth} pending frames below ty {there}
     unanswered : Trail
     unanswered = asked before a None replies
 
-    by_type : (typed : Bool) → is_result ty.result result ≡ typed
-        → Reaches p there from (go_on p pending (if typed
+    by_type : (typed : Bool) → is_result ty.result result ≡ typed → Reaches p there from (go_on p pending (if typed
         then give (with_trail m replied_so) (option_map state.Number result) frames
-        else Stops (with_trail m unanswered) state.Asks))
-        → CallFollows p s count depth pending below ty from n
+        else Stops (with_trail m unanswered) state.Asks)) → CallFollows p s count depth pending below ty from n
         (if typed then exec.Back n result made replied_so else exec.CallStops exec.Asks made unanswered)
     by_type true typed way = record {
       machine = with_trail m replied_so;
@@ -69,15 +53,8 @@ reply_follows {p} {s} {count} {depth} pending frames below ty {there}
       way = join p there back from _ _ way (gives (with_trail m replied_so) result typed);
       paid = record { least = omega arith; most = omega (arith, few) };
     }
-    by_type false typed way = record {
-      machine = with_trail m unanswered;
-      reason = state.Asks;
-      same = refl;
-      agrees = (with_trail_together p s count depth m made trail unanswered together).agrees;
-      statements = there;
-      way = way;
-      few = omega (arith, few);
-    }
+    by_type false typed way = ends_by (with_trail m unanswered) state.Asks refl
+        (with_trail_together p s count depth m made trail unanswered together).agrees way (omega (arith, few))
 
 abbrev ask_of : ℕ → ℕ → List Value → Ask
 ask_of h f args = record { host = h; function = f; args = args }
@@ -110,8 +87,7 @@ asks_host p s h f {ty} m args frames same typed fit = ap (λ (o : Option FuncTyp
 pub host_follows : {p : Program} {s : link.LinkedSet} {count depth : ℕ} {pending : Pending} {below : List state.Frame} {ty : FuncType}
     {a : state.FuncAddress} (h f : ℕ) {args : List Value} (n : ℕ) {made : store.Store} {trail : Trail} {m : state.Machine}
     → p.hosts ≡ s.hosts → link.func_type s (link.HostFunc h f) ≡ Some ty → types_of args ≡ ty.params
-    → PassesOn p wrapper_statements ty a (state.HostFunc h f) pending m args below
-    → Together p s count depth m made trail
+    → PassesOn p wrapper_statements ty a (state.HostFunc h f) pending m args below → Together p s count depth m made trail
     → CallFollows p s count depth pending below ty (called p pending a m args below) n
     (exec.replied (Some ty) trail.replies trail.events (record { host = h; function = f; args = args }) n made)
 host_follows {p} {s} {pending} {below} {ty} {a} h f {args} n {trail} {m} same typed fit passes together =

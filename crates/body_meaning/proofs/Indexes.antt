@@ -35,8 +35,7 @@ own_func s u {m} j e less =
     (λ (x : Import). if_found (link.import_at s u x) link.as_func) in
     let number : slice_get (range_with_len a (length m.tree.funcs)) j ≡ Some (a + j) = get_numbered a (length m.tree.funcs) j less in
     let there : slice_get (meanings s u m ++ own u m) (a + j) ≡ Some (Some (link.ModuleFunc u (a + j))) =
-    ap (λ (k : ℕ). slice_get (meanings s u m ++ own u m) (k + j)) (sym imported)
-    ∙ (get_behind (meanings s u m) (own u m) j
+    ap (λ (k : ℕ). slice_get (meanings s u m ++ own u m) (k + j)) (sym imported) ∙ (get_behind (meanings s u m) (own u m) j
     ∙ get_mapped (λ (k : ℕ). Some (link.ModuleFunc u k)) (range_with_len a (length m.tree.funcs)) j (a + j) number) in
     func_at_is s u (a + j) e ∙ ap (λ (o : Option (Option link.FuncAddress)). if_found o (λ entry. entry)) there
 
@@ -46,13 +45,11 @@ pub imported_func : (s : link.LinkedSet) (u : ℕ) {m : link.NamedModule} (k : �
 imported_func s u {m} k {x} e at =
     let meaning : Option link.FuncAddress = if_found (link.import_at s u x) link.as_func in
     let there : slice_get (meanings s u m) k ≡ Some meaning = get_mapped _ _ k x at in
-    func_at_is s u k e
-    ∙ ap (λ (o : Option (Option link.FuncAddress)). if_found o (λ entry. entry)) (get_front _ (own u m) k meaning there)
+    func_at_is s u k e ∙ ap (λ (o : Option (Option link.FuncAddress)). if_found o (λ entry. entry)) (get_front _ (own u m) k meaning there)
 
 -- what a function's index stands for can be called, once the module is ready
 pub func_callable : (s : link.LinkedSet) (count u : ℕ) {m : link.NamedModule} (index : ℕ) {f : link.FuncAddress}
-    → slice_get s.modules u ≡ Some m
-    → u < count → link.func_at s u index ≡ Some f → IsCallable s count f
+    → slice_get s.modules u ≡ Some m → u < count → link.func_at s u index ≡ Some f → IsCallable s count f
 func_callable s count u index {f} is less e = callable_later s (suc u) count f (omega (arith, less)) (func_owner s u index is e)
 
 -- ---- the types of functions
@@ -63,8 +60,7 @@ import_in_space : (imports : List Import) (k : ℕ) {x : Import} → slice_get (
 import_in_space [] k e = absurd cc
 import_in_space (y ∷ imports) k {x} e = by_kind y.kind refl k e (λ j h. import_in_space imports j h)
   where
-    by_kind : (kind : ImportKind) → y.kind ≡ kind → (k : ℕ)
-        → slice_get (cond (elim kind
+    by_kind : (kind : ImportKind) → y.kind ≡ kind → (k : ℕ) → slice_get (cond (elim kind
         [ ImportFunc t ↦ true | ImportTable l ↦ false | ImportMemory l ↦ false | ImportGlobal t mutable ↦ false ])
         (y ∷ filter is_func_import imports) (filter is_func_import imports)) k ≡ Some x
         → ((j : ℕ) → slice_get (filter is_func_import imports) j ≡ Some x
@@ -91,8 +87,7 @@ own_type s u {m} j {entry} is at =
     (λ f. link.type_at s u f.type_index))) (module_is s u m is)
     ∙ (ap (λ (o : Option FuncEntry). if_found o (λ f. link.type_at s u f.type_index))
     (defined_behind_imports m.tree m.tree.funcs (a + j) j refl)
-    ∙ (ap (λ (o : Option FuncEntry). if_found o (λ f. link.type_at s u f.type_index)) at
-    ∙ type_is s u entry.type_index is))
+    ∙ (ap (λ (o : Option FuncEntry). if_found o (λ f. link.type_at s u f.type_index)) at ∙ type_is s u entry.type_index is))
 
 -- an index that is no import's is that of an own function, with the type that the context has for it
 pub own_of_context : (s : link.LinkedSet) (u : ℕ) {m : link.NamedModule} (index : ℕ) {ty : FuncType} → slice_get s.modules u ≡ Some m

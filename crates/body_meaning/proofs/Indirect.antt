@@ -41,8 +41,7 @@ ElementAt p s (Some (Some f)) (Some (Some e)) = ElementAgrees p s f e
 ElementAt p s _ _ = ⊥
 
 pub element_at : (p : Program) (s : link.LinkedSet) (elements : List (Option link.FuncAddress)) (others : List (Option Element)) (i : ℕ)
-    → ElementsAgree p s elements others
-    → ElementAt p s (slice_get elements i) (slice_get others i)
+    → ElementsAgree p s elements others → ElementAt p s (slice_get elements i) (slice_get others i)
 element_at p s [] [] i agree = tt
 element_at p s (None ∷ elements) (None ∷ others) zero agree = tt
 element_at p s (None ∷ elements) (None ∷ others) (suc i) agree = element_at p s elements others i agree
@@ -57,14 +56,12 @@ elements_signed p s elements other agree i e is zero_number =
     go (slice_get elements i) (subst (ElementAt p s (slice_get elements i)) is (element_at p s elements other.elements i agree))
   where
     go : (element : Option (Option link.FuncAddress)) → ElementAt p s element (Some (Some e)) → ⊥
-    go None h = absurd h
-    go (Some None) h = absurd h
     go (Some (Some f)) h = sig_number_some h.same.ty.params h.same.ty.result (sym h.same.signature ∙ zero_number)
+    go _ h = absurd h
 
 -- a function that an element names may be called
 callable_at : (s : link.LinkedSet) (count : ℕ) (elements : List (Option link.FuncAddress)) (i : ℕ) {f : link.FuncAddress}
-    → AllByRecursion (IsCallableIfAny s count) elements
-    → slice_get elements i ≡ Some (Some f) → IsCallable s count f
+    → AllByRecursion (IsCallableIfAny s count) elements → slice_get elements i ≡ Some (Some f) → IsCallable s count f
 callable_at s count elements i {f} all is = all_at (IsCallableIfAny s count) elements i (Some f) all is
 
 -- ---- the call through the variable for an element
@@ -73,8 +70,7 @@ callable_at s count elements i {f} all is = all_at (IsCallableIfAny s count) ele
 through_begins : (g : Site) (m : state.Machine) (vars : state.Vars) (rest : List tree.Stmt) (target : Option state.Name)
     {want : tree.FuncType} (exprs : List tree.Arg) (args : List Value) (a : state.FuncAddress)
     → evaluate_args g.program m (running g (tree.Call target (tree.Through want element_name) exprs ∷ rest) vars) exprs
-    ≡ Is (map Number args)
-    → named element_name vars ≡ Some (FuncPointer (Some a)) → func_type g.program a ≡ Some want
+    ≡ Is (map Number args) → named element_name vars ≡ Some (FuncPointer (Some a)) → func_type g.program a ≡ Some want
     → Reaches g.program 1 (at g m (tree.Call target (tree.Through want element_name) exprs ∷ rest) vars)
     (called g.program g.pending a m args (waiting g target rest vars))
 through_begins g m vars rest target {want} exprs args a evaluated holds typed =
@@ -88,8 +84,7 @@ through_begins g m vars rest target {want} exprs args a evaluated holds typed =
 
 -- the element's variable is set to what the helper gives
 element_assigned : (g : Site) (m : state.Machine) (rest : List tree.Stmt) (vars : state.Vars) (to : Option state.FuncAddress)
-    → HoldsFunction (named element_name vars)
-    → assign m (running g rest vars) element_name (FuncPointer to) g.below
+    → HoldsFunction (named element_name vars) → assign m (running g rest vars) element_name (FuncPointer to) g.below
     ≡ Next (state_at g m rest (with_named element_name (FuncPointer to) vars))
 element_assigned g m rest vars to there =
     assign_variable m (running g rest vars) element_name _ g.below refl (function_taken (named element_name vars) to there)
@@ -100,11 +95,9 @@ element_follows : NumbersTellTypes → {g : Site} {room : ℕ} {calls : exec.Cal
     (rest : List tree.Stmt) {outs : Stack} (more : Stack) (ty : FuncType) {now : store.State} {m : state.Machine} {vars : state.Vars}
     → types_of stack ≡ reverse ty.params ++ more → outs ≡ reverse (values ty.result) ++ more
     → ((u : ValType) → ty.result ≡ Some u → (types : Stack) → drop (length ty.params) (types_of (stack ++ base)) ≡ types
-    → g.slots u (length types) ≡ true)
-    → StandsAt g (stack ++ base) now m vars → g.has_element ≡ true
+    → g.slots u (length types) ≡ true) → StandsAt g (stack ++ base) now m vars → g.has_element ≡ true
     → (element : Option (Option link.FuncAddress)) (other : Option (Option Element)) → ElementAt g.program g.linked element other
-    → ((f : link.FuncAddress) → element ≡ Some (Some f) → IsCallable g.linked g.count f)
-    → {from : Progress}
+    → ((f : link.FuncAddress) → element ≡ Some (Some f) → IsCallable g.linked g.count f) → {from : Progress}
     → ComesWithin g.program 101 from (call_ended g.program g.pending (element_found m other (sig_number_of ty.params ty.result))
     (waiting g (Some element_name) (call_of (tree.Through (c_func_type ty) element_name) ty (types_of (stack ++ base)) ∷ rest) vars))
     → Follows g 0 targets exit base rest outs from (suc left) (exec.call_element g.linked calls element ty left stack now)
@@ -131,8 +124,7 @@ element_follows law {g} {calls} site targets exit base stack
     by_number : (b : Bool) → nat_eq e.signature (sig_number_of ty.params ty.result) ≡ b
         → ComesWithin g.program 101 from (call_ended g.program g.pending
         (if b then GivesBack m (Some (FuncPointer (Some e.func))) else TrapsWith m trap.Signature)
-        (waiting g (Some element_name) (second ∷ rest) vars))
-        → Follows g 0 targets exit base rest outs from (suc left)
+        (waiting g (Some element_name) (second ∷ rest) vars)) → Follows g 0 targets exit base rest outs from (suc left)
         (if equal_func_types own ty then exec.invoke calls f own.params left stack now else exec.Stops (exec.Trapped trap.Signature) now)
     by_number false is came =
         subst (λ b. Follows g 0 targets exit base rest outs from (suc left)

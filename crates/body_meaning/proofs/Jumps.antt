@@ -1,5 +1,5 @@
 -- Branches and returns: a value is moved to the height of the block that is left, and the label is gone to.
-use Rattle.body_meaning.proofs.Common.{◌≡◌, ℕ, zero, suc, ◌+◌, ◌≤◌, Bool, true, false, List, [], ◌∷◌, ◌++◌, map, length, if◌then◌else◌}
+use Rattle.body_meaning.proofs.Common.{◌≡◌, ℕ, zero, suc, ◌≤◌, Bool, true, false, List, [], ◌∷◌, ◌++◌, map, length, if◌then◌else◌}
 use Rattle.body_meaning.proofs.Common.{◌==◌, slice_get, Some, None, Option, sym, refl, ap, ◌∙◌, subst, append_assoc, arith, eqb-true, named}
 use Rattle.body_meaning.proofs.Common.{with_named, IsNumber, number_of, type_of, types_of, ValType, Value, I32, Stack, values, COp, N32}
 use Rattle.body_meaning.proofs.Common.{of_its_type, join, step, operate, Reaches, Progress, go_on, Next, Step, after_label, at_rest, c_step}
@@ -13,9 +13,9 @@ use Rattle.c_tree.specs.Tree as tree
 use Rattle.wasm_meaning.specs.Store as store
 use Rattle.wasm_meaning.specs.Execution as exec
 use Rattle.c_meaning.specs.State as state
-use Rattle.body_meaning.proofs.Vars.{stands_below, number_taken}
+use Rattle.body_meaning.proofs.Vars.{agree_at, stands_below, number_taken}
 use Rattle.body_meaning.proofs.Slots.{SlotIsSet}
-use Rattle.body_meaning.proofs.Before.{target_by}
+use Rattle.body_meaning.proofs.Before.{arrives_by, target_by}
 use Rattle.body_meaning.proofs.Gives.{arg_reaches, operand_is, slot_value}
 use Rattle.body_meaning.proofs.Names.{slot_is_no_depth}
 
@@ -27,37 +27,21 @@ pub stands_with : {g : Site} {v : Value} {base : List Value} {now : store.State}
     → StandsAt g base now m vars → StandsAt g (v ∷ base) now m vars
 stands_with there number s =
     let a = s.variables in
-    record {
-      together = s.together;
-      variables = record {
-        stacked = (there, a.stacked);
-        located = a.located;
-        stack_numbers = (number, a.stack_numbers);
-        local_numbers = a.local_numbers;
-        declared = a.declared;
-        element = a.element;
-        globals_seen = a.globals_seen;
-        pointers_seen = a.pointers_seen;
-      };
-      local_types = s.local_types;
-    }
+    record { together = s.together; variables = agree_at a (there, a.stacked) (number, a.stack_numbers); local_types = s.local_types }
 
 -- ---- statements
 
 -- one statement, by what it does
 pub way_by : (g : Site) (m : state.Machine) (code : List tree.Stmt) (vars : state.Vars) {does : Step}
-    → c_step g.program (state_at g m code vars) ≡ does
-    → Reaches g.program 1 (at g m code vars) (go_on g.program g.pending does)
+    → c_step g.program (state_at g m code vars) ≡ does → Reaches g.program 1 (at g m code vars) (go_on g.program g.pending does)
 way_by g m code vars e = subst (λ x. Reaches g.program 1 (at g m code vars) (go_on g.program g.pending x)) e (step g.program g.pending _)
 
 pub goes_to : (g : Site) (m : state.Machine) (code : List tree.Stmt) (vars : state.Vars) (name : state.Name) {to : List tree.Stmt}
-    → after_label name g.body.stmts ≡ Some to
-    → goto m (state_at g m code vars).running name g.below ≡ Next (state_at g m to vars)
+    → after_label name g.body.stmts ≡ Some to → goto m (state_at g m code vars).running name g.below ≡ Next (state_at g m to vars)
 goes_to g m code vars name found = rw found refl
 
 pub goto_reaches : (g : Site) (m : state.Machine) (vars : state.Vars) (name : state.Name) {to : List tree.Stmt} (rest : List tree.Stmt)
-    → after_label name g.body.stmts ≡ Some to
-    → Reaches g.program 1 (at g m (tree.Goto name ∷ rest) vars) (at g m to vars)
+    → after_label name g.body.stmts ≡ Some to → Reaches g.program 1 (at g m (tree.Goto name ∷ rest) vars) (at g m to vars)
 goto_reaches g m vars name rest found = way_by g m (tree.Goto name ∷ rest) vars (goes_to g m (tree.Goto name ∷ rest) vars name found)
 
 -- a comparison with 0 of the condition in a slot
@@ -77,8 +61,7 @@ if_passes g m vars o h c l rest is e =
 
 pub if_goes : (g : Site) (m : state.Machine) (vars : state.Vars) (o : COp) (h c l : ℕ) (rest : List tree.Stmt) {to : List tree.Stmt}
     → named (slot type.I32 h) vars ≡ Some (state.Number (I32 c)) → operate o (I32 c) (I32 0) ≡ state.Is (I32 1)
-    → after_label (label_name l) g.body.stmts ≡ Some to
-    → Reaches g.program 1 (at g m (jump_if o h l ∷ rest) vars) (at g m to vars)
+    → after_label (label_name l) g.body.stmts ≡ Some to → Reaches g.program 1 (at g m (jump_if o h l ∷ rest) vars) (at g m to vars)
 if_goes g m vars o h c l rest is e found =
     let r = (state_at g m (jump_if o h l ∷ rest) vars).running in
     way_by g m (jump_if o h l ∷ rest) vars (ap (λ x. with_value m (place_of r rest) x (λ v. if number_of v
@@ -124,14 +107,8 @@ targets_unshift g base named k (t ∷ ts) h = (h.0, h.1, targets_unshift g base 
 pub target_at : (g : Site) (base : List Value) (ts : List Target) (named : ℕ → Bool) (k : ℕ) {t : Option ValType}
     → AreTargets g base named 0 ts → slice_get (map (λ x. x.aim.value) ts) k ≡ Some t → TargetAt g base ts named k t
 target_at g base [] named k all e = absurd (grind (arith, e))
-target_at g base (x ∷ ts) named zero all e = record {
-  target = x;
-  at_it = refl;
-  value_is = grind (arith, e);
-  is = all.0;
-  found = all.1;
-  branch = λ from n left stack now b. b;
-}
+target_at g base (x ∷ ts) named zero all e =
+    record { target = x; at_it = refl; value_is = grind (arith, e); is = all.0; found = all.1; branch = λ from n left stack now b. b }
 target_at g base (x ∷ ts) named (suc k) all e =
     let y = target_at g base ts (λ j. named (suc j)) k (targets_shift g base named 0 ts all.2) e in
     record { target = y.target; at_it = y.at_it; value_is = y.value_is; is = y.is; found = y.found; branch = y.branch }
@@ -169,11 +146,10 @@ stands_low {g} {base} stack {x} {now} {m} {vars} is s =
 same_type : (v : Value) (stack : List Value) {t : ValType} {more : Stack} → types_of (v ∷ stack) ≡ t ∷ more → type_of v ≡ t
 same_type v stack e = grind (arith, e)
 
-straight_by : {g : Site} {base : List Value} (l h : ℕ) (value : Option ValType)
-    (b : List Value) (to : List tree.Stmt) (stack : List Value) (more : Stack) {now : store.State} {m : state.Machine} {vars : state.Vars}
-    → IsTarget g base (target_by l h value b to) → types_of stack ≡ values value ++ more
-    → is_straight (target_by l h value b to).aim (types_of (stack ++ base)) ≡ true → StandsAt g (stack ++ base) now m vars
-    → Keeps g (target_by l h value b to) stack now m vars
+straight_by : {g : Site} {base : List Value} (l h : ℕ) (value : Option ValType) (b : List Value) (to : List tree.Stmt) (stack : List Value)
+    (more : Stack) {now : store.State} {m : state.Machine} {vars : state.Vars} → IsTarget g base (target_by l h value b to)
+    → types_of stack ≡ values value ++ more → is_straight (target_by l h value b to).aim (types_of (stack ++ base)) ≡ true
+    → StandsAt g (stack ++ base) now m vars → Keeps g (target_by l h value b to) stack now m vars
 straight_by l h None b to stack more is e straight s = record { kept = []; kept_is = refl; typed = refl; stands = stands_low stack is s }
 straight_by l h (Some t) b to [] more is e straight s = absurd (grind (arith, e))
 straight_by {base} l h (Some t) b to (v ∷ stack) more {vars} is e straight s =
@@ -189,9 +165,8 @@ straight_by {base} l h (Some t) b to (v ∷ stack) more {vars} is e straight s =
     }
 
 pub straight : (g : Site) (base : List Value) (x : Target) (stack : List Value) (more : Stack) (now : store.State) (m : state.Machine)
-    (vars : state.Vars)
-    → IsTarget g base x → types_of stack ≡ values x.aim.value ++ more → is_straight x.aim (types_of (stack ++ base)) ≡ true
-    → StandsAt g (stack ++ base) now m vars → Keeps g x stack now m vars
+    (vars : state.Vars) → IsTarget g base x → types_of stack ≡ values x.aim.value ++ more
+    → is_straight x.aim (types_of (stack ++ base)) ≡ true → StandsAt g (stack ++ base) now m vars → Keeps g x stack now m vars
 straight g base x stack more now m vars is e h s = straight_by x.aim.label x.aim.height x.aim.value x.base x.rest stack more is e h s
 
 -- a jump comes to its label, with its value
@@ -204,31 +179,22 @@ pub record Lands (g : Site) (x : Target) (from : Progress) (stack : List Value) 
   pub few : statements ≤ 2
   pub way : Reaches g.program statements from (at g machine x.rest vars)
 
+goes_straight : {g : Site} {x : Target} {from : Progress} {stack : List Value} {now : store.State} {m : state.Machine} {vars : state.Vars}
+    → Keeps g x stack now m vars → Reaches g.program 1 from (at g m x.rest vars) → Lands g x from stack now
+goes_straight {m} {vars} keeps way =
+    record { machine = m; vars = vars; keeps = keeps; statements = 1; some = omega arith; few = omega arith; way = way }
+
 lands_by : {g : Site} → SlotIsSet g → {base : List Value} (l h : ℕ) (value : Option ValType) (b : List Value) {to : List tree.Stmt}
     (stack : List Value) (more : Stack) (rest : List tree.Stmt) {now : store.State} {m : state.Machine} {vars : state.Vars}
     → IsTarget g base (target_by l h value b to) → after_label (label_name l) g.body.stmts ≡ Some to → types_of stack ≡ values value ++ more
-    → StandsAt g (stack ++ base) now m vars
-    → (same : Bool) → is_straight (target_by l h value b to).aim (types_of (stack ++ base)) ≡ same
+    → StandsAt g (stack ++ base) now m vars → (same : Bool) → is_straight (target_by l h value b to).aim (types_of (stack ++ base)) ≡ same
     → Lands g (target_by l h value b to) (at g m (jump (target_by l h value b to).aim (types_of (stack ++ base)) ++ rest) vars) stack now
-lands_by {g} set l h None b {to} stack more rest {m} {vars} is found e s same straight = record {
-  machine = m;
-  vars = vars;
-  keeps = straight_by l h None b to stack more is e refl s;
-  statements = 1;
-  some = omega arith;
-  few = omega arith;
-  way = goto_reaches g m vars (label_name l) rest found;
-}
+lands_by {g} set l h None b {to} stack more rest {m} {vars} is found e s same straight =
+    goes_straight (straight_by l h None b to stack more is e refl s) (goto_reaches g m vars (label_name l) rest found)
 lands_by set l h (Some t) b [] more rest is found e s same straight = absurd (grind (arith, e))
-lands_by {g} set l h (Some t) b {to} (v ∷ stack) more rest {m} {vars} is found e s true straight = record {
-  machine = m;
-  vars = vars;
-  keeps = straight_by l h (Some t) b to (v ∷ stack) more is e straight s;
-  statements = 1;
-  some = omega arith;
-  few = omega arith;
-  way = rw straight (goto_reaches g m vars (label_name l) rest found);
-}
+lands_by {g} set l h (Some t) b {to} (v ∷ stack) more rest {m} {vars} is found e s true straight =
+    goes_straight {m = m} {vars = vars} (straight_by l h (Some t) b to (v ∷ stack) more is e straight s)
+    (rw straight (goto_reaches g m vars (label_name l) rest found))
 lands_by {g} set {base} l h (Some t) b {to} (v ∷ stack) more rest {now} {m} {vars} is found e s false straight =
     let type_is : type_of v ≡ t = same_type v stack e in
     let i : ℕ = length (types_of (stack ++ base)) in
@@ -266,8 +232,7 @@ lands_by {g} set {base} l h (Some t) b {to} (v ∷ stack) more rest {now} {m} {v
 pub lands : {g : Site} → SlotIsSet g → {base : List Value} {x : Target} (stack : List Value) (more : Stack) (rest : List tree.Stmt)
     {now : store.State} {m : state.Machine} {vars : state.Vars}
     → IsTarget g base x → after_label (label_name x.aim.label) g.body.stmts ≡ Some x.rest → types_of stack ≡ values x.aim.value ++ more
-    → StandsAt g (stack ++ base) now m vars
-    → Lands g x (at g m (jump x.aim (types_of (stack ++ base)) ++ rest) vars) stack now
+    → StandsAt g (stack ++ base) now m vars → Lands g x (at g m (jump x.aim (types_of (stack ++ base)) ++ rest) vars) stack now
 lands set {base} {x} stack more rest is found e s =
     lands_by set x.aim.label x.aim.height x.aim.value x.base stack more rest is found e s _ refl
 
@@ -279,31 +244,18 @@ branches {g} {x} {from} {to} {k} left way few l = record {
   kept_is = l.keeps.kept_is;
   typed = l.keeps.typed;
   less = omega arith;
-  arrives = record {
-    machine = l.machine;
-    vars = l.vars;
-    stands = l.keeps.stands;
-    statements = k + l.statements;
-    way = join g.program k l.statements from to (at g l.machine x.rest l.vars) way l.way;
-    paid = record { least = omega (arith, l.some); most = omega (arith, few, l.few) };
-  };
+  arrives = arrives_by l.keeps.stands (join g.program k l.statements from to (at g l.machine x.rest l.vars) way l.way)
+      (record { least = omega (arith, l.some); most = omega (arith, few, l.few) });
 }
 
 -- a branch by one statement, without a move
 pub branches_at_once : {g : Site} {x : Target} {from : Progress} (left : ℕ) {stack : List Value} {now : store.State} {m : state.Machine}
     {vars : state.Vars} → Reaches g.program 1 from (at g m x.rest vars) → Keeps g x stack now m vars
     → Branches g 0 x from (suc left) left stack now
-branches_at_once left {m} {vars} way k = record {
+branches_at_once left way k = record {
   kept = k.kept;
   kept_is = k.kept_is;
   typed = k.typed;
   less = omega arith;
-  arrives = record {
-    machine = m;
-    vars = vars;
-    stands = k.stands;
-    statements = 1;
-    way = way;
-    paid = record { least = omega arith; most = omega arith };
-  };
+  arrives = arrives_by k.stands way (record { least = omega arith; most = omega arith });
 }

@@ -15,6 +15,7 @@ use Rattle.wasm_meaning.specs.Store as store
 use Rattle.wasm_meaning.specs.Execution as exec
 use Rattle.c_meaning.specs.State as state
 use Rattle.body_meaning.proofs.Names.{slot_is_no_depth, local_is_no_depth}
+use Rattle.body_meaning.proofs.Before.{arrives_by}
 use Rattle.body_meaning.proofs.Vars.{height, set_local, local_at, local_taken, number_taken, stands_below}
 use Rattle.body_meaning.proofs.Gives.{Place, owes, running, evaluate-variable, set_reaches, sets, Owes, leaves_value}
 use Rattle.body_meaning.proofs.Numeric.{one_of, evaluate-slot, one_stands, Two, two_stand, value_place}
@@ -26,21 +27,10 @@ use Rattle.body_meaning.proofs.Jumps.{if_passes, if_goes, ne_more}
 
 -- what only takes operands away
 taken_off : {g : Site} (stack base : List Value) {now : store.State} {m : state.Machine} {vars : state.Vars}
-    → StandsAt g (stack ++ base) now m vars → {outs : Stack} → types_of stack ≡ outs
-    → (targets : List Target) (exit : Target) (n : ℕ) (rest : List tree.Stmt)
-    → Follows g 0 targets exit base rest outs (at g m rest vars) n (exec.Normal n stack now)
-taken_off {g} stack base {m} {vars} agree typed targets exit n rest = (
-  typed,
-  [],
-  record {
-    machine = m;
-    vars = vars;
-    stands = agree;
-    statements = 0;
-    way = stays g.program (at g m rest vars);
-    paid = record { least = omega arith; most = omega arith };
-  },
-)
+    → StandsAt g (stack ++ base) now m vars → {outs : Stack} → types_of stack ≡ outs → (targets : List Target) (exit : Target) (n : ℕ)
+    (rest : List tree.Stmt) → Follows g 0 targets exit base rest outs (at g m rest vars) n (exec.Normal n stack now)
+taken_off {g} stack base {m} {vars} agree typed targets exit n rest =
+    (typed, [], arrives_by agree (stays g.program (at g m rest vars)) (record { least = omega arith; most = omega arith }))
 
 pub nop_follows : (g : Site) (calls : exec.Calls) → KindFollows g calls wasm.Nop
 nop_follows g calls s stack here exit n = taken_off stack s.base here.stands (here.typed.1 ∙ sym here.typed.2) s.targets exit n s.rest
@@ -121,35 +111,26 @@ local_get_follows {g} index site s stack here exit n =
 sets_local : {g : Site} {room : ℕ} {calls : exec.Calls} → IsSite g room calls
     → {whole : List Value} {now : store.State} {m : state.Machine} {vars : state.Vars} → StandsAt g whole now m vars
     → (index : ℕ) (t : ValType) (h n k : ℕ) → named (slot t h) vars ≡ Some (state.Number (value t n)) → n < 2 ^ bits t
-    → slice_get now.locals index ≡ Some (value t k)
-    → (rest : List tree.Stmt) (left : ℕ)
+    → slice_get now.locals index ≡ Some (value t k) → (rest : List tree.Stmt) (left : ℕ)
     → Arrives g 0 rest (at g m (tree.Set (local_name index) (tree.Value (operand t h)) ∷ rest) vars) (suc left) left whole
     (exec.in_locals now (slice_set now.locals index (value t n)))
 sets_local {g} site {now} {m} {vars} agree index t h n k is fits old rest left =
     let stmts : List tree.Stmt = tree.Set (local_name index) (tree.Value (operand t h)) ∷ rest in
-    record {
-      machine = m;
-      vars = with_named (local_name index) (state.Number (value t n)) vars;
-      stands = record {
-        together = agree.together;
-        variables = set_local index (value t n) (few_locals site now.locals agree.local_types)
-            old (type_of-value t n ∙ sym (type_of-value t k)) (value_number t n fits) agree.variables;
-        local_types = types_set now.locals index (value t n) (value t k) old (type_of-value t n ∙ sym (type_of-value t k))
-            ∙ agree.local_types;
-      };
-      statements = 1;
-      way = set_reaches g m rest vars (local_name index) (operand t h) (local_is_no_depth index) (local_taken index now.locals
-          (value t n) vars agree.variables.located old (type_of-value t n ∙ sym (type_of-value t k))) (evaluate-slot g m stmts vars t h is);
-      paid = record { least = omega arith; most = omega arith };
-    }
+    let typed : type_of (value t n) ≡ type_of (value t k) = type_of-value t n ∙ sym (type_of-value t k) in
+    arrives_by {m = m} {vars = with_named (local_name index) (state.Number (value t n)) vars} (record {
+      together = agree.together;
+      variables = set_local index (value t n) (few_locals site now.locals agree.local_types) old typed (value_number t n fits)
+          agree.variables;
+      local_types = types_set now.locals index (value t n) (value t k) old typed ∙ agree.local_types;
+    }) (set_reaches g m rest vars (local_name index) (operand t h) (local_is_no_depth index)
+    (local_taken index now.locals (value t n) vars agree.variables.located old typed) (evaluate-slot g m stmts vars t h is))
+    (record { least = omega arith; most = omega arith })
 
 local_set_done : (index : ℕ) (v : Value) {old : Value} (stack : List Value) (now : store.State) → slice_get now.locals index ≡ Some old
-    → type_of old ≡ type_of v
-    → exec.local_set index v stack now ≡ exec.Leaves stack (exec.in_locals now (slice_set now.locals index v))
+    → type_of old ≡ type_of v → exec.local_set index v stack now ≡ exec.Leaves stack (exec.in_locals now (slice_set now.locals index v))
 local_set_done index v {old} stack now e typed =
     let does : exec.Done = exec.Leaves stack (exec.in_locals now (slice_set now.locals index v)) in
-    ap (λ (o : Option Value). elim o [ None ↦ exec.NoRule | Some w ↦ exec.of_one_type w v does ]) e
-    ∙ of_the_same_type old v does typed
+    ap (λ (o : Option Value). elim o [ None ↦ exec.NoRule | Some w ↦ exec.of_one_type w v does ]) e ∙ of_the_same_type old v does typed
 
 -- an operand is put into a local, and these stay
 puts_local : {g : Site} {room : ℕ} {calls : exec.Calls} → IsSite g room calls → (s : Spot) (index : ℕ) {t : ValType} {types : Stack}
@@ -194,8 +175,7 @@ pub local_tee_follows : {g : Site} {room : ℕ} {calls : exec.Calls} (index : �
 local_tee_follows {g} index site s stack here exit n =
     let t : ValType = here.typed.0 in
     owes g s exit n _ refl (λ left. puts_local site s index here.typed.1 (λ v below. v ∷ below) (λ x below agree. agree)
-    (λ x below same. ap (λ (u : ValType). u ∷ types_of below) (type_of-value t x)
-    ∙ ap (λ (ts : Stack). t ∷ ts) same ∙ sym here.typed.2.2)
+    (λ x below same. ap (λ (u : ValType). u ∷ types_of below) (type_of-value t x) ∙ ap (λ (ts : Stack). t ∷ ts) same ∙ sym here.typed.2.2)
     (λ stack. exec.plain g.linked g.unit (wasm.LocalTee index) stack s.now) (λ v below. refl) left stack here.typed.2.1 here.stands)
 
 -- ---- select
@@ -223,14 +203,9 @@ selects {g} {s} {below} {t} place {x} {y} two first (suc c) l condition found le
     (type_of-value t x ∙ sym (type_of-value t y)))) (
       ap (λ (u : ValType). u ∷ types_of below) (type_of-value t x) ∙ sym place.typed,
       [],
-      record {
-        machine = s.machine;
-        vars = s.vars;
-        stands = first;
-        statements = 1;
-        way = if_goes g s.machine s.vars op.Ne (2 + h) (suc c) l (move ∷ tree.Label (label_name l) ∷ s.rest) condition (ne_more c) found;
-        paid = record { least = omega arith; most = omega arith };
-      },
+      arrives_by first
+          (if_goes g s.machine s.vars op.Ne (2 + h) (suc c) l (move ∷ tree.Label (label_name l) ∷ s.rest) condition (ne_more c) found)
+          (record { least = omega arith; most = omega arith }),
     )
 
 -- a condition above two operands of a type

@@ -69,17 +69,14 @@ load_follows {g} o arg site has s (I32 x ∷ stack) here exit n =
     let rest : List tree.Stmt = call_helper (Some (slot t h)) which args ∷ s.rest in
     let evaluated : evaluate_args g.program s.machine (running g rest s.vars) args ≡ Is given =
     rw (f.evaluated rest, operand_is g.program s.machine (running g rest s.vars) type.I32 h here.stands.variables.stacked.0) refl in
-    let comes : CallComesTo 390 (helper_of which) given s.machine
-    (answered s.machine t (load_number o f.memory.bytes (x + arg.offset))) =
+    let comes : CallComesTo 390 (helper_of which) given s.machine (answered s.machine t (load_number o f.memory.bytes (x + arg.offset))) =
     subst (λ (bytes : List ℕ). CallComesTo 390 (helper_of which) given s.machine
     (answered s.machine t (load_number o bytes (x + arg.offset)))) f.agrees.bytes
     (helper_right which s.machine (memory_object f.owner) f.other f.other_is x arg.offset here.stands.variables.stack_numbers.0
     (not_wide arg.offset here.narrow)) in
-    owes g s exit n _
-    (memory_done g.linked g.unit s.now (λ owner m. exec.loaded o m (x + arg.offset) stack s.now) f.owner_is f.memory_is)
+    owes g s exit n _ (memory_done g.linked g.unit s.now (λ owner m. exec.loaded o m (x + arg.offset) stack s.now) f.owner_is f.memory_is)
     (λ left. helper_gives place left which args (load_number o f.memory.bytes (x + arg.offset))
-    (helper_there (Load o arg) which has refl) evaluated comes
-    (load_fits o f.memory.bytes (x + arg.offset) f.agrees.are_bytes))
+    (helper_there (Load o arg) which has refl) evaluated comes (load_fits o f.memory.bytes (x + arg.offset) f.agrees.are_bytes))
 
 -- ---- the size
 
@@ -143,23 +140,24 @@ written_agrees {memory} place new within small agrees = record {
       (all_append _ new _ small (all_drop _ _ memory.bytes agrees.are_bytes));
 }
 
+-- bytes that are written where a test passes
+pub tested_agrees : {memory : store.Memory} {other : state.Memory} → MemoryAgrees memory other → (b : Bool) (place : ℕ) (new : List ℕ)
+    {bytes : List ℕ} → (b ≡ true → place + length new ≤ length memory.bytes) → AllByRecursion (λ b. b < 256) new
+    → (if b then Some (with_bytes memory.bytes place new) else None) ≡ Some bytes
+    → MemoryAgrees (record { bytes = bytes; max = memory.max }) (with_content other bytes)
+tested_agrees {memory} {other} agrees true place new {bytes} within small e =
+    subst (λ bytes. MemoryAgrees (record { bytes = bytes; max = memory.max }) (with_content other bytes))
+    (same_Some (with_bytes memory.bytes place new) bytes e) (written_agrees place new (within refl) small agrees)
+tested_agrees agrees false place new {bytes} within small e = absurd (none-some bytes e)
+
 stored_agrees : (o : StoreOp) {memory : store.Memory} {other : state.Memory} (address n : ℕ) {bytes : List ℕ}
     → store_number o memory.bytes address n ≡ Some bytes → MemoryAgrees memory other
     → MemoryAgrees (record { bytes = bytes; max = memory.max }) (with_content other bytes)
-stored_agrees o {memory} {other} address n {bytes} e agrees = go (nat_le (address + (store_access o).width) (length memory.bytes)) refl e
-  where
-    new : List ℕ
-    new = low_bytes (store_access o).width n
-
-    go : (b : Bool) → nat_le (address + (store_access o).width) (length memory.bytes) ≡ b
-        → (if b then Some (with_bytes memory.bytes address new) else None) ≡ Some bytes
-        → MemoryAgrees (record { bytes = bytes; max = memory.max }) (with_content other bytes)
-    go true is e =
-        let within : address + (store_access o).width ≤ length memory.bytes = grind (arith, nat_tests, is) in
-        subst (λ bytes. MemoryAgrees (record { bytes = bytes; max = memory.max }) (with_content other bytes))
-        (same_Some (with_bytes memory.bytes address new) bytes e) (written_agrees
-        address new (omega (arith, low_length (store_access o).width n, within)) (low_small (store_access o).width n) agrees)
-    go false is e = absurd (none-some bytes e)
+stored_agrees o {memory} address n e agrees =
+    tested_agrees agrees (nat_le (address + (store_access o).width) (length memory.bytes)) address
+    (low_bytes (store_access o).width n) (λ is.
+    let within : address + (store_access o).width ≤ length memory.bytes = grind (arith, nat_tests, is) in
+    omega (arith, low_length (store_access o).width n, within)) (low_small (store_access o).width n) e
 
 value_of_number : (v : Value) → value (type_of v) (number_of v) ≡ v
 value_of_number (I32 n) = refl
@@ -167,8 +165,7 @@ value_of_number (I64 n) = refl
 
 -- what the helper of a store comes to, with the memory of the store
 store_comes : (o : StoreOp) (m : state.Machine) (a : state.ObjectAddress) {memory : store.Memory} {other : state.Memory} (x offset n : ℕ)
-    → machine.memory_in m a ≡ Some other → MemoryAgrees memory other
-    → x < 2 ^ 32 → offset < 2 ^ 32
+    → machine.memory_in m a ≡ Some other → MemoryAgrees memory other → x < 2 ^ 32 → offset < 2 ^ 32
     → CallComesTo 390 (helper_of (helper.Store o))
     (Pointer (Some a) ∷ number type.I32 x ∷ number type.I32 offset ∷ number (store_access o).ty n ∷ []) m
     (stored m a other (store_number o memory.bytes (x + offset) n))
@@ -181,8 +178,7 @@ store_comes o m a {other} x offset n is agrees small narrow =
 -- the memory has another content, and the operands above are taken off
 pub rewritten : {g : Site} {now : store.State} {m : state.Machine} {vars : state.Vars}
     (f : MemoryFound g now.store m vars) (above whole : List Value) (bytes : List ℕ)
-    → MemoryAgrees (record { bytes = bytes; max = f.memory.max }) (with_content f.other bytes)
-    → StandsAt g (above ++ whole) now m vars
+    → MemoryAgrees (record { bytes = bytes; max = f.memory.max }) (with_content f.other bytes) → StandsAt g (above ++ whole) now m vars
     → StandsAt g whole (exec.in_store now (store.with_memory now.store f.owner (record { bytes = bytes; max = f.memory.max })))
     (machine.with_memory m (memory_object f.owner) (with_content f.other bytes)) vars
 rewritten {g} {now} {m} f above whole bytes agrees stood =
@@ -294,18 +290,15 @@ grow_effect m a {memory} {other} more is agrees =
           if nat_le (length x.bytes / 65536 + more) (min x.max 16384)
           then gives (machine.with_memory m a (with_content x (x.bytes ++ replicate (more * 65536) 0))) (I32 (length x.bytes / 65536))
           else gives m (I32 4294967295)
-    ]) is
-    ∙ ap (λ bytes. effect bytes (min other.max 16384)) agrees.bytes
+    ]) is ∙ ap (λ bytes. effect bytes (min other.max 16384)) agrees.bytes
     ∙ ap (effect memory.bytes) (ap (λ max. min max 16384) agrees.max ∙ same_limit memory.max)
 
 grow_does : {g : Site} {s : Spot} {stack : List Value} → Place g s stack type.I32 → (more : ℕ) {stmt : tree.Stmt} (left : ℕ)
     (place : state.Place)
     → StandsAt g (I32 more ∷ (stack ++ s.base)) s.now s.machine s.vars → (f : MemoryFound g s.now.store s.machine s.vars)
-    → (fits : Bool) → has_room f.memory more ≡ fits
-    → ComesWithin g.program 391 (at g s.machine (stmt ∷ s.rest) s.vars)
+    → (fits : Bool) → has_room f.memory more ≡ fits → ComesWithin g.program 391 (at g s.machine (stmt ∷ s.rest) s.vars)
     (go_on g.program g.pending (take_effect (grown_effect s.machine (memory_object f.owner) f.other more f.memory.bytes fits) place
-    s.machine (waiting g (Some (slot type.I32 (height (stack ++ s.base)))) s.rest s.vars)))
-    → Owes g s (stmt ∷ []) left
+    s.machine (waiting g (Some (slot type.I32 (height (stack ++ s.base)))) s.rest s.vars))) → Owes g s (stmt ∷ []) left
     (elim (if fits then Some (record { bytes = f.memory.bytes ++ replicate (more * 65536) 0; max = f.memory.max }) else None) [
       | None ↦ exec.Leaves (I32 4294967295 ∷ stack) s.now
       | Some new ↦ exec.Leaves (I32 (store.pages f.memory) ∷ stack) (exec.in_store s.now (store.with_memory s.now.store f.owner new))
@@ -346,8 +339,7 @@ grow_follows {g} site s (I32 more ∷ stack) here exit n =
     let grows : Step = take_effect (grown_effect m a f.other more f.memory.bytes (has_room f.memory more)) place m frames in
     let acts : c_step g.program (state_at g m rest s.vars) ≡ grows = rw (evaluated, grow_effect m a more f.other_is f.agrees) refl in
     let way : Reaches g.program 1 (at g m rest s.vars) (go_on g.program g.pending grows) = way_by g m rest s.vars acts in
-    owes g s exit n _
-    (memory_done g.linked g.unit s.now (λ owner m. exec.grown owner m more stack s.now) f.owner_is f.memory_is)
+    owes g s exit n _ (memory_done g.linked g.unit s.now (λ owner m. exec.grown owner m more stack s.now) f.owner_is f.memory_is)
     (λ left. grow_does (value_place site here refl here.typed.1.2 stack (other_types here.typed.1.1)
     (stands_below (I32 more ∷ []) whole here.stands)) more left place here.stands f (has_room f.memory more) refl
     (record { statements = 1; few = omega arith; way = way }))

@@ -55,8 +55,7 @@ two_operands-value type.I32 x y under go = refl
 two_operands-value type.I64 x y under go = refl
 
 pub evaluate-slot : (g : Site) (m : state.Machine) (rest : List tree.Stmt) (vars : state.Vars) (t : ValType) (h : ℕ) {v : Value}
-    → named (slot t h) vars ≡ Some (state.Number v)
-    → evaluate g.program m (running g rest vars) (operand t h) ≡ Is v
+    → named (slot t h) vars ≡ Some (state.Number v) → evaluate g.program m (running g rest vars) (operand t h) ≡ Is v
 evaluate-slot g m rest vars t h is = evaluate-variable g.program m (running g rest vars) (slot t h) (slot_is_no_depth t h) is
 
 -- the uppermost operand, in its slot
@@ -101,8 +100,7 @@ one_arg : (p : Program) (m : state.Machine) (r : state.Running) (a : tree.Expr) 
 one_arg p m r a {v} is = args_are p m r (tree.Value a) [] (state.Number v) [] (number_arg p m r a is) refl
 
 two_args : (p : Program) (m : state.Machine) (r : state.Running) (a b : tree.Expr) {v w : Value} → evaluate p m r a ≡ Is v
-    → evaluate p m r b ≡ Is w
-    → evaluate_args p m r (tree.Value a ∷ tree.Value b ∷ []) ≡ Is (state.Number v ∷ state.Number w ∷ [])
+    → evaluate p m r b ≡ Is w → evaluate_args p m r (tree.Value a ∷ tree.Value b ∷ []) ≡ Is (state.Number v ∷ state.Number w ∷ [])
 two_args p m r a b {v} {w} is then_is = args_are
     p m r (tree.Value a) (tree.Value b ∷ []) (state.Number v) (state.Number w ∷ []) (number_arg p m r a is) (one_arg p m r b then_is)
 
@@ -119,18 +117,16 @@ labels_of targets = map (λ t. t.aim.value) targets
 
 -- ---- the place of a value
 
-pub value_place : {g : Site} {room : ℕ} {calls : exec.Calls} → IsSite g room calls
-    → {kind : Kind} {s : Spot} {stack : List Value} → IsHere g kind s stack → ends kind ≡ false
-    → {u : ValType} {types : Stack} → s.outs ≡ u ∷ types
-    → (under : List Value) → types_of under ≡ types → StandsAt g (under ++ s.base) s.now s.machine s.vars → Place g s under u
+pub value_place : {g : Site} {room : ℕ} {calls : exec.Calls} → IsSite g room calls → {kind : Kind} {s : Spot} {stack : List Value}
+    → IsHere g kind s stack → ends kind ≡ false → {u : ValType} {types : Stack} → s.outs ≡ u ∷ types → (under : List Value)
+    → types_of under ≡ types → StandsAt g (under ++ s.base) s.now s.machine s.vars → Place g s under u
 value_place {g} site {kind} {s} {stack} here goes {u} result under same agree =
     let c = g.setting.context in
     let whole : Stack = types_of (under ++ s.base) in
     let typed : s.outs ≡ u ∷ types_of under = result ∙ ap (λ (ts : Stack). u ∷ ts) (sym same) in
     let e : after c (types_of (stack ++ s.base)) kind ≡ u ∷ whole =
     rw (types_append stack s.base) (after_typed c (labels_of s.targets) kind (types_of stack) s.outs (types_of s.base) here.typed goes
-    ∙ ap (λ (ts : Stack). ts ++ types_of s.base) typed ∙ ap (λ (ts : Stack). u ∷ ts) (sym (types_append under s.base)))
-    in
+    ∙ ap (λ (ts : Stack). ts ++ types_of s.base) typed ∙ ap (λ (ts : Stack). u ∷ ts) (sym (types_append under s.base))) in
     record {
       typed = typed;
       there = here.slots u (length whole) (subst (λ (ts : Stack). stands u (length whole) ts ≡ true) (sym e) (stands_top u whole));
@@ -151,8 +147,7 @@ by_expr {g} {s} {under} {u} place fits left {e} has =
 by_way_does : {g : Site} {s : Spot} {under : List Value} {t u : ValType} → Place g s under u
     → {x y : ℕ} → Two g s (under ++ s.base) t x y → (answer : ℕ → ℕ → Answer) → AnswerFits (bits u) (answer x y)
     → (as_value : tree.Expr → tree.Expr) (way : Way) → WayIsRight t u answer as_value way
-    → ((which : NumOp) → way ≡ ByHelper which → Defines g.program g.unit (helper_of (helper.Num which)))
-    → (left : ℕ)
+    → ((which : NumOp) → way ≡ ByHelper which → Defines g.program g.unit (helper_of (helper.Num which))) → (left : ℕ)
     → Owes g s (by_way way t u (height (under ++ s.base)) as_value ∷ []) left (exec.answered u (answer x y) under s.now)
 by_way_does {g} {s} {under} {t} {u} place {x} {y} two answer fits as_value (ByOperator o) right defined left =
     let h : ℕ = height (under ++ s.base) in
@@ -218,8 +213,7 @@ one_does {g} site {kind} {s} {t} {u} result_of stmt goes left does stack here tu
 
 -- a helper of one operand
 by_helper : {g : Site} {s : Spot} {below : List Value} {t u : ValType} → Place g s below u
-    → (left : ℕ) (which : NumOp) {x : ℕ} (n : ℕ) → Defines g.program g.unit (helper_of (helper.Num which))
-    → One g s (below ++ s.base) t x
+    → (left : ℕ) (which : NumOp) {x : ℕ} (n : ℕ) → Defines g.program g.unit (helper_of (helper.Num which)) → One g s (below ++ s.base) t x
     → CallComesTo 390 (helper_of (helper.Num which)) (c_number t x ∷ []) s.machine (c_answered s.machine u (Gives n)) → n < 2 ^ bits u
     → Owes g s (helper_stmt which t u (height (below ++ s.base)) ∷ []) left (exec.Leaves (value u n ∷ below) s.now)
 by_helper {g} {s} {below} {t} {u} place left which n defined one comes fits =
@@ -250,8 +244,7 @@ extend_u_done : (g : Site) (stack : List Value) (now : store.State)
 extend_u_done g (I32 x ∷ stack) now = refl
 extend_u_done g _ now = refl
 
-extend_s_done : (g : Site) (stack : List Value) (now : store.State)
-    → exec.plain g.linked g.unit wasm.I64ExtendI32S stack now
+extend_s_done : (g : Site) (stack : List Value) (now : store.State) → exec.plain g.linked g.unit wasm.I64ExtendI32S stack now
     ≡ exec.one_operand type.I32 stack (λ x below. exec.Leaves (I64 (extend_s 32 64 x) ∷ below) now)
 extend_s_done g (I32 x ∷ stack) now = refl
 extend_s_done g _ now = refl

@@ -18,8 +18,7 @@ reversed_front x xs = reverse-append (x ∷ []) xs
 types_reverse : (xs : List Value) → types_of (reverse xs) ≡ reverse (types_of xs)
 types_reverse [] = refl
 types_reverse (x ∷ xs) =
-    ap types_of (reversed_front x xs)
-    ∙ (types_append (reverse xs) (x ∷ [])
+    ap types_of (reversed_front x xs) ∙ (types_append (reverse xs) (x ∷ [])
     ∙ (ap (λ types. types ++ type_of x ∷ []) (types_reverse xs) ∙ sym (reversed_front (type_of x) (types_of xs))))
 
 pub reversed : (t : Option ValType) → reverse (values t) ≡ values t

@@ -111,8 +111,7 @@ func_type_is m index ty entry = ap (λ params. record { params = params; result 
 
 -- a static function stands for the module's function, and nothing passes its calls on
 pub own_stands : {p : Program} {s : link.LinkedSet} (u : ℕ) {m : link.NamedModule} {index : ℕ} → AreServed p s
-    → slice_get s.modules u ≡ Some m → IsDefined m.tree index
-    → StandsFor p s (link.ModuleFunc u index) (state.UnitFunc u (func_name index))
+    → slice_get s.modules u ≡ Some m → IsDefined m.tree index → StandsFor p s (link.ModuleFunc u index) (state.UnitFunc u (func_name index))
 own_stands {p} u {m} {index} served is known =
     let own = own_is u served is known in
     record {

@@ -58,10 +58,8 @@ past_labels g m (name ∷ names) rest vars =
 -- two states with one step
 pub same_step : {p : Program} {pending : Pending} (s : state.State) {t : state.State} {k : ℕ} {to : Progress} → c_step p s ≡ c_step p t
     → Reaches p (suc k) (Going pending t) to → Reaches p (suc k) (Going pending s) to
-same_step {p} {pending} s {k} same way = record {
-  there = ap (λ x. after p k (go_on p pending x)) same ∙ way.there;
-  on_the_way = on_the_way;
-}
+same_step {p} {pending} s {k} same way =
+    record { there = ap (λ x. after p k (go_on p pending x)) same ∙ way.there; on_the_way = on_the_way }
   where
     on_the_way : (m : ℕ) → m < suc k → IsGoing (after p m (Going pending s))
     on_the_way zero less = tt

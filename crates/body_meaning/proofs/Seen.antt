@@ -13,15 +13,15 @@ use Rattle.body_meaning.proofs.Common.{bytes_eq, refl, ◌∙◌, subst, arith, 
 use Rattle.body_meaning.proofs.Common.{AllByRecursion, range_with_len, at_index, if_found, named, with_named, IsNumber, type_of, types_of}
 use Rattle.body_meaning.proofs.Common.{ValType, Value, global_of_import, global_space, imported_globals, is_global_import, is_memory_import}
 use Rattle.body_meaning.proofs.Common.{is_table_import, memory_of_import, memory_space, table_of_import, table_space, Import, ImportKind}
-use Rattle.body_meaning.proofs.Common.{ImportFunc, ImportGlobal, ImportMemory, ImportTable, Module, Context, HasMemory, HasTable, External}
-use Rattle.body_meaning.proofs.Common.{GlobalAddress, IndexSpaces, IsGlobal, IsLinked, LinkedSet, NamedModule, Resolves, as_global, Program}
-use Rattle.body_meaning.proofs.Common.{as_memory, as_table, global_at, global_type, import_at, imports_of, instances, memory_at, module_at}
-use Rattle.body_meaning.proofs.Common.{spaces_of, table_at, put_number, Evaluated, NoRule, Number, Pointer, found, then_evaluate, Next, act}
-use Rattle.body_meaning.proofs.Common.{Step, as_object, assign, c_step, depth_name, evaluate_arg, in_unit, next, number_in, place_of, Site}
-use Rattle.body_meaning.proofs.Common.{put_in, value_of, with_value, with_vars, first_global, global_name, memory_name, table_name, IsMade}
-use Rattle.body_meaning.proofs.Common.{global_imports, memory_imports, table_imports, IsCallableIfAny, MemoryAgrees, PointersAreSet, IsSite}
-use Rattle.body_meaning.proofs.Common.{PointsTo, TableAgrees, StandsAt, state_at, HasLimits, pointer_name, global_value, memory_arg}
-use Rattle.body_meaning.proofs.Common.{set_global, table_arg, AreServed, types_many}
+use Rattle.body_meaning.proofs.Common.{ImportFunc, ImportGlobal, Module, Context, HasMemory, HasTable, External, GlobalAddress, IndexSpaces}
+use Rattle.body_meaning.proofs.Common.{IsGlobal, IsLinked, LinkedSet, NamedModule, Resolves, as_global, Program, as_memory, as_table}
+use Rattle.body_meaning.proofs.Common.{global_at, global_type, import_at, imports_of, instances, memory_at, module_at, spaces_of, table_at}
+use Rattle.body_meaning.proofs.Common.{put_number, Evaluated, NoRule, Number, Pointer, found, then_evaluate, Next, act, Step, as_object}
+use Rattle.body_meaning.proofs.Common.{assign, c_step, depth_name, evaluate_arg, in_unit, next, number_in, place_of, Site, put_in, value_of}
+use Rattle.body_meaning.proofs.Common.{with_value, with_vars, first_global, global_name, memory_name, table_name, IsMade, global_imports}
+use Rattle.body_meaning.proofs.Common.{memory_imports, table_imports, IsCallableIfAny, MemoryAgrees, PointersAreSet, IsSite, PointsTo}
+use Rattle.body_meaning.proofs.Common.{TableAgrees, StandsAt, state_at, HasLimits, pointer_name, global_value, memory_arg, set_global}
+use Rattle.body_meaning.proofs.Common.{table_arg, AreServed, types_many}
 use Rattle.w2c_base.proofs.Lists.{get_behind, get_none, get_numbered, get_past, filter_few}
 use Rattle.wasm_tree.proofs.ImportCounts.{of_kind, memory_count, table_count, global_count}
 use Rattle.alike.proofs.Store.{AreFew, global_seen, memory_seen, table_seen}
@@ -38,8 +38,7 @@ index_behind xs ys k n at = ap (λ i. at_index (xs ++ ys) i) at ∙ ap (λ found
 -- an imported global has the type of its import
 import_of_global : (P : Import → Type 0) (imports : List Import) (rest : List (ValType × Bool)) (k : ℕ) {i : Import} {x : ValType × Bool}
     → slice_get (filter is_global_import imports) k ≡ Some i → slice_get (flat_map global_of_import imports ++ rest) k ≡ Some x
-    → AllByRecursion P imports
-    → P i × (i.kind ≡ ImportGlobal x.0 x.1)
+    → AllByRecursion P imports → P i × (i.kind ≡ ImportGlobal x.0 x.1)
 import_of_global P [] rest k {i} e f all = absurd (none-some i e)
 import_of_global P (h ∷ imports) rest k {i} {x} e f all = go h.kind k e f all.0 (λ k e f. import_of_global P imports rest k e f all.1)
   where
@@ -49,8 +48,6 @@ import_of_global P (h ∷ imports) rest k {i} {x} e f all = go h.kind k e f all.
         → slice_get (flat_map global_of_import imports ++ rest) k ≡ Some x → P i × (i.kind ≡ ImportGlobal x.0 x.1))
         → P i × (i.kind ≡ ImportGlobal x.0 x.1)
     go (ImportFunc t) k e f has behind = behind k e f
-    go (ImportTable l) k e f has behind = behind k e f
-    go (ImportMemory l) k e f has behind = behind k e f
     go (ImportGlobal t mutable) zero e f has behind =
         let same = same_Some (of_kind h (ImportGlobal t mutable)) i e in (
           subst P same has,
@@ -58,6 +55,7 @@ import_of_global P (h ∷ imports) rest k {i} {x} e f all = go h.kind k e f all.
               ∙ ap (λ (x : ValType × Bool). ImportGlobal x.0 x.1) (same_Some {A = ValType × Bool} (t, mutable) x f),
         )
     go (ImportGlobal t mutable) (suc k) e f has behind = behind k e f
+    go _ k e f has behind = behind k e f
 
 -- ---- what a module's indices stand for
 
@@ -80,8 +78,7 @@ own_object space wanted as_wanted brings limits s p m objects space_is counted e
     let front = imports_of wanted as_wanted (import_at s p) imports in
     let no_front : length front ≡ length (filter wanted imports) =
     length-map (filter wanted imports) (λ i. if_found (import_at s p i) as_wanted) in
-    looked_up space s p m 0 e
-    ∙ ap (λ entries. at_index entries 0) space_is
+    looked_up space s p m 0 e ∙ ap (λ entries. at_index entries 0) space_is
     ∙ index_behind front (replicate (length objects) (Some p)) 0 0 (omega (arith, no_front, empty))
     ∙ ap (λ found. if_found found (λ entry. entry)) (get_replicated (length objects) 0 (Some p) (omega (arith, less)))
 
@@ -131,8 +128,7 @@ global_known s p m index ty e linked is = go (slice_get (global_imports m.tree) 
         → global_type s g ≡ Some ty → GlobalKnown s p m index ty
     imported i at g means typed =
         let within : index < length front = omega (arith, counted, slice_get_within (filter is_global_import m.tree.imports) index i at) in
-        let address : global_at s p index ≡ Some g = looked_up _ s p m index e
-        ∙ ap entry_of (get_before front owned index within)
+        let address : global_at s p index ≡ Some g = looked_up _ s p m index e ∙ ap entry_of (get_before front owned index within)
         ∙ ap entry_of (slice_get-map (λ i. if_found (import_at s p i) as_global) (filter is_global_import m.tree.imports) index)
         ∙ ap (λ found. entry_of (option_map (λ i. if_found (import_at s p i) as_global) found)) at
         ∙ ap (λ found. if_found found as_global) means in
@@ -177,13 +173,11 @@ global_known s p m index ty e linked is = go (slice_get (global_imports m.tree) 
 
 -- a variable of the unit that no variable of the function hides
 unit_value : (m : state.Machine) (r : state.Running) (name : state.Name) {v : state.CValue} → bytes_eq name depth_name ≡ false
-    → named name r.vars ≡ None
-    → machine.var_in m (in_unit r name) ≡ Some v → value_of m r name ≡ Some v
+    → named name r.vars ≡ None → machine.var_in m (in_unit r name) ≡ Some v → value_of m r name ≡ Some v
 unit_value m r name no_depth hidden is = rw (no_depth, hidden) is
 
 pointer_value : (m : state.Machine) (r : state.Running) (object : state.Name) (a : state.ObjectAddress)
-    → named (pointer_name object) r.vars ≡ None
-    → PointsTo m r.unit object a → value_of m r (pointer_name object) ≡ Some (Pointer (Some a))
+    → named (pointer_name object) r.vars ≡ None → PointsTo m r.unit object a → value_of m r (pointer_name object) ≡ Some (Pointer (Some a))
 pointer_value m r object a hidden is = unit_value m r (pointer_name object) refl hidden is
 
 star_is : (p : Program) (m : state.Machine) (r : state.Running) (name : state.Name) {a : state.ObjectAddress} {v : Value}
@@ -239,9 +233,8 @@ pub record GlobalFound (g : Site) (index : ℕ) (ty : ValType × Bool) (made : s
       (tree.Value (global_value g.setting.named.tree index)) ≡ Is (Number value)
 
 pub global_found : {g : Site} {room : ℕ} {calls : Calls} (index : ℕ) {ty : ValType × Bool} {stack : List Value} {now : store.State}
-    {m : state.Machine} {vars : state.Vars}
-    → IsSite g room calls → slice_get g.setting.context.globals index ≡ Some ty → StandsAt g stack now m vars
-    → GlobalFound g index ty now.store m vars
+    {m : state.Machine} {vars : state.Vars} → IsSite g room calls → slice_get g.setting.context.globals index ≡ Some ty
+    → StandsAt g stack now m vars → GlobalFound g index ty now.store m vars
 global_found {g} index {ty} {now} {m} {vars} site at stands = record {
   known = known;
   value = v.0;
@@ -356,10 +349,8 @@ global_assigned {g} {index} {now} {m} {vars} site stands f operand v typed rest 
         let r : state.Running = running g rest vars in
         let points : value_of m (running g stmts vars) (pointer_name (global_name index)) ≡ Some (Pointer (Some a)) =
         pointer_value m (running g stmts vars) (global_name index) (global_object g.linked pointer.0)
-        (stands.variables.pointers_seen (global_name index)) pointer.2
-        ∙ ap (λ a. Some (Pointer (Some (global_object g.linked a)))) same in
-        ap act_at some
-        ∙ ap (λ (o : Option state.CValue). with_value m (place stmts) (number_in o) (λ v.
+        (stands.variables.pointers_seen (global_name index)) pointer.2 ∙ ap (λ a. Some (Pointer (Some (global_object g.linked a)))) same in
+        ap act_at some ∙ ap (λ (o : Option state.CValue). with_value m (place stmts) (number_in o) (λ v.
         with_value m (place stmts) (then_evaluate
         (found (value_of m (running g stmts vars) (pointer_name (global_name index)))) as_object) (λ a.
         put_in m (machine.var_in m a) (Number v) (next (machine.with_var m a (Number v)) r g.below)))) (is stmts)
@@ -399,8 +390,7 @@ memory_found {g} {now} {m} {vars} site has stands = go (slice_get (memory_import
     owned : (owner : ℕ) → memory_at g.linked g.unit 0 ≡ Some owner
         → ((other : state.Memory) → machine.memory_in m (memory_object owner) ≡ Some other
         → (rest : List tree.Stmt) → argument rest (slice_get (memory_imports g.setting.named.tree) 0) ≡ Is
-        (Pointer (Some (memory_object owner))))
-        → MemoryFound g now.store m vars
+        (Pointer (Some (memory_object owner)))) → MemoryFound g now.store m vars
     owned owner is evaluated =
         let h = memory_owner g.linked g.unit g.setting.named 0 owner site.module_is is in
         let made = stands.together.ready.objects owner h.tree (omega (arith, h.early, site.is_ready)) h.tree_is in
@@ -424,8 +414,7 @@ memory_found {g} {now} {m} {vars} site has stands = go (slice_get (memory_import
     go : (imported : Option Import) → slice_get (memory_imports g.setting.named.tree) 0 ≡ imported → MemoryFound g now.store m vars
     go None none = owned g.unit (own_memory g.linked g.unit g.setting.named site.module_is none
         (ap (λ (c : Context). is_some (slice_get c.memories 0)) (sym site.context_is) ∙ has)) (λ other is rest.
-        ap (argument rest) none
-        ∙ address_is g.program m (running g rest vars) memory_name
+        ap (argument rest) none ∙ address_is g.program m (running g rest vars) memory_name
         (memory_is_object m (memory_object g.unit) other is))
     go (Some i) some =
         let pointer = (stands.together.ready.pointers g.unit g.setting.named.tree site.is_ready
@@ -458,8 +447,7 @@ table_found {g} {now} {m} {vars} site has stands = go (slice_get (table_imports 
     owned : (owner : ℕ) → table_at g.linked g.unit 0 ≡ Some owner
         → ((other : state.Table) → machine.table_in m (table_object owner) ≡ Some other
         → (rest : List tree.Stmt) → argument rest (slice_get (table_imports g.setting.named.tree) 0) ≡ Is
-        (Pointer (Some (table_object owner))))
-        → TableFound g now.store m vars
+        (Pointer (Some (table_object owner)))) → TableFound g now.store m vars
     owned owner is evaluated =
         let h = table_owner g.linked g.unit g.setting.named 0 owner site.module_is is in
         let made = stands.together.ready.objects owner h.tree (omega (arith, h.early, site.is_ready)) h.tree_is in
@@ -481,8 +469,7 @@ table_found {g} {now} {m} {vars} site has stands = go (slice_get (table_imports 
     go : (imported : Option Import) → slice_get (table_imports g.setting.named.tree) 0 ≡ imported → TableFound g now.store m vars
     go None none = owned g.unit (own_table g.linked g.unit g.setting.named site.module_is none
         (ap (λ (c : Context). is_some (slice_get c.tables 0)) (sym site.context_is) ∙ has)) (λ other is rest.
-        ap (argument rest) none
-        ∙ address_is g.program m (running g rest vars) table_name
+        ap (argument rest) none ∙ address_is g.program m (running g rest vars) table_name
         (table_is_object m (table_object g.unit) other is))
     go (Some i) some =
         let pointer = (stands.together.ready.pointers g.unit g.setting.named.tree site.is_ready

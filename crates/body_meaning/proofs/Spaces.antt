@@ -84,11 +84,8 @@ earlier_count s p e = (instance_from s.hosts [] s.modules p p e (omega arith)).1
 
 pub spaces_at : (s : LinkedSet) (p : ℕ) {m : NamedModule} → slice_get s.modules p ≡ Some m
     → (i : Instance) × (slice_get (instances s) p ≡ Some i) × (i.spaces ≡ spaces_of (import_at s p) p m.tree)
-spaces_at s p {m} e = (
-  instance_of s.hosts (take p (instances s)) m,
-  instance_at s p e,
-  ap (λ n. spaces_of (import_at s p) n m.tree) (earlier_count s p e),
-)
+spaces_at s p {m} e =
+    (instance_of s.hosts (take p (instances s)) m, instance_at s p e, ap (λ n. spaces_of (import_at s p) n m.tree) (earlier_count s p e))
 
 -- ---- owners
 
@@ -137,13 +134,11 @@ abbrev pub FirstFit : LinkedSet → ℕ → Type 0
 FirstFit s p = (j : ℕ) (i : Instance) → j < p → slice_get (instances s) j ≡ Some i → ExportsFit s p i.exports
 
 exported_fits : (s : LinkedSet) (p : ℕ) (earlier : List Instance) (module_name name : List ℕ)
-    → AllByRecursion (λ i. ExportsFit s p i.exports) earlier
-    → IfAny (IsEarlier s p) (exported earlier module_name name)
+    → AllByRecursion (λ i. ExportsFit s p i.exports) earlier → IfAny (IsEarlier s p) (exported earlier module_name name)
 exported_fits s p earlier module_name name all = go (find (λ (i : Instance). bytes_eq i.name module_name) earlier) refl
   where
     inner : (exports : List (List ℕ × Option External)) → ExportsFit s p exports → (found : Option (Option External))
-        → named name exports ≡ found
-        → IfAny (IsEarlier s p) (if_found found (λ e. e))
+        → named name exports ≡ found → IfAny (IsEarlier s p) (if_found found (λ e. e))
     inner exports fit None is = tt
     inner exports fit (Some e) is = named_has _ name exports e fit is
 
@@ -164,8 +159,7 @@ offered_fits s p hosts host_name name = go (position_from (λ (h : Host). bytes_
     host h None = tt
     host h (Some x) = function h (position_from (λ f. bytes_eq f.name name) 0 x.functions)
 
-    go : (found : Option ℕ) → IfAny (IsEarlier s p)
-        (if_found found (λ h. if_found (slice_get hosts h)
+    go : (found : Option ℕ) → IfAny (IsEarlier s p) (if_found found (λ h. if_found (slice_get hosts h)
         (λ host. option_map (λ f. IsFunc (HostFunc h f)) (position_from (λ f. bytes_eq f.name name) 0 host.functions))))
     go None = tt
     go (Some h) = host h (slice_get hosts h)
@@ -187,8 +181,7 @@ record SpacesFit (s : LinkedSet) (p : ℕ) (spaces : IndexSpaces) : Type 0 where
   globals : AllByRecursion (IfAny (λ g. g.owner < suc p)) spaces.globals
 
 imports_fit : {A : Type 0} (s : LinkedSet) (p : ℕ) (P : A → Type 0) (wanted : Import → Bool) (as_wanted : External → Option A)
-    (imports : List Import)
-    → FirstFit s p → ((x : External) → IsEarlier s p x → IfAny P (as_wanted x))
+    (imports : List Import) → FirstFit s p → ((x : External) → IsEarlier s p x → IfAny P (as_wanted x))
     → AllByRecursion (IfAny P) (imports_of wanted as_wanted (import_at s p) imports)
 imports_fit {A} s p P wanted as_wanted imports first fits =
     all_map (IfAny P) _ _ (all_of _ _ (λ i. go (import_at s p i) (import_fits s p first i)))
@@ -201,12 +194,8 @@ spaces_fit : (s : LinkedSet) (p : ℕ) {m : NamedModule} → slice_get s.modules
     → SpacesFit s p (spaces_of (import_at s p) p m.tree)
 spaces_fit s p {m} is first = record {
   funcs = all_append
-      _ _ _ (imports_fit s p _ is_func_import as_func m.tree.imports first func) (all_map _ _ _ (all_range _ _ _ (λ k le less. record {
-        early = omega arith;
-        tree = m.tree;
-        tree_is = tree_is;
-        defined = record { behind = le; within = less };
-      })));
+      _ _ _ (imports_fit s p _ is_func_import as_func m.tree.imports first func) (all_map _ _ _ (all_range _ _ _ (λ k le less. record
+      { early = omega arith; tree = m.tree; tree_is = tree_is; defined = record { behind = le; within = less } })));
   tables = all_append _ _ _ (imports_fit s p _ is_table_import as_table m.tree.imports first table)
       (all_replicate _ _ (Some p) (λ some. record { early = omega arith; tree = m.tree; tree_is = tree_is; some = some }));
   memories = all_append _ _ _ (imports_fit s p _ is_memory_import as_memory m.tree.imports first memory)
@@ -288,15 +277,13 @@ module_spaces s p {m} e = spaces_fit s p e (first_fit s p (omega (arith, slice_g
 
 -- an index looked up in the spaces of a module
 pub looked_up : {A : Type 0} (space : IndexSpaces → List (Option A)) (s : LinkedSet) (p : ℕ) (m : NamedModule) (index : ℕ)
-    → slice_get s.modules p ≡ Some m
-    → if_found (slice_get (instances s) p) (λ i. at_index (space i.spaces) index)
+    → slice_get s.modules p ≡ Some m → if_found (slice_get (instances s) p) (λ i. at_index (space i.spaces) index)
     ≡ at_index (space (spaces_of (import_at s p) p m.tree)) index
 looked_up space s p m index e = let i = spaces_at s p e in rw (i.1, i.2) refl
 
 -- what holds of all that a module's index space has
-space_has : {A : Type 0}
-    (P : A → Type 0) (space : IndexSpaces → List (Option A)) (s : LinkedSet) (p : ℕ) {m : NamedModule} (index : ℕ) {x : A}
-    → slice_get s.modules p ≡ Some m → AllByRecursion (IfAny P) (space (spaces_of (import_at s p) p m.tree))
+space_has : {A : Type 0} (P : A → Type 0) (space : IndexSpaces → List (Option A)) (s : LinkedSet) (p : ℕ) {m : NamedModule} (index : ℕ)
+    {x : A} → slice_get s.modules p ≡ Some m → AllByRecursion (IfAny P) (space (spaces_of (import_at s p) p m.tree))
     → if_found (slice_get (instances s) p) (λ i. at_index (space i.spaces) index) ≡ Some x → P x
 space_has P space s p {m} index e all is =
     if_any P (at_index (space (spaces_of (import_at s p) p m.tree)) index)

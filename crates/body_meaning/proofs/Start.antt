@@ -129,8 +129,7 @@ first_vars_are m index item ty entry args fit =
     let all : List tree.Local = locals_from (length ty.params) declared ++ (slots_of type.I32 c code ++ low) in
     let behind : locals_of (slots_of type.I32 c code ++ low) ≡ Some (slots_behind c code) =
     locals_join (slots_of type.I32 c code) low (zero_slots type.I32 (heights_of type.I32 c code))
-    (locals_join (slots_of type.I64 c code) (element_local code) (zero_slots type.I64 (heights_of type.I64 c code)) (element_made code))
-    in
+    (locals_join (slots_of type.I64 c code) (element_local code) (zero_slots type.I64 (heights_of type.I64 c code)) (element_made code)) in
     let made : locals_of all ≡ Some (local_vars (length ty.params) (zeros declared) ++ slots_behind c code) =
     locals_join (locals_from (length ty.params) declared) (slots_of type.I32 c code ++ low) (zero_locals (length ty.params) declared) behind
     in
@@ -145,23 +144,12 @@ first_vars_are m index item ty entry args fit =
 
 named_behind : (name : state.Name) (xs ys : state.Vars) → named name xs ≡ None → named name (xs ++ ys) ≡ named name ys
 named_behind name [] ys none = refl
-named_behind name (x ∷ xs) ys none = go (bytes_eq x.0 name) none (named_behind name xs ys)
-  where
-    go : (b : Bool) → (if b then Some x.1 else named name xs) ≡ None → (named name xs ≡ None → named name (xs ++ ys) ≡ named name ys)
-        → (if b then Some x.1 else named name (xs ++ ys)) ≡ named name ys
-    go true none more = absurd cc
-    go false none more = more none
+named_behind name (x ∷ xs) ys none = grind (arith, named_behind name xs ys)
 
 -- what is found stays found in front of others
 found_left : (name : state.Name) (xs ys : state.Vars) (v : state.CValue) → named name xs ≡ Some v → named name (xs ++ ys) ≡ Some v
 found_left name [] ys v e = absurd cc
-found_left name (x ∷ xs) ys v e = go (bytes_eq x.0 name) e (found_left name xs ys v)
-  where
-    go : (b : Bool) → (if b then Some x.1 else named name xs) ≡ Some v
-        → (named name xs ≡ Some v → named name (xs ++ ys) ≡ Some v)
-        → (if b then Some x.1 else named name (xs ++ ys)) ≡ Some v
-    go true e more = e
-    go false e more = more e
+found_left name (x ∷ xs) ys v e = grind (arith, found_left name xs ys v)
 
 -- behind variables that hide none of them, locals are found
 located : (before : state.Vars) (k : ℕ) (locals : List Value) (rest : state.Vars) → k + length locals < 2 ^ 64
@@ -174,12 +162,9 @@ located before k (v ∷ locals) rest small free =
     let order : (before ++ here) ++ others ≡ before ++ (here ++ others) = append_assoc before here others in (
       named_behind (local_name k) before (here ++ others) (free k (omega arith) (omega arith))
           ∙ ap (λ b. if b then Some (state.Number v) else named (local_name k) others) (bytes_equal (local_name k)),
-      subst (Located (suc k) locals) order
-          (located (before ++ here) (suc k) locals rest (omega (arith, small))
-          (λ i from to.
+      subst (Located (suc k) locals) order (located (before ++ here) (suc k) locals rest (omega (arith, small)) (λ i from to.
           named_behind (local_name i) before here (free i (omega (arith, from)) (omega (arith, to)))
-          ∙ ap (λ b. if b then Some (state.Number v) else None)
-          (bytes_differ (local_name k) (local_name i)
+          ∙ ap (λ b. if b then Some (state.Number v) else None) (bytes_differ (local_name k) (local_name i)
           (local_at_another_place k i (omega (arith, small)) (omega (arith, small, to)) (λ e. absurd (omega (arith, e, from))))))),
     )
 
@@ -202,8 +187,7 @@ unnamed c entry args name no_local no_slot no_element =
     let element = element_vars (has_element entry.code) in
     named_behind name _ _ (unnamed_locals name 0 _ no_local)
     ∙ (named_behind name narrow _ (unnamed_slots name type.I32 _ (no_slot type.I32))
-    ∙ (named_behind name wide element (unnamed_slots name type.I64 _ (no_slot type.I64))
-    ∙ no_variable (has_element entry.code)))
+    ∙ (named_behind name wide element (unnamed_slots name type.I64 _ (no_slot type.I64)) ∙ no_variable (has_element entry.code)))
   where
     no_variable : (has : Bool) → named name (element_vars has) ≡ None
     no_variable true = ap (λ b. if b then Some (state.FuncPointer None) else None) no_element
@@ -226,10 +210,8 @@ slot_there t test a (suc n) h passes from to = elim (cases_eq a h) [
     hidden true rest e = refl
     hidden false rest e = e
 
-    by_test : (keep : Bool)
-        → named (slot t h) (slot_vars t (filter test (range_with_len (a + 1) n))) ≡ Some (state.Number (value t 0))
-        → named (slot t h) (slot_vars t
-        (cond keep (a ∷ filter test (range_with_len (a + 1) n)) (filter test (range_with_len (a + 1) n))))
+    by_test : (keep : Bool) → named (slot t h) (slot_vars t (filter test (range_with_len (a + 1) n))) ≡ Some (state.Number (value t 0))
+        → named (slot t h) (slot_vars t (cond keep (a ∷ filter test (range_with_len (a + 1) n)) (filter test (range_with_len (a + 1) n))))
         ≡ Some (state.Number (value t 0))
     by_test true e = hidden (bytes_eq (slot t a) (slot t h)) (named (slot t h) (slot_vars t (filter test (range_with_len (a + 1) n)))) e
     by_test false e = e
@@ -253,8 +235,7 @@ start_agrees c {entry} args within few numbers =
         value t 0,
         named_behind (slot t height) (local_vars 0 locals) (slots_behind c entry.code)
             (unnamed_locals (slot t height) 0 locals (λ i. bytes_differ (local_name i) (slot t height)
-            (λ e. slot_is_no_local t height i (sym e))))
-            ∙ slot_here t height is,
+            (λ e. slot_is_no_local t height i (sym e)))) ∙ slot_here t height is,
         type_of-value t 0,
       );
       element = λ is. (
@@ -267,8 +248,7 @@ start_agrees c {entry} args within few numbers =
             (slot_is_no_element type.I32 h)))
             ∙ (named_behind element_name (slot_vars type.I64 (heights_of type.I64 c entry.code)) (element_vars (has_element entry.code))
             (unnamed_slots element_name type.I64 (heights_of type.I64 c entry.code) (λ h. bytes_differ (slot type.I64 h) element_name
-            (slot_is_no_element type.I64 h)))
-            ∙ element_here (has_element entry.code) is)),
+            (slot_is_no_element type.I64 h))) ∙ element_here (has_element entry.code) is)),
       );
       globals_seen = λ k. unnamed c entry args (global_name k) (λ i. refl)
           (λ t h. bytes_differ (slot t h) (global_name k) (slot_is_no_global t h k)) refl;
@@ -280,8 +260,7 @@ start_agrees c {entry} args within few numbers =
         → named (slot t height) (slots_behind c entry.code) ≡ Some (state.Number (value t 0))
     slot_here type.I32 height is =
         found_left (slot type.I32 height) (slot_vars type.I32 (heights_of type.I32 c entry.code))
-        (slot_vars type.I64 (heights_of type.I64 c entry.code) ++ element_vars (has_element entry.code))
-        (state.Number (value type.I32 0))
+        (slot_vars type.I64 (heights_of type.I64 c entry.code) ++ element_vars (has_element entry.code)) (state.Number (value type.I32 0))
         (slot_there type.I32 (has_slot type.I32 c entry.code) 0 (most_operands c entry.code) height is (omega arith)
         (omega (arith, slots_are_low type.I32 c entry.code height is)))
     slot_here type.I64 height is =

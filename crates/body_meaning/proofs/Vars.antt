@@ -4,7 +4,7 @@ use Rattle.body_meaning.proofs.Common.{IsSome, IsTrue, slice_get, slice_set, Som
 use Rattle.body_meaning.proofs.Common.{same_Some, slice_get_within, bytes_eq-Decides, equal_type-eq, named, with_named, IsNumber, type_of}
 use Rattle.body_meaning.proofs.Common.{types_of, ValType, Value, named-with_another, named-with_named, numbers_of_one_type, of_one_type}
 use Rattle.body_meaning.proofs.Common.{global_name, HoldsFunction, HoldsNumber, Located, Stacked, VarsAgree, Site, StandsAt, Together}
-use Rattle.body_meaning.proofs.Common.{element_name, local_name, pointer_name, slot}
+use Rattle.body_meaning.proofs.Common.{AllByRecursion, element_name, local_name, pointer_name, slot}
 use Rattle.w2c_base.proofs.Lists.{all_behind, all_set}
 use Rattle.wasm_meaning.specs.Store as store
 use Rattle.wasm_meaning.specs.Execution as exec
@@ -23,19 +23,25 @@ pub stacked_below : (xs ys : List Value) (vars : state.Vars) → Stacked (xs ++ 
 stacked_below [] ys vars h = h
 stacked_below (x ∷ xs) ys vars h = stacked_below xs ys vars h.1
 
--- the operands under the uppermost ones
-pub agree_below : {slots : ValType → ℕ → Bool} {has_element : Bool} (xs ys : List Value) {locals : List Value} {vars : state.Vars}
-    → VarsAgree slots has_element (xs ++ ys) locals vars → VarsAgree slots has_element ys locals vars
-agree_below xs ys {vars} a = record {
-  stacked = stacked_below xs ys vars a.stacked;
+-- other operands in the same variables
+pub agree_at : {slots : ValType → ℕ → Bool} {has_element : Bool} {stack stack' locals : List Value} {vars : state.Vars}
+    → VarsAgree slots has_element stack locals vars → Stacked stack' vars → AllByRecursion IsNumber stack'
+    → VarsAgree slots has_element stack' locals vars
+agree_at a stacked numbers = record {
+  stacked = stacked;
   located = a.located;
-  stack_numbers = all_behind IsNumber xs ys a.stack_numbers;
+  stack_numbers = numbers;
   local_numbers = a.local_numbers;
   declared = a.declared;
   element = a.element;
   globals_seen = a.globals_seen;
   pointers_seen = a.pointers_seen;
 }
+
+-- the operands under the uppermost ones
+pub agree_below : {slots : ValType → ℕ → Bool} {has_element : Bool} (xs ys : List Value) {locals : List Value} {vars : state.Vars}
+    → VarsAgree slots has_element (xs ++ ys) locals vars → VarsAgree slots has_element ys locals vars
+agree_below xs ys {vars} a = agree_at a (stacked_below xs ys vars a.stacked) (all_behind IsNumber xs ys a.stack_numbers)
 
 stays_stacked : (name : List ℕ) (new : state.CValue) (stack : List Value) (vars : state.Vars)
     → ((t : ValType) (h : ℕ) → h < height stack → slot t h ≢ name) → Stacked stack vars → Stacked stack (with_named name new vars)
@@ -59,46 +65,36 @@ stays_located name new k (v ∷ locals) vars other s = (
 abbrev pub Takes : Option state.CValue → state.CValue → Type 0
 Takes held new = (old : state.CValue) × (held ≡ Some old) × (of_one_type old new ≡ true)
 
-pub number_taken : (t : ValType) (held : Option state.CValue) (v : Value) → HoldsNumber t held → type_of v ≡ t
-    → Takes held (state.Number v)
+pub number_taken : (t : ValType) (held : Option state.CValue) (v : Value) → HoldsNumber t held → type_of v ≡ t → Takes held (state.Number v)
 number_taken t held v holds typed = (state.Number holds.0, holds.1, numbers_of_one_type holds.0 v (holds.2 ∙ sym typed))
 
-pub function_taken : (held : Option state.CValue) (to : Option state.FuncAddress) → HoldsFunction held
-    → Takes held (state.FuncPointer to)
+pub function_taken : (held : Option state.CValue) (to : Option state.FuncAddress) → HoldsFunction held → Takes held (state.FuncPointer to)
 function_taken held to holds = (state.FuncPointer holds.0, holds.1, refl)
 
 pub number_there : (t : ValType) (held : Option state.CValue) → HoldsNumber t held → IsSome held
 number_there t held holds = ap is_some holds.1
 
 -- what goes where a number or a function is held is one
+of_one : (held : Option state.CValue) (old new : state.CValue) → Takes held new → held ≡ Some old → of_one_type old new ≡ true
+of_one held old new takes is = ap (λ x. of_one_type x new) (sym (same_Some takes.0 old (sym takes.1 ∙ is))) ∙ takes.2
+
 another_number : (t : ValType) (held : Option state.CValue) (new : state.CValue) → Takes held new → HoldsNumber t held
     → HoldsNumber t (Some new)
-another_number t held new takes holds = go takes.0 new refl (same_Some takes.0 (state.Number holds.0) (sym takes.1 ∙ holds.1)) takes.2
-  where
-    go : (old after : state.CValue) → after ≡ new → old ≡ state.Number holds.0 → of_one_type old after ≡ true → HoldsNumber t (Some new)
-    go old (state.Number w) is same e =
-        let typed : of_one_type (state.Number holds.0) (state.Number w) ≡ true = ap (λ x. of_one_type x (state.Number w)) (sym same) ∙ e in
-        (w, ap Some (sym is), sym (equal_type-eq (type_of holds.0) (type_of w) typed) ∙ holds.2)
-    go old (state.Pointer to) is same e =
-        absurd (let wrong : of_one_type (state.Number holds.0) (state.Pointer to)
-        ≡ true = ap (λ x. of_one_type x (state.Pointer to)) (sym same) ∙ e in cc)
-    go old (state.FuncPointer to) is same e =
-        absurd (let wrong : of_one_type (state.Number holds.0) (state.FuncPointer to)
-        ≡ true = ap (λ x. of_one_type x (state.FuncPointer to)) (sym same) ∙ e in cc)
+another_number t held (state.Number w) takes holds =
+    let typed : of_one_type (state.Number holds.0) (state.Number w) ≡ true =
+    of_one held (state.Number holds.0) (state.Number w) takes holds.1 in
+    (w, refl, sym (equal_type-eq (type_of holds.0) (type_of w) typed) ∙ holds.2)
+another_number t held (state.Pointer to) takes holds =
+    absurd (let wrong : false ≡ true = of_one held (state.Number holds.0) (state.Pointer to) takes holds.1 in cc)
+another_number t held (state.FuncPointer to) takes holds =
+    absurd (let wrong : false ≡ true = of_one held (state.Number holds.0) (state.FuncPointer to) takes holds.1 in cc)
 
 another_function : (held : Option state.CValue) (new : state.CValue) → Takes held new → HoldsFunction held → HoldsFunction (Some new)
-another_function held new takes holds =
-    go takes.0 new refl (same_Some takes.0 (state.FuncPointer holds.0) (sym takes.1 ∙ holds.1)) takes.2
-  where
-    go : (old after : state.CValue) → after ≡ new → old ≡ state.FuncPointer holds.0 → of_one_type old after ≡ true
-        → HoldsFunction (Some new)
-    go old (state.FuncPointer to) is same e = (to, ap Some (sym is))
-    go old (state.Number w) is same e =
-        absurd (let wrong : of_one_type (state.FuncPointer holds.0) (state.Number w)
-        ≡ true = ap (λ x. of_one_type x (state.Number w)) (sym same) ∙ e in cc)
-    go old (state.Pointer to) is same e =
-        absurd (let wrong : of_one_type (state.FuncPointer holds.0) (state.Pointer to)
-        ≡ true = ap (λ x. of_one_type x (state.Pointer to)) (sym same) ∙ e in cc)
+another_function held (state.FuncPointer to) takes holds = (to, refl)
+another_function held (state.Number w) takes holds =
+    absurd (let wrong : false ≡ true = of_one held (state.FuncPointer holds.0) (state.Number w) takes holds.1 in cc)
+another_function held (state.Pointer to) takes holds =
+    absurd (let wrong : false ≡ true = of_one held (state.FuncPointer holds.0) (state.Pointer to) takes holds.1 in cc)
 
 -- what a name holds behind an assignment that keeps types
 still_holds : (Holds : Option state.CValue → Type 0) (n name : List ℕ) (new : state.CValue) (vars : state.Vars)
@@ -116,19 +112,17 @@ still_holds Holds n name new vars takes another holds = go (bytes_eq n name) ref
         let differ : n ≢ name = λ e. let equal : bytes_eq n name ≡ true = (bytes_eq-Decides n name).1 e in cc in
         subst Holds (sym (named-with_another n name new vars differ)) holds
 
--- what an assignment to a name that is no global and no pointer leaves
-record Left (slots : ValType → ℕ → Bool) (has_element : Bool) (vars : state.Vars) : Type 0 where
-  declared : (t : ValType) (h : ℕ) → slots t h ≡ true → HoldsNumber t (named (slot t h) vars)
-  element : IsTrue has_element → HoldsFunction (named element_name vars)
-  globals_seen : (k : ℕ) → named (global_name k) vars ≡ None
-  pointers_seen : (object : state.Name) → named (pointer_name object) vars ≡ None
-
-left_of : {slots : ValType → ℕ → Bool}
-    {has_element : Bool} {stack locals : List Value} {vars : state.Vars} (name : List ℕ) (new : state.CValue)
-    → ((k : ℕ) → name ≢ global_name k) → ((object : state.Name) → name ≢ pointer_name object)
-    → Takes (named name vars) new
-    → VarsAgree slots has_element stack locals vars → Left slots has_element (with_named name new vars)
-left_of {vars} name new no_global no_pointer takes a = record {
+-- behind an assignment to a name that is no global and no pointer, with the operands and locals that there are then
+assigned : {slots : ValType → ℕ → Bool} {has_element : Bool} {stack stack' locals locals' : List Value} {vars : state.Vars}
+    (name : List ℕ) (new : state.CValue) → ((k : ℕ) → name ≢ global_name k) → ((object : state.Name) → name ≢ pointer_name object)
+    → Takes (named name vars) new → VarsAgree slots has_element stack locals vars → Stacked stack' (with_named name new vars)
+    → Located 0 locals' (with_named name new vars) → AllByRecursion IsNumber stack' → AllByRecursion IsNumber locals'
+    → VarsAgree slots has_element stack' locals' (with_named name new vars)
+assigned {vars} name new no_global no_pointer takes a stacked located stack_numbers local_numbers = record {
+  stacked = stacked;
+  located = located;
+  stack_numbers = stack_numbers;
+  local_numbers = local_numbers;
   declared = λ t h is. still_holds (HoldsNumber t) (slot t h) name new vars takes (another_number t (named name vars) new takes)
       (a.declared t h is);
   element = λ is. still_holds HoldsFunction element_name name new vars takes (another_function (named name vars) new takes) (a.element is);
@@ -168,48 +162,26 @@ local_taken x locals v {old} vars located is typed =
 pub push : {slots : ValType → ℕ → Bool} {has_element : Bool} {stack locals : List Value} {vars : state.Vars} (v : Value)
     → height stack < 2 ^ 64 → slots (type_of v) (height stack) ≡ true → IsNumber v → VarsAgree slots has_element stack locals vars
     → VarsAgree slots has_element (v ∷ stack) locals (with_named (slot (type_of v) (height stack)) (state.Number v) vars)
-push {slots} {has_element} {stack} {locals} {vars} v small there fits a =
+push {stack} {locals} {vars} v small there fits a =
     let name : List ℕ = slot (type_of v) (height stack) in
     let new : state.CValue = state.Number v in
-    let left : Left slots has_element (with_named name new vars) =
-    left_of name new (slot_is_no_global (type_of v) (height stack)) (slot_is_no_pointer (type_of v) (height stack))
-    (number_taken (type_of v) (named name vars) v (a.declared (type_of v) (height stack) there) refl) a
-    in
-    record {
-      stacked = (
-        named-with_named name new vars (number_there (type_of v) (named name vars) (a.declared (type_of v) (height stack) there)),
-        stays_stacked name new stack vars (λ t h less. slot_at_another_height t (type_of v) h (height stack)
-            (omega (arith, less, small)) small (omega (arith, less))) a.stacked,
-      );
-      located = stays_located name new 0 locals vars (λ i from to e. slot_is_no_local (type_of v) (height stack) i (sym e)) a.located;
-      stack_numbers = (fits, a.stack_numbers);
-      local_numbers = a.local_numbers;
-      declared = left.declared;
-      element = left.element;
-      globals_seen = left.globals_seen;
-      pointers_seen = left.pointers_seen;
-    }
+    assigned name new (slot_is_no_global (type_of v) (height stack)) (slot_is_no_pointer (type_of v) (height stack))
+    (number_taken (type_of v) (named name vars) v (a.declared (type_of v) (height stack) there) refl) a (
+      named-with_named name new vars (number_there (type_of v) (named name vars) (a.declared (type_of v) (height stack) there)),
+      stays_stacked name new stack vars (λ t h less. slot_at_another_height t (type_of v) h (height stack)
+          (omega (arith, less, small)) small (omega (arith, less))) a.stacked,
+    ) (stays_located name new 0 locals vars (λ i from to e. slot_is_no_local (type_of v) (height stack) i (sym e)) a.located)
+    (fits, a.stack_numbers) a.local_numbers
 
 -- the element that is about to be called
-pub set_element : {slots : ValType → ℕ → Bool}
-    {has_element : Bool} {stack locals : List Value} {vars : state.Vars} (to : Option state.FuncAddress)
-    → IsTrue has_element → VarsAgree slots has_element stack locals vars
+pub set_element : {slots : ValType → ℕ → Bool} {has_element : Bool} {stack locals : List Value} {vars : state.Vars}
+    (to : Option state.FuncAddress) → IsTrue has_element → VarsAgree slots has_element stack locals vars
     → VarsAgree slots has_element stack locals (with_named element_name (state.FuncPointer to) vars)
-set_element {slots} {has_element} {stack} {locals} {vars} to there a =
+set_element {stack} {locals} {vars} to there a =
     let new : state.CValue = state.FuncPointer to in
-    let left : Left slots has_element (with_named element_name new vars) =
-    left_of element_name new element_is_no_global element_is_no_pointer (function_taken (named element_name vars) to (a.element there)) a
-    in
-    record {
-      stacked = stays_stacked element_name new stack vars (λ t h less. slot_is_no_element t h) a.stacked;
-      located = stays_located element_name new 0 locals vars (λ i from to. local_is_no_element i) a.located;
-      stack_numbers = a.stack_numbers;
-      local_numbers = a.local_numbers;
-      declared = left.declared;
-      element = left.element;
-      globals_seen = left.globals_seen;
-      pointers_seen = left.pointers_seen;
-    }
+    assigned element_name new element_is_no_global element_is_no_pointer (function_taken (named element_name vars) to (a.element there)) a
+    (stays_stacked element_name new stack vars (λ t h less. slot_is_no_element t h) a.stacked)
+    (stays_located element_name new 0 locals vars (λ i from to. local_is_no_element i) a.located) a.stack_numbers a.local_numbers
 
 -- the local with number x is set
 located_set : (k x y : ℕ) (locals : List Value) (v : Value) {old : Value} (vars : state.Vars) → y ≡ k + x → length locals + k < 2 ^ 64
@@ -230,26 +202,16 @@ located_set k (suc x) y (w ∷ locals) v {old} vars place few is s =
       located_set (suc k) x y locals v vars (omega (arith, place)) (omega (arith, few)) is s.1,
     )
 
-pub set_local : {slots : ValType → ℕ → Bool}
-    {has_element : Bool} {stack locals : List Value} {vars : state.Vars} (x : ℕ) (v : Value) {old : Value}
-    → length locals < 2 ^ 64 → slice_get locals x ≡ Some old → type_of v ≡ type_of old → IsNumber v
+pub set_local : {slots : ValType → ℕ → Bool} {has_element : Bool} {stack locals : List Value} {vars : state.Vars} (x : ℕ) (v : Value)
+    {old : Value} → length locals < 2 ^ 64 → slice_get locals x ≡ Some old → type_of v ≡ type_of old → IsNumber v
     → VarsAgree slots has_element stack locals vars
     → VarsAgree slots has_element stack (slice_set locals x v) (with_named (local_name x) (state.Number v) vars)
-set_local {slots} {has_element} {stack} {locals} {vars} x v few is typed fits a =
-    let left : Left slots has_element (with_named (local_name x) (state.Number v) vars) =
-    left_of
-    (local_name x) (state.Number v) (local_is_no_global x) (local_is_no_pointer x) (local_taken x locals v vars a.located is typed) a
-    in
-    record {
-      stacked = stays_stacked (local_name x) (state.Number v) stack vars (λ t h less. slot_is_no_local t h x) a.stacked;
-      located = located_set 0 x x locals v vars (omega arith) (omega (arith, few)) is a.located;
-      stack_numbers = a.stack_numbers;
-      local_numbers = all_set IsNumber locals x v fits a.local_numbers;
-      declared = left.declared;
-      element = left.element;
-      globals_seen = left.globals_seen;
-      pointers_seen = left.pointers_seen;
-    }
+set_local {stack} {locals} {vars} x v few is typed fits a =
+    assigned (local_name x) (state.Number v) (local_is_no_global x) (local_is_no_pointer x)
+    (local_taken x locals v vars a.located is typed) a
+    (stays_stacked (local_name x) (state.Number v) stack vars (λ t h less. slot_is_no_local t h x) a.stacked)
+    (located_set 0 x x locals v vars (omega arith) (omega (arith, few)) is a.located) a.stack_numbers
+    (all_set IsNumber locals x v fits a.local_numbers)
 
 -- ---- operands of a running function are taken
 
@@ -257,11 +219,8 @@ set_local {slots} {has_element} {stack} {locals} {vars} x v few is typed fits a 
 pub lowered : {g : Site} (above whole : List Value) {now : store.State} {new : store.Store} {m after : state.Machine} {vars : state.Vars}
     → StandsAt g (above ++ whole) now m vars
     → Together g.program g.linked g.count (suc g.depth) after new now.trail → StandsAt g whole (exec.in_store now new) after vars
-lowered above whole stood together = record {
-  together = together;
-  variables = agree_below above whole stood.variables;
-  local_types = stood.local_types;
-}
+lowered above whole stood together =
+    record { together = together; variables = agree_below above whole stood.variables; local_types = stood.local_types }
 
 pub stands_below : {g : Site} (xs ys : List Value) {now : store.State} {m : state.Machine} {vars : state.Vars}
     → StandsAt g (xs ++ ys) now m vars → StandsAt g ys now m vars

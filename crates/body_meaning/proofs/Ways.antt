@@ -37,18 +37,13 @@ WayIsRight t u answer as_value (ByHelper which) = (m : Machine) (x y : ℕ) → 
 -- ---- operators of C
 
 pub operated : (p : Program) (m : Machine) (r : Running) (t : ValType) (o : COp) (a b : tree.Expr) (x y : ℕ)
-    → evaluate p m r a ≡ Is (value t x) → evaluate p m r b ≡ Is (value t y)
-    → evaluate p m r (tree.Op o a b) ≡ operate_at t o x y
+    → evaluate p m r a ≡ Is (value t x) → evaluate p m r b ≡ Is (value t y) → evaluate p m r (tree.Op o a b) ≡ operate_at t o x y
 operated p m r t o a b x y left right = rw (left, right) (operate-value t o x y)
 
 by_operator : (t : ValType) (o : COp) (answer : ℕ → ℕ → Answer) (result : ℕ → ℕ → ℕ) → ((x y : ℕ) → answer x y ≡ Gives (result x y))
-    → ((x y : ℕ) → operate_at t o x y ≡ Is (value t (result x y)))
-    → Operates t t answer (λ a b. tree.Op o a b)
-by_operator t o answer result gives is p m r a b x y left right = record {
-  n = result x y;
-  gives = gives x y;
-  is = operated p m r t o a b x y left right ∙ is x y;
-}
+    → ((x y : ℕ) → operate_at t o x y ≡ Is (value t (result x y))) → Operates t t answer (λ a b. tree.Op o a b)
+by_operator t o answer result gives is p m r a b x y left right =
+    record { n = result x y; gives = gives x y; is = operated p m r t o a b x y left right ∙ is x y }
 
 -- a count of a shift is taken modulo the width
 reduced_at : (t : ValType) (y : ℕ) → operate_at t op.Rem y (bits t) ≡ Is (value t (y % bits t))
@@ -87,8 +82,7 @@ pub binary_right : (t : ValType) (o : BinaryOp) → WayIsRight t t (binary o (bi
 binary_right t binary_op.Add =
     by_operator t op.Add (binary binary_op.Add (bits t)) (λ x y. (x + y) % 2 ^ bits t) (λ x y. refl) (λ x y. refl)
 binary_right t binary_op.Sub =
-    by_operator t op.Sub (binary binary_op.Sub (bits t)) (λ x y. (x + (2 ^ bits t - y)) % 2 ^ bits t) (λ x y. refl)
-    (λ x y. refl)
+    by_operator t op.Sub (binary binary_op.Sub (bits t)) (λ x y. (x + (2 ^ bits t - y)) % 2 ^ bits t) (λ x y. refl) (λ x y. refl)
 binary_right t binary_op.Mul = by_operator t op.Mul (binary binary_op.Mul (bits t)) (λ x y. x * y % 2 ^ bits t) (λ x y. refl) (λ x y. refl)
 binary_right t binary_op.And = by_operator t op.And (binary binary_op.And (bits t)) bit_and (λ x y. refl) (λ x y. refl)
 binary_right t binary_op.Or = by_operator t op.Or (binary binary_op.Or (bits t)) bit_or (λ x y. refl) (λ x y. refl)

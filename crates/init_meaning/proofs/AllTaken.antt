@@ -62,8 +62,7 @@ number_after number [] = number
 number_after number (i ∷ imports) = number_after (next_number number i) imports
 
 takes_follow : (s : LinkedSet) (g : Seat) (m : NamedModule) (spare : ℕ) (table memory : Bool) (number : ℕ) (imports : List Import)
-    (rest : List c.Stmt) (tasks : List Task)
-    → imported_globals m.tree < 2 ^ 64 → AreTaken g.program s g.unit m number imports
+    (rest : List c.Stmt) (tasks : List Task) → imported_globals m.tree < 2 ^ 64 → AreTaken g.program s g.unit m number imports
     → AllByRecursion (λ i. has_test i ≡ true → CanTest g m.tree) imports → AllByRecursion (λ i. IsLow i.kind) imports
     → FollowsTasks s g spare (IsTaking s g m (flag_after is_table_import table imports) (flag_after is_memory_import memory imports)
     (number_after number imports)) rest tasks
@@ -81,9 +80,8 @@ flag_true : (f : Import → Bool) (imports : List Import) → flag_after f true 
 flag_true f [] = refl
 flag_true f (i ∷ imports) = flag_true f imports
 
-flag_found : (f : Import → Bool) → ((i : Import) → f i ≡ true → is_func_import i ≡ false)
-    → (has : Bool) (imports : List Import) (x : Import)
-    → slice_get (filter f imports) 0 ≡ Some x → flag_after f has (filter is_taken imports) ≡ true
+flag_found : (f : Import → Bool) → ((i : Import) → f i ≡ true → is_func_import i ≡ false) → (has : Bool) (imports : List Import)
+    (x : Import) → slice_get (filter f imports) 0 ≡ Some x → flag_after f has (filter is_taken imports) ≡ true
 flag_found f apart has [] x e = absurd (none-some x e)
 flag_found f apart has (i ∷ imports) x e = go (flag_found f apart has imports x) (flag_found f apart (has || f i) imports x) (f i) refl
     (is_func_import i) refl
@@ -120,8 +118,7 @@ is_taken_kind test none _ e = refl
 
 taken_is_making : (s : LinkedSet) (g : Seat) (m : NamedModule) (table memory : Bool) (number : ℕ)
     → ((i : Import) → slice_get (table_imports m.tree) 0 ≡ Some i → table ≡ true)
-    → ((i : Import) → slice_get (memory_imports m.tree) 0 ≡ Some i → memory ≡ true)
-    → number ≡ imported_globals m.tree
+    → ((i : Import) → slice_get (memory_imports m.tree) 0 ≡ Some i → memory ≡ true) → number ≡ imported_globals m.tree
     → (mach : state.Machine) (made : store.Store) (trail : Trail) (vars : state.Vars)
     → IsTaking s g m table memory number mach made trail vars → IsMaking s g m false false [] mach made trail vars
 taken_is_making s g m table memory number tables memories count mach made trail vars here = record {
@@ -156,7 +153,6 @@ taking_follows s g m spare rest tasks few taken can low behind =
     let imports : List Import = filter is_taken all in
     takes_follow s g m spare false false 0 imports rest tasks few taken can low
     (at_stage (taken_is_making s g m (flag_after is_table_import false imports) (flag_after is_memory_import false imports)
-    (number_after 0 imports)
-    (λ i e. flag_found is_table_import (λ i. is_taken_kind is_table (λ t. refl) i.kind) false all i e)
+    (number_after 0 imports) (λ i e. flag_found is_table_import (λ i. is_taken_kind is_table (λ t. refl) i.kind) false all i e)
     (λ i e. flag_found is_memory_import (λ i. is_taken_kind is_memory (λ t. refl) i.kind) false all i e)
     (number_is 0 all (λ i. is_taken_kind is_global (λ t. refl) i.kind) ∙ omega arith)) behind)

@@ -8,9 +8,8 @@ pub use Rattle.std.proofs.lemmas.Bool.Decides.{nat_tests}
 pub use Rattle.std.proofs.lemmas.List.{length-replicate}
 pub use Rattle.std.proofs.lemmas.Option.{none-some, same_Some, slice_get_within}
 pub use Rattle.std.specs.List.{AllByRecursion, list_any, range_with_len}
-pub use Rattle.std.specs.Option.{option_or}
 pub use Rattle.std.specs.Prelude.{⊤}
-pub use Rattle.w2c_base.proofs.Lists.{all_behind, all_front, all_set, all_weaker, still_all, unseen}
+pub use Rattle.w2c_base.proofs.Lists.{all_behind, all_front, all_set, all_weaker, get_mapped, still_all, unseen}
 pub use Rattle.w2c_base.proofs.OfEach.{all_at, all_push}
 pub use Rattle.w2c_base.proofs.Places.{get_within, set_same, set_there}
 pub use Rattle.w2c_base.specs.Lookup.{if_found, named, numbered, with_named}

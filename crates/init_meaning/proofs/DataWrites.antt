@@ -3,7 +3,7 @@ use Rattle.init_meaning.proofs.Common.{put_at, element, all_behind, ◌≡◌, �
 use Rattle.init_meaning.proofs.Common.{List, [], ◌∷◌, ◌++◌, map, length, take, drop, if◌then◌else◌, nat_lt, nat_le, slice_get, slice_set}
 use Rattle.init_meaning.proofs.Common.{Some, None, codes, zip, flat_map, sym, refl, ap, ◌∙◌, subst, inl, inr, slice_get_within}
 use Rattle.init_meaning.proofs.Common.{append_assoc, arith, length-set, or_right, AllByRecursion, list_any, range_with_len, all_at, named}
-use Rattle.init_meaning.proofs.Common.{numbered, with_named, Trail, Value, I32, I64, Code, ElementEntry, SegmentEntry, Module, LinkedSet}
+use Rattle.init_meaning.proofs.Common.{numbered, with_named, Trail, I32, I64, Code, ElementEntry, SegmentEntry, Module, LinkedSet}
 use Rattle.init_meaning.proofs.Common.{NamedModule, memory_at, Task, WriteByte, do_task, done, named-with_named, array_named, truth, Gives}
 use Rattle.init_meaning.proofs.Common.{put, with_content, Reaches, after_label, sides, all_set, memory_object, together_memory}
 use Rattle.init_meaning.proofs.Common.{MemoryAgrees, label_name, memory_arg, byte_name, data_name, has_bytes, loop_label, n64, place_expr}
@@ -119,9 +119,8 @@ next_fits i less = omega (arith, less)
 
 byte_written : (s : LinkedSet) (g : Seat) (m : NamedModule) (elements : List ElementEntry) (segments : List SegmentEntry) (k : ℕ)
     (d : SegmentEntry) (i b n j : ℕ) (start rest : List c.Stmt) (mach : state.Machine) (made : store.Store) (trail : Trail)
-    (first_vars vars : state.Vars)
-    → Surroundings s g m → IsWritten g m elements segments k d → slice_get d.bytes i ≡ Some b → i < length d.bytes
-    → First g m k d n j start rest mach first_vars vars → InLoop s g m elements segments i mach made trail vars
+    (first_vars vars : state.Vars) → Surroundings s g m → IsWritten g m elements segments k d → slice_get d.bytes i ≡ Some b
+    → i < length d.bytes → First g m k d n j start rest mach first_vars vars → InLoop s g m elements segments i mach made trail vars
     → ByteWritten s g m elements segments k d i b n j start rest mach made trail first_vars
 byte_written s g m elements segments k d i b n j start rest mach made trail first_vars vars a w b_is less first here = record {
   machine = after;
@@ -129,13 +128,10 @@ byte_written s g m elements segments k d i b n j start rest mach made trail firs
   locals = vars';
   does = λ n. rw (owner_is, found.memory_is, offset.is) refl;
   next = record {
-    tested = with_local s g m elements segments byte_name (i + 1) after
-        (store.with_memory made o.owner new) trail vars byte_wide still;
-    byte_is = named-with_named byte_name (state.Number (I64 (i + 1))) vars
-        (held_there byte_name vars (state.Number (I64 0)) byte_wide);
+    tested = with_local s g m elements segments byte_name (i + 1) after (store.with_memory made o.owner new) trail vars byte_wide still;
+    byte_is = named-with_named byte_name (state.Number (I64 (i + 1))) vars (held_there byte_name vars (state.Number (I64 0)) byte_wide);
   };
-  way = joined
-      (first after values gets (puts_byte mach (memory_object o.owner) found.other place b found.other_is is_within within small))
+  way = joined (first after values gets (puts_byte mach (memory_object o.owner) found.other place b found.other_is is_within within small))
       (set_local_goes g after byte_name (c.Value next_byte) (state.Number (I64 (i + 1)))
       (c.If op.Lt (c.Name byte_name) (n64 n) (label_name (loop_label k)) ∷ rest) vars refl byte_wide number_gets);
 }
@@ -230,9 +226,8 @@ byte_at : (i b : ℕ) (bytes : List ℕ) → slice_get bytes (i + 0) ≡ Some b 
 byte_at i b bytes is = let e : i ≡ i + 0 = omega arith in ap (slice_get bytes) e ∙ is
 
 turn_test : (s : LinkedSet) (g : Seat) (m : NamedModule) (elements : List ElementEntry) (segments : List SegmentEntry) (i n : ℕ) (t : Bool)
-    (mach : state.Machine) (made : store.Store) (trail : Trail) (vars : state.Vars)
-    → InLoop s g m elements segments i mach made trail vars → nat_lt i n ≡ t
-    → Evaluates g mach vars (c.Op op.Lt (c.Name byte_name) (n64 n)) (I32 (if t then 1 else 0))
+    (mach : state.Machine) (made : store.Store) (trail : Trail) (vars : state.Vars) → InLoop s g m elements segments i mach made trail vars
+    → nat_lt i n ≡ t → Evaluates g mach vars (c.Op op.Lt (c.Name byte_name) (n64 n)) (I32 (if t then 1 else 0))
 turn_test s g m elements segments i n t mach made trail vars here is =
     operates g mach vars op.Lt (c.Name byte_name) (n64 n) (I64 i) (I64 n) (I32 (if t then 1 else 0))
     (local_evaluates g mach vars byte_name (I64 i) refl here.byte_is) (λ rest. refl) (ap truth is)
@@ -254,15 +249,13 @@ module _ (s : LinkedSet) (g : Seat) (m : NamedModule) (elements : List ElementEn
         (put 1 type.I32) gets refl gives,
   )
 
-  enters_first : (n : ℕ) → list_any has_bytes m.tree.segments ≡ true
-      → Enters (AreTested s g m elements segments) n 0 2
+  enters_first : (n : ℕ) → list_any has_bytes m.tree.segments ≡ true → Enters (AreTested s g m elements segments) n 0 2
       (c.Set byte_name (c.Value (n64 0)) ∷ c.Label (label_name (loop_label k)) ∷ loop m.tree k d.offset n rest)
   enters_first n used mach made trail vars here = (
     with_named byte_name (state.Number (I64 0)) vars,
     record {
       tested = with_local s g m elements segments byte_name 0 mach made trail vars wide here;
-      byte_is = named-with_named byte_name (state.Number (I64 0)) vars
-          (held_there byte_name vars (state.Number (I64 0)) wide);
+      byte_is = named-with_named byte_name (state.Number (I64 0)) vars (held_there byte_name vars (state.Number (I64 0)) wide);
     },
     λ after values gets gives. joined
         (set_local_goes g mach byte_name (c.Value (n64 0)) (state.Number (I64 0)) labelled vars refl wide (λ rest. refl))
@@ -329,8 +322,7 @@ module _ (s : LinkedSet) (g : Seat) (m : NamedModule) (elements : List ElementEn
   bytes_from : (from : Stage) (spare n i b j : ℕ) (bytes : List ℕ) (start : List c.Stmt) (tasks : List Task) → j ≤ 2
       → Surroundings s g m → IsWritten g m elements segments k d
       → n ≡ i + suc (length bytes) → ((j : ℕ) → slice_get (b ∷ bytes) j ≡ slice_get d.bytes (i + j))
-      → Enters from n i j start → LoopIsFound n
-      → FollowsTasks s g (spare + 2) (AreTested s g m elements segments) rest tasks
+      → Enters from n i j start → LoopIsFound n → FollowsTasks s g (spare + 2) (AreTested s g m elements segments) rest tasks
       → FollowsTasks s g spare from start
       (map (λ (b : ℕ × ℕ). WriteByte d b.0 b.1) (zip (range_with_len i (suc (length bytes))) (b ∷ bytes)) ++ tasks)
   bytes_from from spare n i b j [] start tasks few a w end same enters found behind =
@@ -340,8 +332,7 @@ module _ (s : LinkedSet) (g : Seat) (m : NamedModule) (elements : List ElementEn
       and_others refl (byte_follows true from i b n j start few a w (byte_at i b d.bytes (sym (same 0)))
       (below_is_found (i + 1) n (omega (arith, end))) enters found)
       (bytes_from (InLoop s g m elements segments (i + 1)) (spare + 2) n (i + 1) x 1 bytes (loop m.tree k d.offset n rest) tasks
-      (omega arith) a w (omega (arith, end))
-      (λ j. let e : i + suc j ≡ i + 1 + j = omega arith in same (suc j) ∙ ap (slice_get d.bytes) e)
+      (omega arith) a w (omega (arith, end)) (λ j. let e : i + suc j ≡ i + 1 + j = omega arith in same (suc j) ∙ ap (slice_get d.bytes) e)
       (enters_loop n (i + 1)) found (more_spare (omega arith) behind))
 
 -- ---- all segments
@@ -368,8 +359,7 @@ module _ (s : LinkedSet) (g : Seat) (m : NamedModule) (a : Surroundings s g m) w
   segment_written : (spare k : ℕ) (front : List SegmentEntry) (d : SegmentEntry) (behind : List SegmentEntry) (b : ℕ) (bytes : List ℕ)
       (rest : List c.Stmt) (tasks : List Task) → d.bytes ≡ b ∷ bytes → m.tree.segments ≡ front ++ d ∷ behind → k ≡ length front
       → DataIsValid m.tree d → IsPlaced g.stmts (write_bytes m.tree k d.offset (b ∷ bytes)) rest
-      → FollowsTasks s g (spare + 2) stage rest tasks
-      → FollowsTasks s g spare stage (write_bytes m.tree k d.offset (b ∷ bytes) ++ rest)
+      → FollowsTasks s g (spare + 2) stage rest tasks → FollowsTasks s g spare stage (write_bytes m.tree k d.offset (b ∷ bytes) ++ rest)
       (map (λ (b : ℕ × ℕ). WriteByte d b.0 b.1) (numbered (b ∷ bytes)) ++ tasks)
   segment_written spare k front d behind b bytes rest tasks is whole at valid placed follows =
       let size : length d.bytes ≡ suc (length bytes) = ap length is in
@@ -393,8 +383,7 @@ module _ (s : LinkedSet) (g : Seat) (m : NamedModule) (a : Surroundings s g m) w
   -- Of segments that stand among others. Where one of them has bytes, they leave two statements to spare.
   pub writes_of_data : (spare k : ℕ) (front ds more : List SegmentEntry) (rest : List c.Stmt) (tasks : List Task)
       → m.tree.segments ≡ front ++ (ds ++ more) → k ≡ length front → AllByRecursion (DataIsValid m.tree) ds
-      → IsPlaced g.stmts (stmts_from k ds) rest
-      → FollowsTasks s g (gained (list_any has_bytes ds) spare) stage rest tasks
+      → IsPlaced g.stmts (stmts_from k ds) rest → FollowsTasks s g (gained (list_any has_bytes ds) spare) stage rest tasks
       → FollowsTasks s g spare stage (stmts_from k ds ++ rest) (tasks_of ds ++ tasks)
   writes_of_data spare k front [] more rest tasks whole at valid placed follows = follows
   writes_of_data spare k front (d ∷ ds) more rest tasks whole at valid placed follows =
@@ -425,7 +414,6 @@ no_tasks [] none = refl
 no_tasks (d ∷ ds) none = by d.bytes none (no_tasks ds)
   where
     by : (bytes : List ℕ) → (elim bytes [ [] ↦ false | b ∷ rest ↦ true ]) || list_any has_bytes ds ≡ false
-        → (list_any has_bytes ds ≡ false → tasks_of ds ≡ [])
-        → map (λ (b : ℕ × ℕ). WriteByte d b.0 b.1) (numbered bytes) ++ tasks_of ds ≡ []
+        → (list_any has_bytes ds ≡ false → tasks_of ds ≡ []) → map (λ (b : ℕ × ℕ). WriteByte d b.0 b.1) (numbered bytes) ++ tasks_of ds ≡ []
     by [] none others = others none
     by (b ∷ bytes) none others = absurd cc

@@ -94,8 +94,7 @@ seen_of : {A : Type 0} (made : store.Store) (owner : ℕ) (f : store.Objects →
 seen_of made owner f a o e is = sym (ap (λ found. if_found found f) is) ∙ e
 
 pub objects_of : {A : Type 0} (made : store.Store) (owner : ℕ) (f : store.Objects → Option A) (a : A)
-    → if_found (slice_get made owner) f ≡ Some a
-    → (o : store.Objects) × (slice_get made owner ≡ Some o)
+    → if_found (slice_get made owner) f ≡ Some a → (o : store.Objects) × (slice_get made owner ≡ Some o)
 objects_of {A} made owner f a e = go (slice_get made owner) e
   where
     go : (found : Option store.Objects) → if_found found f ≡ Some a → (o : store.Objects) × (found ≡ Some o)
@@ -103,8 +102,7 @@ objects_of {A} made owner f a e = go (slice_get made owner) e
     go (Some o) e = (o, refl)
 
 pub table_keeps_sizes : (made : store.Store) (owner : ℕ) (old new : store.Table) → store.table_in made owner ≡ Some old
-    → length new.elements ≡ length old.elements
-    → SameSizes made (store.with_table made owner new)
+    → length new.elements ≡ length old.elements → SameSizes made (store.with_table made owner new)
 table_keeps_sizes made owner old new is same = record {
   tables = kept_by made owner change (λ (o : store.Objects). option_map (λ (t : store.Table). length t.elements) o.table)
       (λ o at. ap Some same ∙ sym (ap (option_map (λ (t : store.Table). length t.elements))
@@ -117,8 +115,7 @@ table_keeps_sizes made owner old new is same = record {
     change o = record { memory = o.memory; table = Some new; globals = o.globals }
 
 pub memory_keeps_sizes : (made : store.Store) (owner : ℕ) (old new : store.Memory) → store.memory_in made owner ≡ Some old
-    → length new.bytes ≡ length old.bytes
-    → SameSizes made (store.with_memory made owner new)
+    → length new.bytes ≡ length old.bytes → SameSizes made (store.with_memory made owner new)
 memory_keeps_sizes made owner old new is same = record {
   tables = kept_by made owner change (λ (o : store.Objects). option_map (λ (t : store.Table). length t.elements) o.table) (λ o at. refl);
   memories = kept_by made owner change (λ (o : store.Objects). option_map (λ (m : store.Memory). length m.bytes) o.memory)
@@ -224,10 +221,7 @@ write_of_element s g m elements segments e number func rest a valid less there a
     other = with_element found.other place (record { func = r.address; signature = signed })
 
     element : ElementAgrees g.program s r.function (record { func = r.address; signature = signed })
-    element = record {
-      same = record { function = r.stands.alike; ty = r.ty; ty_is = r.typed; signature = signed_is };
-      stands = r.stands;
-    }
+    element = record { same = record { function = r.stands.alike; ty = r.ty; ty_is = r.typed; signature = signed_is }; stands = r.stands }
 
     agree : TableAgrees g.program s new other
     agree = record {

@@ -1,8 +1,8 @@
 -- The type of what a variable holds, as the zero of that type. An assignment of a value of this type goes on, and
 -- keeps the types of all variables (C11, 6.5.16.1).
-use Rattle.init_meaning.proofs.Common.{◌≡◌, Bool, true, false, [], ◌∷◌, is_some, if◌then◌else◌, Some, None, Option, option_map, bytes_eq}
-use Rattle.init_meaning.proofs.Common.{sym, refl, ap, ◌∙◌, same_Some, named, with_named, I32, I64, var_in, CValue, Machine, Number}
-use Rattle.init_meaning.proofs.Common.{ObjectAddress, Pointer, Vars, Step, put_in, zero_like, zeroed}
+use Rattle.init_meaning.proofs.Common.{◌≡◌, true, [], ◌∷◌, is_some, Some, None, Option, option_map, sym, refl, ap, ◌∙◌, arith, same_Some}
+use Rattle.init_meaning.proofs.Common.{named, with_named, I32, I64, var_in, CValue, Machine, Number, ObjectAddress, Pointer, Vars, Step}
+use Rattle.init_meaning.proofs.Common.{put_in, zero_like, zeroed}
 use Rattle.c_meaning.specs.State.{Name, FuncPointer, of_one_type}
 use Rattle.init_meaning.specs.Zeros.{held}
 
@@ -40,23 +40,12 @@ held_there name vars zero e = found_there zero_like (named name vars) zero e
 
 pub named_zeroed : (name : Name) (vars : Vars) → named name (zeroed vars) ≡ held name vars
 named_zeroed name [] = refl
-named_zeroed name (e ∷ vars) = go (bytes_eq e.0 name) (named_zeroed name vars)
-  where
-    go : (b : Bool) → named name (zeroed vars) ≡ held name vars
-        → (if b then Some (zero_like e.1) else named name (zeroed vars)) ≡ option_map zero_like (if b then Some e.1 else named name vars)
-    go true others = refl
-    go false others = others
+named_zeroed name (e ∷ vars) = grind (arith, named_zeroed name vars)
 
 pub zeroed_kept : (name : Name) (v : CValue) (vars : Vars) → held name vars ≡ Some (zero_like v)
     → zeroed (with_named name v vars) ≡ zeroed vars
 zeroed_kept name v [] h = refl
-zeroed_kept name v (e ∷ vars) h = go (bytes_eq e.0 name) h (zeroed_kept name v vars)
-  where
-    go : (b : Bool) → option_map zero_like (if b then Some e.1 else named name vars) ≡ Some (zero_like v)
-        → (held name vars ≡ Some (zero_like v) → zeroed (with_named name v vars) ≡ zeroed vars)
-        → zeroed (if b then (e.0, v) ∷ vars else e ∷ with_named name v vars) ≡ (e.0, zero_like e.1) ∷ zeroed vars
-    go true h others = ap (λ (zero : CValue). (e.0, zero) ∷ zeroed vars) (sym (same_Some (zero_like e.1) (zero_like v) h))
-    go false h others = ap (λ (others : Vars). (e.0, zero_like e.1) ∷ others) (others h)
+zeroed_kept name v (e ∷ vars) h = grind (arith, zeroed_kept name v vars)
 
 -- each variable holds a value of its type still
 pub held_kept : (name other : Name) (v : CValue) (vars : Vars) → held other vars ≡ Some (zero_like v)

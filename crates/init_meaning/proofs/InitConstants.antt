@@ -30,8 +30,7 @@ pattern_64 (negsuc a) = omega arith
 
 -- a global that is got
 got_found : (s : LinkedSet) (g : Seat) (tree : Module) (m : state.Machine) (made : store.Store) (vars : state.Vars)
-    (globals : List (ValType × Bool)) (ty : ValType) (place index : ℕ)
-    → ShapeFits ty (shape_of_global (slice_get globals index))
+    (globals : List (ValType × Bool)) (ty : ValType) (place index : ℕ) → ShapeFits ty (shape_of_global (slice_get globals index))
     → (slice_get globals index ≡ Some (ty, false) → GlobalFound s g tree m made vars index ty)
     → ConstantFound s g tree m made vars ty (then_code place (GlobalGet index) end_code)
 got_found s g tree m made vars globals ty place index fits found = go (slice_get globals index) refl fits
@@ -47,24 +46,13 @@ got_found s g tree m made vars globals ty place index fits found = go (slice_get
         by (found (is ∙ ap Some same))
 
 pub constant_found : (s : LinkedSet) (g : Seat) (tree : Module) (m : state.Machine) (made : store.Store) (vars : state.Vars)
-    (globals : List (ValType × Bool)) (ty : ValType) (code : Code)
-    → ShapeFits ty (shape_of globals code)
+    (globals : List (ValType × Bool)) (ty : ValType) (code : Code) → ShapeFits ty (shape_of globals code)
     → ((index : ℕ) → slice_get globals index ≡ Some (ty, false) → GlobalFound s g tree m made vars index ty)
     → ConstantFound s g tree m made vars ty code
-constant_found s g tree m made vars globals ty (then_code place (I32Const z) end_code) fits found = record {
-  value = I32 (pattern_of 32 z);
-  is = refl;
-  typed = fits;
-  is_number = pattern_32 z;
-  evaluates = λ rest. refl;
-}
-constant_found s g tree m made vars globals ty (then_code place (I64Const z) end_code) fits found = record {
-  value = I64 (pattern_of 64 z);
-  is = refl;
-  typed = fits;
-  is_number = pattern_64 z;
-  evaluates = λ rest. refl;
-}
+constant_found s g tree m made vars globals ty (then_code place (I32Const z) end_code) fits found =
+    record { value = I32 (pattern_of 32 z); is = refl; typed = fits; is_number = pattern_32 z; evaluates = λ rest. refl }
+constant_found s g tree m made vars globals ty (then_code place (I64Const z) end_code) fits found =
+    record { value = I64 (pattern_of 64 z); is = refl; typed = fits; is_number = pattern_64 z; evaluates = λ rest. refl }
 constant_found s g tree m made vars globals ty (then_code place (GlobalGet index) end_code) fits found =
     got_found s g tree m made vars globals ty place index fits (found index)
 constant_found s g tree m made vars globals ty _ fits found = absurd fits
@@ -84,12 +72,8 @@ offset_found s g tree m made vars code f = go f.value f.is f.typed f.is_number f
   where
     go : (v : Value) → constant_of s g.unit made code ≡ Some v → type_of v ≡ type.I32 → IsNumber v
         → Evaluates g m vars (constant_expr tree code) v → OffsetFound s g tree m made vars code
-    go (I32 n) is typed small evaluates = record {
-      offset = n;
-      is = ap (λ o. if_found o as_offset) is;
-      small = small;
-      evaluates = evaluates;
-    }
+    go (I32 n) is typed small evaluates =
+        record { offset = n; is = ap (λ o. if_found o as_offset) is; small = small; evaluates = evaluates }
     go (I64 n) is typed small evaluates = absurd cc
 
 -- a place in a segment
@@ -99,8 +83,7 @@ sum_fits o k p q = omega (arith, p, q)
 pub place_evaluates : (g : Seat) (tree : Module) (m : state.Machine) (vars : state.Vars) (code : Code) (number : c.Expr) (o k : ℕ)
     → Evaluates g m vars (constant_expr tree code) (I32 o) → Evaluates g m vars number (I64 k) → o < 2 ^ 32 → k < 2 ^ 32
     → Evaluates g m vars (place_expr tree code number) (I64 (o + k))
-place_evaluates g tree m vars code number o k left right small less rest =
-    rw (left rest, right rest, sum_fits o k small less) refl
+place_evaluates g tree m vars code number o k left right small less rest = rw (left rest, right rest, sum_fits o k small less) refl
 
 pub place_gets : (g : Seat) (tree : Module) (m : state.Machine) (vars : state.Vars) (code : Code) (number : c.Expr) (o k : ℕ)
     → Evaluates g m vars (constant_expr tree code) (I32 o) → Evaluates g m vars number (I64 k) → o < 2 ^ 32 → k < 2 ^ 32
@@ -115,8 +98,6 @@ pub value_gets : (g : Seat) (m : state.Machine) (vars : state.Vars) (e : c.Expr)
 value_gets g m vars (c.Name name) v is rest = go (value_of m (running g rest vars) name) (is rest)
   where
     go : (o : Option state.CValue) → number_in o ≡ state.Is v → state.found o ≡ state.Is (state.Number v)
-    go None e = absurd cc
     go (Some (state.Number w)) e = ap (λ x. state.then_evaluate x (λ (v : Value). state.Is (state.Number v))) e
-    go (Some (state.Pointer to)) e = absurd cc
-    go (Some (state.FuncPointer to)) e = absurd cc
+    go _ e = absurd cc
 value_gets g m vars e v is rest = ap (λ x. state.then_evaluate x (λ (v : Value). state.Is (state.Number v))) (is rest)

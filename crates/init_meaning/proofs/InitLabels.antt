@@ -34,8 +34,7 @@ joined (front ∷ fronts) rest = front ++ joined fronts rest
 placed_behind : (body : List c.Stmt) (fronts : List (List c.Stmt)) (rest : List c.Stmt) → IsPlaced body (joined fronts rest) []
     → IsPlaced body rest []
 placed_behind body [] rest placed = placed
-placed_behind body (front ∷ fronts) rest placed =
-    placed_behind body fronts rest (placed_back body front (joined fronts rest) [] placed)
+placed_behind body (front ∷ fronts) rest placed = placed_behind body fronts rest (placed_back body front (joined fronts rest) [] placed)
 
 abbrev takes : NamedModule → List c.Stmt
 takes m = c.Null ∷ takes_from m 0 (filter (λ i. not (is_func_import i)) m.tree.imports)
@@ -51,8 +50,7 @@ loops_placed m few =
     let body : List c.Stmt = whole_stmts m in
     placed_behind body (takes m ∷ tables m ∷ memories m ∷ map (make_global m.tree) (numbered m.tree.globals)
     ∷ flat_map (test_elements m.tree) m.tree.elements ∷ flat_map (test_data m.tree) m.tree.segments
-    ∷ flat_map (write_elements m.tree) m.tree.elements ∷ []) (stmts_writing m (traps m))
-    (placed body [] body [] (sym (append-nil body))
+    ∷ flat_map (write_elements m.tree) m.tree.elements ∷ []) (stmts_writing m (traps m)) (placed body [] body [] (sym (append-nil body))
     (labels_differ 0 (length m.tree.segments + 2) body (omega (arith, few)) (whole_within m)))
 
 pub data_placed : (m : NamedModule) → length m.tree.segments + 2 < 2 ^ 32
@@ -89,8 +87,7 @@ pub calling_limits_found : (m : NamedModule) (parts : ℕ) → tests_limits m.tr
 calling_limits_found m parts =
     let body : List c.Stmt = calling_stmts m parts in
     let trap : List c.Stmt = trap_if (tests_limits m.tree) limits_label (makers.trap ImportLimits) in
-    trap_found body (tests_limits m.tree) limits_label ImportLimits ([] ++ [])
-    (placed_front body trap [] []
+    trap_found body (tests_limits m.tree) limits_label ImportLimits ([] ++ []) (placed_front body trap [] []
     (placed_behind body (takes m ∷ tables m ∷ memories m ∷ map call_part (range_with_len 0 parts) ∷ start_stmts m m.tree.start ∷ [])
     (c.ReturnNone ∷ (trap ++ []))
     (placed body [] body [] (sym (append-nil body)) (labels_differ 0 2 body (omega arith) (calling_within m parts)))))

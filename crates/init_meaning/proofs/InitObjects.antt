@@ -5,13 +5,12 @@ use Rattle.wasm_meaning.specs.Store as store
 use Rattle.c_tree.specs.Tree as c
 use Rattle.c_meaning.specs.State as state
 use Rattle.c_meaning.specs.Machine as machine
-use Rattle.init_meaning.proofs.Common.{◌≡◌, ℕ, zero, suc, ◌+◌, ◌<◌, true, List, [], ◌∷◌, map, length, is_some, if◌then◌else◌, slice_get}
-use Rattle.init_meaning.proofs.Common.{Some, None, Option, sym, refl, ap, ◌∙◌, subst, none-some, same_Some, if_found, named, Trail}
-use Rattle.init_meaning.proofs.Common.{IsNumber, type_of, types_of, ValType, Value, imported_globals, GlobalEntry, Import, Module}
-use Rattle.init_meaning.proofs.Common.{GlobalAddress, LinkedSet, global_at, module_at, first_global, global_name, memory_name, table_name}
-use Rattle.init_meaning.proofs.Common.{global_imports, memory_imports, table_imports, is_there, value_of_type, global_object, global_seen}
-use Rattle.init_meaning.proofs.Common.{memory_object, table_object, Agrees, AreReady, PointersAreSet, PointsTo, pointer_name, global_value}
-use Rattle.init_meaning.proofs.Common.{memory_arg, table_arg}
+use Rattle.init_meaning.proofs.Common.{◌≡◌, ℕ, ◌+◌, ◌<◌, true, List, length, is_some, if◌then◌else◌, slice_get, Some, None, Option}
+use Rattle.init_meaning.proofs.Common.{sym, refl, ap, ◌∙◌, subst, same_Some, if_found, named, Trail, IsNumber, type_of, types_of, ValType}
+use Rattle.init_meaning.proofs.Common.{Value, imported_globals, GlobalEntry, Import, Module, GlobalAddress, LinkedSet, global_at, module_at}
+use Rattle.init_meaning.proofs.Common.{first_global, global_name, memory_name, table_name, global_imports, memory_imports, table_imports}
+use Rattle.init_meaning.proofs.Common.{is_there, value_of_type, global_object, global_seen, memory_object, table_object, Agrees, AreReady}
+use Rattle.init_meaning.proofs.Common.{PointersAreSet, PointsTo, pointer_name, global_value, get_mapped, memory_arg, table_arg}
 use Rattle.init_meaning.proofs.InitStatements.{Seat, Evaluates, Gets}
 use Rattle.init_meaning.specs.Owners.{TableOwner, MemoryOwner, GlobalOwner}
 
@@ -34,21 +33,14 @@ memory_there s count m made owner tree ready less is some =
     (t.0, ap (λ (found : Option store.Objects). if_found found (λ o. o.memory)) r.1 ∙ t.1)
 
 pub global_there : (s : LinkedSet) (count : ℕ) (m : state.Machine) (made : store.Store) (g : GlobalAddress) (tree : Module)
-    (entry : GlobalEntry)
-    → AreReady s count m made → g.owner < count → module_at s g.owner ≡ Some tree → slice_get tree.globals g.number ≡ Some entry
-    → (v : Value) × (store.global_in made g ≡ Some v) × (type_of v ≡ entry.ty)
+    (entry : GlobalEntry) → AreReady s count m made → g.owner < count → module_at s g.owner ≡ Some tree
+    → slice_get tree.globals g.number ≡ Some entry → (v : Value) × (store.global_in made g ≡ Some v) × (type_of v ≡ entry.ty)
 global_there s count m made g tree entry ready less is at =
     let r = ready.objects g.owner tree less is in
     let types : slice_get (types_of r.0.globals) g.number ≡ Some entry.ty =
-    ap (λ ts. slice_get ts g.number) r.2.globals ∙ mapped tree.globals g.number at in
+    ap (λ ts. slice_get ts g.number) r.2.globals ∙ get_mapped (λ (g : GlobalEntry). g.ty) tree.globals g.number entry at in
     let v = value_of_type r.0.globals g.number entry.ty types in
     (v.0, ap (λ (found : Option store.Objects). if_found found (λ o. slice_get o.globals g.number)) r.1 ∙ v.1, v.2)
-  where
-    mapped : (xs : List GlobalEntry) (n : ℕ) → slice_get xs n ≡ Some entry
-        → slice_get (map (λ (g : GlobalEntry). g.ty) xs) n ≡ Some entry.ty
-    mapped [] n e = absurd (none-some entry e)
-    mapped (x ∷ xs) zero e = ap (λ (g : GlobalEntry). Some g.ty) (same_Some x entry e)
-    mapped (x ∷ xs) (suc n) e = mapped xs n e
 
 -- ---- from C
 
@@ -74,22 +66,18 @@ object_gets g m vars imports name owner own points hidden object = go (slice_get
     go : (found : Option Import) → slice_get imports 0 ≡ found
         → Gets g m vars (if is_some found then c.Value (c.Name (pointer_name name)) else c.Address name)
         (state.Pointer (Some (record { unit = owner; name = name })))
-    go None is =
-        rw (own is) (address_gets g m vars name (rw (own is) at object))
+    go None is = rw (own is) (address_gets g m vars name (rw (own is) at object))
     go (Some i) is = pointer_gets g m vars name (record { unit = owner; name = name }) hidden (points i is)
 
 pub table_gets : (s : LinkedSet) (g : Seat) (tree : Module) (m : state.Machine) (vars : state.Vars) (o : TableOwner s g.unit tree)
-    (other : state.Table)
-    → ((object : state.Name) → named (pointer_name object) vars ≡ None) → PointersAreSet s g.unit tree m
-    → machine.table_in m (table_object o.owner) ≡ Some other
-    → Gets g m vars (table_arg tree) (state.Pointer (Some (table_object o.owner)))
+    (other : state.Table) → ((object : state.Name) → named (pointer_name object) vars ≡ None) → PointersAreSet s g.unit tree m
+    → machine.table_in m (table_object o.owner) ≡ Some other → Gets g m vars (table_arg tree) (state.Pointer (Some (table_object o.owner)))
 table_gets s g tree m vars o other seen set there = object_gets g m vars (table_imports tree) table_name o.owner o.own
     (λ i is. let r = set.table i is in
     rw (same_Some r.0 o.owner (sym r.1 ∙ o.owner_is)) at r.2) (seen table_name) (table_is_object m (table_object o.owner) other there)
 
 pub memory_gets : (s : LinkedSet) (g : Seat) (tree : Module) (m : state.Machine) (vars : state.Vars) (o : MemoryOwner s g.unit tree)
-    (other : state.Memory)
-    → ((object : state.Name) → named (pointer_name object) vars ≡ None) → PointersAreSet s g.unit tree m
+    (other : state.Memory) → ((object : state.Name) → named (pointer_name object) vars ≡ None) → PointersAreSet s g.unit tree m
     → machine.memory_in m (memory_object o.owner) ≡ Some other
     → Gets g m vars (memory_arg tree) (state.Pointer (Some (memory_object o.owner)))
 memory_gets s g tree m vars o other seen set there = object_gets g m vars (memory_imports tree) memory_name o.owner o.own
@@ -118,8 +106,7 @@ pub record GlobalFound (s : LinkedSet) (g : Seat) (tree : Module) (m : state.Mac
   pub evaluates : Evaluates g m vars (global_value tree index) value
 
 pub global_found : (s : LinkedSet) (g : Seat) (tree : Module) (m : state.Machine) (made : store.Store) (trail : Trail) (vars : state.Vars)
-    (index count : ℕ) (t : ValType)
-    → module_at s g.unit ≡ Some tree → (o : GlobalOwner s g.unit tree index t) → o.global.owner < count
+    (index count : ℕ) (t : ValType) → module_at s g.unit ≡ Some tree → (o : GlobalOwner s g.unit tree index t) → o.global.owner < count
     → Agrees g.program s m made trail → AreReady s count m made → PointersAreSet s g.unit tree m
     → ((object : state.Name) → named (pointer_name object) vars ≡ None) → ((k : ℕ) → named (global_name k) vars ≡ None)
     → GlobalFound s g tree m made vars index t

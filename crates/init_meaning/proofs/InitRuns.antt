@@ -20,8 +20,7 @@ pub record ComesBack (p : Program) (s : LinkedSet) (u : ℕ) (pending : Pending)
   pub paid : Paid spare n left statements
 
 abbrev pub Instantiates : LinkedSet → Seat → ℕ → Progress → ℕ → exec.Called → Type 0
-Instantiates s g spare from n (exec.Back left value made trail) =
-    ComesBack g.program s g.unit g.pending g.last spare from n left made trail
+Instantiates s g spare from n (exec.Back left value made trail) = ComesBack g.program s g.unit g.pending g.last spare from n left made trail
 Instantiates s g spare from n (exec.CallStops why made trail) = StopsAlike g.program s g.pending spare from n why made trail
 
 -- j statements lead to what pays for m steps, with some to spare
@@ -30,9 +29,8 @@ Covers spare others n m j = (n ≤ m + j) × (j + 400 * m + others ≤ 400 * n +
 
 -- behind statements that were run earlier
 pub ends_before : {p : Program} {s : LinkedSet} {pending : Pending} {spare others j n m : ℕ} {from to : Progress} {why : exec.Stop}
-    {made : store.Store} {trail : Trail}
-    → Reaches p j from to → Covers spare others n m j → EndsAlike p s pending others to m why made trail
-    → EndsAlike p s pending spare from n why made trail
+    {made : store.Store} {trail : Trail} → Reaches p j from to → Covers spare others n m j
+    → EndsAlike p s pending others to m why made trail → EndsAlike p s pending spare from n why made trail
 ends_before {j = j} way covers ends = record {
   machine = ends.machine;
   reason = ends.reason;
@@ -44,9 +42,8 @@ ends_before {j = j} way covers ends = record {
 }
 
 pub stops_before : (p : Program) (s : LinkedSet) (pending : Pending) (spare others j n m : ℕ) (from to : Progress) (why : exec.Stop)
-    (made : store.Store) (trail : Trail)
-    → Reaches p j from to → Covers spare others n m j → StopsAlike p s pending others to m why made trail
-    → StopsAlike p s pending spare from n why made trail
+    (made : store.Store) (trail : Trail) → Reaches p j from to → Covers spare others n m j
+    → StopsAlike p s pending others to m why made trail → StopsAlike p s pending spare from n why made trail
 stops_before p s pending spare others j n m from to exec.OutOfSteps made trail way covers h = record
     { to = h.to; goes = h.goes; statements = j + h.statements; way = joined way h.way; least = omega (arith, covers, h.least) }
 stops_before p s pending spare others j n m from to exec.Stuck made trail way covers h = h
@@ -122,8 +119,7 @@ more_spare {s} {g} {spare} {more} {stage} {rest} {tasks} le follows = record {
 
 -- A task with its statements, before others with theirs. It takes two statements less than it pays, which those behind it may spare.
 pub and_others : {s : LinkedSet} {g : Seat} {spare : ℕ} {from : Stage} {t : Task} {to : Stage} {stmts rest : List tree.Stmt}
-    {tasks : List Task}
-    → is_free t ≡ false → FollowsTask s g from t to stmts rest → FollowsTasks s g (spare + 2) to rest tasks
+    {tasks : List Task} → is_free t ≡ false → FollowsTask s g from t to stmts rest → FollowsTasks s g (spare + 2) to rest tasks
     → FollowsTasks s g spare from stmts (t ∷ tasks)
 and_others {s} {g} {spare} {from} {t} {to} {stmts} {rest} {tasks} costs one others = record { follow = follow }
   where
@@ -150,24 +146,17 @@ and_others {s} {g} {spare} {from} {t} {to} {stmts} {rest} {tasks} costs one othe
 
     steps : (n : ℕ) (made : store.Store) (trail : Trail) (m : state.Machine) (vars : state.Vars) → from m made trail vars
         → Follows m vars n (paid false n made trail (λ left. do_task s g.unit t left made trail))
-    steps zero made trail m vars here = record {
-      to = at g m stmts vars;
-      goes = tt;
-      statements = 0;
-      way = stays g.program (at g m stmts vars);
-      least = omega arith;
-    }
+    steps zero made trail m vars here =
+        record { to = at g m stmts vars; goes = tt; statements = 0; way = stays g.program (at g m stmts vars); least = omega arith }
     steps (suc k) made trail m vars here = goes k made trail m vars (one m made trail vars here)
 
     follow : (n : ℕ) (made : store.Store) (trail : Trail) (m : state.Machine) (vars : state.Vars) → from m made trail vars
         → Instantiates s g spare (at g m stmts vars) n (do_tasks s g.unit (t ∷ tasks) n made trail)
-    follow n made trail m vars here =
-        rw costs (steps n made trail m vars here)
+    follow n made trail m vars here = rw costs (steps n made trail m vars here)
 
 -- a task with its statements, where nothing more is spared
 pub and_just : {s : LinkedSet} {g : Seat} {spare : ℕ} {from : Stage} {t : Task} {to : Stage} {stmts rest : List tree.Stmt}
-    {tasks : List Task}
-    → is_free t ≡ false → FollowsTask s g from t to stmts rest → FollowsTasks s g spare to rest tasks
+    {tasks : List Task} → is_free t ≡ false → FollowsTask s g from t to stmts rest → FollowsTasks s g spare to rest tasks
     → FollowsTasks s g spare from stmts (t ∷ tasks)
 and_just costs one others = and_others costs one (more_spare (omega arith) others)
 

@@ -23,8 +23,7 @@ pub record Seat : Type 0 where
 
 -- an init function gives nothing
 abbrev pub running : Seat → List tree.Stmt → Vars → Running
-running g rest vars =
-    record { unit = g.unit; item = g.item; result = Void; stmts = g.stmts; rest = rest; vars = vars }
+running g rest vars = record { unit = g.unit; item = g.item; result = Void; stmts = g.stmts; rest = rest; vars = vars }
 
 abbrev pub state_at : Seat → Machine → List tree.Stmt → Vars → State
 state_at g m rest vars = record { machine = m; running = running g rest vars; below = g.below }
@@ -69,8 +68,7 @@ assigns_local g m name v rest vars apart there =
     (put_where_held m (named name vars) v (Next (state_at g m rest (with_named name v vars))) there)
 
 assigns_global : (g : Seat) (m : Machine) (name : Name) (v : CValue) (rest : List tree.Stmt) (vars : Vars)
-    → bytes_eq name depth_name ≡ false → named name vars ≡ None
-    → held_in m (record { unit = g.unit; name = name }) ≡ Some (zero_like v)
+    → bytes_eq name depth_name ≡ false → named name vars ≡ None → held_in m (record { unit = g.unit; name = name }) ≡ Some (zero_like v)
     → assign m (running g rest vars) name v g.below ≡ Next (state_at g (with_var m (record { unit = g.unit; name = name }) v) rest vars)
 assigns_global g m name v rest vars apart none there =
     rw (apart, none) (put_where_held m (var_in m (record { unit = g.unit; name = name })) v
@@ -83,8 +81,7 @@ set_local_goes g m name a v rest vars apart there gets =
     comes_to g m _ vars _ (rw (gets (tree.Set name a ∷ rest)) (assigns_local g m name v rest vars apart there))
 
 pub set_global_goes : (g : Seat) (m : Machine) (name : Name) (a : tree.Arg) (v : CValue) (rest : List tree.Stmt) (vars : Vars)
-    → bytes_eq name depth_name ≡ false → named name vars ≡ None
-    → held_in m (record { unit = g.unit; name = name }) ≡ Some (zero_like v)
+    → bytes_eq name depth_name ≡ false → named name vars ≡ None → held_in m (record { unit = g.unit; name = name }) ≡ Some (zero_like v)
     → Gets g m vars a v
     → Reaches g.program 1 (at g m (tree.Set name a ∷ rest) vars) (at g (with_var m (record { unit = g.unit; name = name }) v) rest vars)
 set_global_goes g m name a v rest vars apart none there gets =
@@ -112,9 +109,8 @@ effect_behind_label g m after label name args rest vars values does gets is give
     comes_to g m _ vars _ (rw (gets (tree.Label label ∷ tree.Call None (tree.Called name) args ∷ rest), is, gives) refl)
 
 pub value_goes : (g : Seat) (m : Machine) (target name : Name) (args : List tree.Arg) (v : CValue) (rest : List tree.Stmt) (vars : Vars)
-    (values : List CValue) (does : List CValue → Machine → Effect)
-    → GetsAll g m vars args values → primitive name ≡ Some does → does values m ≡ Gives m (Some v)
-    → bytes_eq target depth_name ≡ false → held target vars ≡ Some (zero_like v)
+    (values : List CValue) (does : List CValue → Machine → Effect) → GetsAll g m vars args values → primitive name ≡ Some does
+    → does values m ≡ Gives m (Some v) → bytes_eq target depth_name ≡ false → held target vars ≡ Some (zero_like v)
     → Reaches g.program 1 (at g m (tree.Call (Some target) (tree.Called name) args ∷ rest) vars) (at g m rest (with_named target v vars))
 value_goes g m target name args v rest vars values does gets is gives apart there =
     comes_to g m _ vars _ (rw (gets (tree.Call (Some target) (tree.Called name) args ∷ rest), is, gives)

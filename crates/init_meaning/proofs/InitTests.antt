@@ -1,8 +1,8 @@
 -- The local variables of an init function, and its tests of sizes.
-use Rattle.init_meaning.proofs.Common.{◌≡◌, ℕ, Bool, true, false, ◌||◌, List, [], ◌∷◌, if◌then◌else◌, Some, None, bytes_eq, refl, ◌∙◌}
-use Rattle.init_meaning.proofs.Common.{list_any, named, with_named, TrapKind, Value, I32, I64, Module, COp, named-with_named, operate}
-use Rattle.init_meaning.proofs.Common.{Effect, Gives, primitive, Reaches, Over, Stopped, over, after_label, depth_name, global_name}
-use Rattle.init_meaning.proofs.Common.{label_name, pointer_name, byte_name, has_bytes, size_name, tests_bounds, tests_limits}
+use Rattle.init_meaning.proofs.Common.{◌≡◌, ℕ, true, false, ◌||◌, List, [], ◌∷◌, Some, None, bytes_eq, refl, ◌∙◌, arith, list_any, named}
+use Rattle.init_meaning.proofs.Common.{with_named, TrapKind, Value, I32, I64, Module, COp, named-with_named, operate, Effect, Gives}
+use Rattle.init_meaning.proofs.Common.{primitive, Reaches, Over, Stopped, over, after_label, depth_name, global_name, label_name}
+use Rattle.init_meaning.proofs.Common.{pointer_name, byte_name, has_bytes, size_name, tests_bounds, tests_limits}
 use Rattle.c_tree.specs.Tree as c
 use Rattle.c_meaning.specs.State as state
 use Rattle.c_tree.specs.Makers as makers
@@ -26,15 +26,7 @@ pub record HasLocals (m : Module) (vars : state.Vars) : Type 0 where
 none_with_named : {A : Type 0} (name other : List ℕ) (new : A) (entries : List (List ℕ × A)) → named name entries ≡ None
     → named name (with_named other new entries) ≡ None
 none_with_named name other new [] none = refl
-none_with_named {A} name other new (e ∷ entries) none = go (none_with_named name other new entries) (bytes_eq e.0 other)
-    (bytes_eq e.0 name) refl
-  where
-    go : (named name entries ≡ None → named name (with_named other new entries) ≡ None) → (b d : Bool) → bytes_eq e.0 name ≡ d
-        → named name (if b then (e.0, new) ∷ entries else e ∷ with_named other new entries) ≡ None
-    go behind b true is =
-        let other : Some e.1 ≡ None = rw is at none in absurd cc
-    go behind true false is = rw is (rw is at none)
-    go behind false false is = rw is (behind (rw is at none))
+none_with_named name other new (e ∷ entries) none = grind (arith, none_with_named name other new entries)
 
 -- a number of 64 bits is set
 pub locals_kept : (m : Module) (name : state.Name) (n : ℕ) (vars : state.Vars) → IsWide name vars → HasLocals m vars
@@ -85,8 +77,7 @@ asked_goes g m vars name a n rest asked =
     (λ rest. rw (asked.gets rest) refl) asked.is_primitive asked.gives refl asked.there
 
 pub passes : (g : Seat) (m : state.Machine) (vars : state.Vars) (name : state.Name) (a : c.Arg) (n : ℕ) (o : COp) (left right : c.Expr)
-    (label : state.Name) (rest : List c.Stmt)
-    → Asked g m vars name a n → Evaluates g m (with_size n vars) (c.Op o left right) (I32 0)
+    (label : state.Name) (rest : List c.Stmt) → Asked g m vars name a n → Evaluates g m (with_size n vars) (c.Op o left right) (I32 0)
     → Reaches g.program 2 (at g m (ask_and_test name a o left right label rest) vars) (at g m rest (with_size n vars))
 passes g m vars name a n o left right label rest asked is =
     joined (asked_goes g m vars name a n (c.If o left right label ∷ rest) asked)

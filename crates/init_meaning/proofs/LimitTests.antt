@@ -41,8 +41,7 @@ has_size : (m : Module) (vars : state.Vars) → tests_limits m ≡ true → HasL
 has_size m vars used locals = locals.size (ap (λ b. b || tests_bounds m) used)
 
 asks : (g : Seat) (m : Module) (mach : state.Machine) (vars : state.Vars) (object name : state.Name) (n : ℕ) → Measures g mach object name n
-    → tests_limits m ≡ true → HasLocals m vars
-    → Asked g mach vars name (c.Value (c.Name (pointer_name object))) n
+    → tests_limits m ≡ true → HasLocals m vars → Asked g mach vars name (c.Value (c.Name (pointer_name object))) n
 asks g m mach vars object name n measures used locals = record {
   does = measures.does;
   is_primitive = measures.is_primitive;
@@ -107,9 +106,8 @@ not_tested g m mach rest vars locals =
     record { locals = vars; has = locals; statements = 0; few = omega arith; way = stays g.program (at g mach rest vars) }
 
 min_tested : (g : Seat) (m : Module) (mach : state.Machine) (object name : state.Name) (n unit size min : ℕ) (rest : List c.Stmt)
-    (vars : state.Vars)
-    → Measures g mach object name n → (unit == 0) ≡ false → n / unit ≡ size → (nat_lt 0 min ≡ true → CanTest g m) → HasLocals m vars
-    → Tested g m (nat_le min size) (test_min object name unit min ++ rest) rest 2 mach vars
+    (vars : state.Vars) → Measures g mach object name n → (unit == 0) ≡ false → n / unit ≡ size → (nat_lt 0 min ≡ true → CanTest g m)
+    → HasLocals m vars → Tested g m (nat_le min size) (test_min object name unit min ++ rest) rest 2 mach vars
 min_tested g m mach object name n unit size zero rest vars measures some same can locals =
     inl (least size, not_tested g m mach rest vars locals)
 min_tested g m mach object name n unit size (suc min) rest vars measures some same can locals =
@@ -118,8 +116,7 @@ min_tested g m mach object name n unit size (suc min) rest vars measures some sa
     (λ b is. operates g mach (with_size n vars) op.Lt left (n64 (suc min)) (I64 size) (I64 (suc min)) (I32 (if b then 1 else 0))
     (operates g mach (with_size n vars) op.Div (c.Name size_name) (n64 unit) (I64 n) (I64 unit) (I64 size)
     (size_evaluates g mach vars n (has_size m vars k.0 locals)) (λ rest. refl)
-    (ap (λ b. if b then state.Bad 1 else state.Is (I64 (n / unit))) some ∙ ap (λ x. state.Is (I64 x)) same))
-    (λ rest. refl) (ap truth is))
+    (ap (λ b. if b then state.Bad 1 else state.Is (I64 (n / unit))) some ∙ ap (λ x. state.Is (I64 x)) same)) (λ rest. refl) (ap truth is))
   where
     left : c.Expr
     left = c.Op op.Div (c.Name size_name) (n64 unit)
@@ -135,8 +132,7 @@ max_tells (Some given) max low = elim (sides given max) [ inl h ↦ inl (h.0, h.
 max_tested : (g : Seat) (m : Module) (mach : state.Machine) (object name : state.Name) (given max : Option ℕ) (rest : List c.Stmt)
     (vars : state.Vars)
     → Measures g mach object name (max_number given) → ((k : ℕ) → max ≡ Some k → k < 4294967296) → (is_some max ≡ true → CanTest g m)
-    → HasLocals m vars
-    → Tested g m (max_fits given max) (test_max object name max ++ rest) rest 2 mach vars
+    → HasLocals m vars → Tested g m (max_fits given max) (test_max object name max ++ rest) rest 2 mach vars
 max_tested g m mach object name given None rest vars measures low can locals = inl (any given, not_tested g m mach rest vars locals)
   where
     any : (given : Option ℕ) → max_fits given None ≡ true
@@ -154,8 +150,7 @@ pub limits_tested : (g : Seat) (m : Module) (mach : state.Machine) (object len_o
     (limits : Limits) (rest : List c.Stmt) (vars : state.Vars)
     → Measures g mach object len_of n → Measures g mach object max_of (max_number given) → (unit == 0) ≡ false → n / unit ≡ size
     → ((k : ℕ) → limits.max ≡ Some k → k < 4294967296) → ((nat_lt 0 limits.min || is_some limits.max) ≡ true → CanTest g m)
-    → HasLocals m vars
-    → Tested g m (limits_fit size given limits) (test_limits object len_of max_of unit limits ++ rest) rest 4 mach vars
+    → HasLocals m vars → Tested g m (limits_fit size given limits) (test_limits object len_of max_of unit limits ++ rest) rest 4 mach vars
 limits_tested g m mach object len_of max_of n unit size given limits rest vars lens maxes some same low can locals =
     rw (append_assoc (test_min object len_of unit limits.min) (test_max object max_of limits.max) rest)
     (first (min_tested g m mach object len_of n unit size limits.min others vars lens some same
@@ -182,11 +177,7 @@ limits_tested g m mach object len_of max_of n unit size given limits rest vars l
     )
     second fits p (inr h) = inr (
       ap (λ b. b && max_fits given limits.max) fits ∙ h.0,
-      record {
-        statements = p.statements + h.1.statements;
-        few = omega (arith, p.few, h.1.few);
-        way = joined p.way h.1.way;
-      },
+      record { statements = p.statements + h.1.statements; few = omega (arith, p.few, h.1.few); way = joined p.way h.1.way },
     )
 
     first : Tested g m (nat_le limits.min size) stmts others 2 mach vars → Tested g m (limits_fit size given limits) stmts rest 4 mach vars

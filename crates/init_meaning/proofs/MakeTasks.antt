@@ -51,14 +51,8 @@ pub record HasOwn (p : Program) (s : LinkedSet) (u : ℕ) (m : NamedModule) (o :
 pub with_locals : {p : Program} {s : LinkedSet} {u : ℕ} {m : NamedModule} {o : store.Objects} {x : state.Objects} {mach : state.Machine}
     {made : store.Store} {trail : Trail} {vars others : state.Vars}
     → HasOwn p s u m o x mach made trail vars → HasLocals m.tree others → HasOwn p s u m o x mach made trail others
-with_locals own locals = record {
-  together = own.together;
-  locals = locals;
-  pointers = own.pointers;
-  o_is = own.o_is;
-  x_is = own.x_is;
-  declared = own.declared;
-}
+with_locals own locals =
+    record { together = own.together; locals = locals; pointers = own.pointers; o_is = own.o_is; x_is = own.x_is; declared = own.declared }
 
 abbrev pub MadeOrNew : Bool → Type 0 → Type 0 → Type 0
 MadeOrNew true made new = made
@@ -86,11 +80,9 @@ makes_table : (mach : state.Machine) (a : state.ObjectAddress) (n max : ℕ) →
 makes_table mach a n max there few = rw (there, tab_new, on_table) (rw (at_least 1000000 n few) refl)
 
 makes_memory : (mach : state.Machine) (a : state.ObjectAddress) (n max : ℕ) → machine.memory_in mach a ≡ Some machine.no_memory → n ≤ 16384
-    → max ≤ 4294967296
-    → mem_new (state.Pointer (Some a) ∷ state.Number (I32 n) ∷ state.Number (I64 max) ∷ []) mach
+    → max ≤ 4294967296 → mem_new (state.Pointer (Some a) ∷ state.Number (I32 n) ∷ state.Number (I64 max) ∷ []) mach
     ≡ Gives (machine.with_memory mach a (record { is_made = true; bytes = replicate (n * 65536) 0; max = max })) None
-makes_memory mach a n max there few low =
-    rw (there, mem_new, on_memory) (rw (at_least 16384 n few, at_least 4294967296 max low) refl)
+makes_memory mach a n max there few low = rw (there, mem_new, on_memory) (rw (at_least 16384 n few, at_least 4294967296 max low) refl)
 
 -- a variable gets its value, behind those that have theirs
 globals_push : (k j : ℕ) (globals : List Value) (v : Value) (vars : state.Vars) → j ≡ k + length globals → j < 2 ^ 64
@@ -103,8 +95,7 @@ globals_push k j [] v vars at few there alike =
     (subst (λ i. named (global_name i) (with_named (global_name j) (state.Number v) vars) ≡ Some (state.Number v)) same set, tt)
 globals_push k j (x ∷ globals) v vars at few there alike =
     let differ : global_name k ≢ global_name j = global_at_another_place k j (omega (arith, at, few)) few (omega (arith, at)) in (
-      named-with_another (global_name k) (global_name j) (state.Number v) vars differ
-          ∙ alike.0,
+      named-with_another (global_name k) (global_name j) (state.Number v) vars differ ∙ alike.0,
       globals_push (suc k) j globals v vars (omega (arith, at)) few there alike.1,
     )
 
@@ -143,8 +134,7 @@ module _ (s : LinkedSet) (g : Seat) (m : NamedModule) where
       locals = own.locals;
       pointers = pointers_kept s g.unit m.tree mach (with_unit mach g.unit x')
           (λ object. ap (λ (found : Option state.Objects). if_found found (λ o. named (pointer_name object) o.vars))
-          (set_there mach.units g.unit x x' own.x_is)
-          ∙ same object
+          (set_there mach.units g.unit x x' own.x_is) ∙ same object
           ∙ sym (ap (λ (found : Option state.Objects). if_found found (λ o. named (pointer_name object) o.vars)) own.x_is))
           own.pointers;
       o_is = set_there made g.unit o o' own.o_is;
@@ -172,13 +162,13 @@ module _ (s : LinkedSet) (g : Seat) (m : NamedModule) where
   table_follows : (l : Limits) (rest : List c.Stmt) → 0 < length m.tree.tables → l.min ≤ 1000000
       → FollowsTask s g (IsMaking s g m false false []) (MakeTable l) (IsMaking s g m true false []) (make_table l ∷ rest) rest
   table_follows l rest some few mach made trail vars here = inl (changes_own (MakeTable l) (IsMaking s g m true false [])
-      (make_table l ∷ rest) rest mach made trail vars here.o o' here.x x' here.own
+      (make_table l ∷ rest) rest mach made trail vars here.o (change here.o) here.x (changes here.x) here.own
       (record { memory = old.memory; table = tables; globals = old.globals; are_numbers = old.are_numbers })
       (λ table is. subst (λ (t : store.Table). AllByRecursion (IsCallableIfAny s g.unit) t.elements) (same_Some new table is)
       (all_replicate (IsCallableIfAny s g.unit) l.min None (λ some. tt)))
       (λ object. refl) here.own.declared (λ n. ap (λ x. done n x trail) (store_is made g.unit here.o change here.own.o_is))
-      (λ own. record { o = o'; x = x'; own = own; table = λ some. refl; memory = here.memory; types = here.types })
-      (new_goes mach (with_unit mach g.unit x') vars (codes "w2c_tab_new") table_name tab_new l rest
+      (λ own. record { o = change here.o; x = changes here.x; own = own; table = λ some. refl; memory = here.memory; types = here.types })
+      (new_goes mach (with_unit mach g.unit (changes here.x)) vars (codes "w2c_tab_new") table_name tab_new l rest
       (table_is_object mach (table_object g.unit) machine.no_table there) refl
       (makes_table mach (table_object g.unit) l.min (max_number l.max) there few
       ∙ ap (λ m. Gives m None) (machine_is mach g.unit here.x changes here.own.x_is))))
@@ -194,12 +184,6 @@ module _ (s : LinkedSet) (g : Seat) (m : NamedModule) where
 
       changes : state.Objects → state.Objects
       changes x = record { vars = x.vars; memories = x.memories; tables = with_named table_name other x.tables }
-
-      o' : store.Objects
-      o' = change here.o
-
-      x' : state.Objects
-      x' = changes here.x
 
       there : machine.table_in mach (table_object g.unit) ≡ Some machine.no_table
       there = ap (λ (found : Option state.Objects). if_found found (λ o. named table_name o.tables)) here.own.x_is ∙ here.table some
@@ -222,12 +206,12 @@ module _ (s : LinkedSet) (g : Seat) (m : NamedModule) where
   memory_follows : (l : Limits) (rest : List c.Stmt) → 0 < length m.tree.memories → l.min ≤ 16384 → max_number l.max ≤ 4294967296
       → FollowsTask s g (IsMaking s g m true false []) (MakeMemory l) (IsMaking s g m true true []) (make_memory l ∷ rest) rest
   memory_follows l rest some few low mach made trail vars here = inl (changes_own (MakeMemory l) (IsMaking s g m true true [])
-      (make_memory l ∷ rest) rest mach made trail vars here.o o' here.x x' here.own
+      (make_memory l ∷ rest) rest mach made trail vars here.o (change here.o) here.x (changes here.x) here.own
       (record { memory = memories; table = old.table; globals = old.globals; are_numbers = old.are_numbers })
       (table_callable here.o here.x mach made trail vars here.own)
       (λ object. refl) here.own.declared (λ n. ap (λ x. done n x trail) (store_is made g.unit here.o change here.own.o_is))
-      (λ own. record { o = o'; x = x'; own = own; table = here.table; memory = λ some. refl; types = here.types })
-      (new_goes mach (with_unit mach g.unit x') vars (codes "w2c_mem_new") memory_name mem_new l rest
+      (λ own. record { o = change here.o; x = changes here.x; own = own; table = here.table; memory = λ some. refl; types = here.types })
+      (new_goes mach (with_unit mach g.unit (changes here.x)) vars (codes "w2c_mem_new") memory_name mem_new l rest
       (memory_is_object mach (memory_object g.unit) machine.no_memory there) refl
       (makes_memory mach (memory_object g.unit) l.min (max_number l.max) there few low
       ∙ ap (λ m. Gives m None) (machine_is mach g.unit here.x changes here.own.x_is))))
@@ -244,12 +228,6 @@ module _ (s : LinkedSet) (g : Seat) (m : NamedModule) where
       changes : state.Objects → state.Objects
       changes x = record { vars = x.vars; memories = with_named memory_name other x.memories; tables = x.tables }
 
-      o' : store.Objects
-      o' = change here.o
-
-      x' : state.Objects
-      x' = changes here.x
-
       there : machine.memory_in mach (memory_object g.unit) ≡ Some machine.no_memory
       there = ap (λ (found : Option state.Objects). if_found found (λ o. named memory_name o.memories)) here.own.x_is ∙ here.memory some
 
@@ -257,8 +235,7 @@ module _ (s : LinkedSet) (g : Seat) (m : NamedModule) where
       old = objects_agree here.o here.x mach made trail vars here.own
 
       memories : MemoriesAgree (Some new) (named memory_name (with_named memory_name other here.x.memories))
-      memories = subst (MemoriesAgree (Some new))
-          (sym (named-with_named memory_name other here.x.memories (ap is_some (here.memory some))))
+      memories = subst (MemoriesAgree (Some new)) (sym (named-with_named memory_name other here.x.memories (ap is_some (here.memory some))))
           (record {
             made = refl;
             bytes = refl;
@@ -276,7 +253,7 @@ module _ (s : LinkedSet) (g : Seat) (m : NamedModule) where
       (make_global m.tree (k, e) ∷ rest) rest
   global_follows front k e rest a at is fits mach made trail vars here =
       inl (changes_own (MakeGlobal e.ty e.code) (IsMaking s g m true true (front ++ e ∷ []))
-      (make_global m.tree (k, e) ∷ rest) rest mach made trail vars here.o o' here.x x' here.own agree
+      (make_global m.tree (k, e) ∷ rest) rest mach made trail vars here.o (change here.o) here.x (changes here.x) here.own agree
       (table_callable here.o here.x mach made trail vars here.own)
       (λ object. named-with_another (pointer_name object) (global_name j) (state.Number found.value) here.x.vars
       (λ e. global_is_no_pointer j object (sym e)))
@@ -285,13 +262,11 @@ module _ (s : LinkedSet) (g : Seat) (m : NamedModule) where
       (λ n. ap (λ v. with_found v made trail (λ v. done n
       (store.with_objects made g.unit (λ o. record { memory = o.memory; table = o.table; globals = o.globals ++ v ∷ [] })) trail)) first_is
       ∙ ap (λ x. done n x trail) (store_is made g.unit here.o change here.own.o_is))
-      (λ own. record { o = o'; x = x'; own = own; table = here.table; memory = here.memory; types = types })
+      (λ own. record { o = change here.o; x = changes here.x; own = own; table = here.table; memory = here.memory; types = types })
       (rw (machine_is mach g.unit here.x changes here.own.x_is) at (set_global_goes g mach (global_name j) (c.Value (constant_expr m.tree
-      e.code)) (state.Number found.value) rest vars refl
-      (here.own.locals.globals_seen j)
+      e.code)) (state.Number found.value) rest vars refl (here.own.locals.globals_seen j)
       (ap (λ (x : Option state.Objects). option_map zero_like (if_found x (λ o. named (global_name j) o.vars))) here.own.x_is
-      ∙ of_type_there)
-      (value_gets g mach vars (constant_expr m.tree e.code) found.value found.evaluates))))
+      ∙ of_type_there) (value_gets g mach vars (constant_expr m.tree e.code) found.value found.evaluates))))
     where
       j : ℕ
       j = imported_globals m.tree + k
@@ -319,13 +294,7 @@ module _ (s : LinkedSet) (g : Seat) (m : NamedModule) where
       changes : state.Objects → state.Objects
       changes x = record { vars = with_named (global_name j) (state.Number found.value) x.vars; memories = x.memories; tables = x.tables }
 
-      o' : store.Objects
-      o' = change here.o
-
-      x' : state.Objects
-      x' = changes here.x
-
-      types : types_of o'.globals ≡ map (λ (e : GlobalEntry). e.ty) (front ++ e ∷ [])
+      types : types_of (change here.o).globals ≡ map (λ (e : GlobalEntry). e.ty) (front ++ e ∷ [])
       types = types_push here.o.globals found.value ∙ ap (λ ts. ts ++ type_of found.value ∷ []) here.types
           ∙ ap (λ t. map (λ (e : GlobalEntry). e.ty) front ++ t ∷ []) found.typed ∙ sym (map_push (λ (e : GlobalEntry). e.ty) front e)
 
@@ -338,7 +307,7 @@ module _ (s : LinkedSet) (g : Seat) (m : NamedModule) where
           sym (types_many here.o.globals) ∙ ap length here.types ∙ length-map front (λ (e : GlobalEntry). e.ty) in
           omega (arith, size, first, at)
 
-      agree : ObjectsAgree g.program s g.unit o' x'
+      agree : ObjectsAgree g.program s g.unit (change here.o) (changes here.x)
       agree =
           let old : ObjectsAgree g.program s g.unit here.o here.x = objects_agree here.o here.x mach made trail vars here.own in
           record {
@@ -366,13 +335,11 @@ module _ (s : LinkedSet) (g : Seat) (m : NamedModule) where
 
   -- of a kind that a module defines once at most
   make_one : {spare : ℕ} {from to : Stage} {rest : List c.Stmt} {tasks : List Task} (P : LimitsEntry → Type 0) (task : Limits → Task)
-      (stmt : Limits → c.Stmt) (es : List LimitsEntry)
-      → ((l : Limits) → is_free (task l) ≡ false) → length es ≤ 1 → AllByRecursion P es
+      (stmt : Limits → c.Stmt) (es : List LimitsEntry) → ((l : Limits) → is_free (task l) ≡ false) → length es ≤ 1 → AllByRecursion P es
       → (length es ≡ 0 → (mach : state.Machine) (made : store.Store) (trail : Trail) (vars : state.Vars) → from mach made trail vars
       → to mach made trail vars)
       → ((t : LimitsEntry) → 0 < length es → P t → FollowsTask s g from (task t.limits) to (stmt t.limits ∷ rest) rest)
-      → FollowsTasks s g spare to rest tasks
-      → FollowsTasks s g spare from (map (λ (t : LimitsEntry). stmt t.limits) es ++ rest)
+      → FollowsTasks s g spare to rest tasks → FollowsTasks s g spare from (map (λ (t : LimitsEntry). stmt t.limits) es ++ rest)
       (map (λ (t : LimitsEntry). task t.limits) es ++ tasks)
   make_one P task stmt [] costs one fits none some behind = at_stage (none refl) behind
   make_one P task stmt (t ∷ []) costs one fits none some behind = and_just (costs t.limits) (some t (omega arith) fits.0) behind
@@ -382,12 +349,8 @@ module _ (s : LinkedSet) (g : Seat) (m : NamedModule) where
   pub making_is_filled : (mach : state.Machine) (made : store.Store) (trail : Trail) (vars : state.Vars)
       → Surroundings s g m → IsMaking s g m true true m.tree.globals mach made trail vars → IsFilled s g m mach made trail vars
   making_is_filled mach made trail vars a here = record {
-    together = more_ready g.program s g.unit m.tree mach made trail here.o (module_is s g.unit m a.module_is) here.own.o_is
-        (record {
-          memory = λ i less. here.memory (omega (arith, less));
-          table = λ i less. here.table (omega (arith, less));
-          globals = here.types;
-        })
+    together = more_ready g.program s g.unit m.tree mach made trail here.o (module_is s g.unit m a.module_is) here.own.o_is (record
+        { memory = λ i less. here.memory (omega (arith, less)); table = λ i less. here.table (omega (arith, less)); globals = here.types })
         here.own.pointers here.own.together;
     locals = here.own.locals;
   }
@@ -433,15 +396,8 @@ objects_follow s g m {spare} {rest} tasks a behind =
     })
     (λ t some few. table_follows s g m t.limits _ some few)
     (make_one s g m (λ (t : LimitsEntry). (t.limits.min ≤ 16384) × (max_number t.limits.max ≤ 4294967296)) MakeMemory make_memory
-    m.tree.memories (λ l. refl) a.instantiable.one_memory a.instantiable.memory_limits
-    (λ none mach made trail vars here. record {
-      o = here.o;
-      x = here.x;
-      own = here.own;
-      table = here.table;
-      memory = λ some. absurd (omega (arith, none, some));
-      types = here.types;
-    })
+    m.tree.memories (λ l. refl) a.instantiable.one_memory a.instantiable.memory_limits (λ none mach made trail vars here. record
+    { o = here.o; x = here.x; own = here.own; table = here.table; memory = λ some. absurd (omega (arith, none, some)); types = here.types })
     (λ t some few. memory_follows s g m t.limits rest some few.0 few.1)
     (subst (λ ts. FollowsTasks s g spare (IsMaking s g m true true []) rest (ts ++ tasks)) (numbered_tasks 0 m.tree.globals) behind))
 

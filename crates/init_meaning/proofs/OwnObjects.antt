@@ -17,8 +17,7 @@ set_others (z ∷ xs) (suc k) (suc j) y differ = set_others xs k j y (λ e. diff
 
 -- of the modules before it
 pub own_kept : (p : Program) (s : LinkedSet) (u : ℕ) (m : state.Machine) (made : store.Store) (trail : Trail) (o new : store.Objects)
-    (other : state.Objects)
-    → slice_get made u ≡ Some o → ObjectsAgree p s u new other
+    (other : state.Objects) → slice_get made u ≡ Some o → ObjectsAgree p s u new other
     → ((table : store.Table) → new.table ≡ Some table → AllByRecursion (IsCallableIfAny s u) table.elements)
     → Together p s u 0 m made trail → Together p s u 0 (with_unit m u other) (slice_set made u new) trail
 own_kept p s u m made trail o new other at agree callable t = record {
@@ -26,8 +25,7 @@ own_kept p s u m made trail o new other at agree callable t = record {
   ready = record {
     pointers = λ v tree less is. pointers_kept s v tree m (with_unit m u other)
         (λ object. ap (λ (found : Option state.Objects). if_found found (λ o. named (pointer_name object) o.vars))
-        (set_others m.units u v other (omega (arith, less))))
-        (t.ready.pointers v tree less is);
+        (set_others m.units u v other (omega (arith, less)))) (t.ready.pointers v tree less is);
     objects = λ v tree less is. let r = t.ready.objects v tree less is in (r.0, set_others made u v new (omega (arith, less)) ∙ r.1, r.2);
     elements = λ v. still_all (λ (table : store.Table). AllByRecursion (IsCallableIfAny s u) table.elements)
         (λ (o : store.Objects). o.table) made u v new callable (t.ready.elements v);
@@ -49,8 +47,7 @@ elements_more s count (None ∷ elements) all = (tt, elements_more s count eleme
 elements_more s count (Some f ∷ elements) all = (callable_more s count f all.0, elements_more s count elements all.1)
 
 pub more_ready : (p : Program) (s : LinkedSet) (u : ℕ) (tree : Module) (m : state.Machine) (made : store.Store) (trail : Trail)
-    (o : store.Objects)
-    → module_at s u ≡ Some tree → slice_get made u ≡ Some o → IsMade tree o → PointersAreSet s u tree m
+    (o : store.Objects) → module_at s u ≡ Some tree → slice_get made u ≡ Some o → IsMade tree o → PointersAreSet s u tree m
     → Together p s u 0 m made trail → Together p s (suc u) 0 m made trail
 more_ready p s u tree m made trail o tree_is at is_made set t = record {
   agrees = t.agrees;

@@ -34,16 +34,14 @@ module _ (s : LinkedSet) (g : Seat) (m : NamedModule) (a : Surroundings s g m) w
   of_rows : {A : Type 0} (whole : List A) (stage : List A → Seat → Stage) (part : List A → Part) (row : A → List c.Stmt) (task : A → Task)
       → ((front : List A) → Crosses m (stage front)) → ((xs : List A) → (part xs).stmts ≡ flat_map row xs)
       → ((xs : List A) (h : Seat) → h.stmts ≡ part_stmts (part xs) → Surroundings s h m
-      → AreRows s h whole (λ front. stage front h) row task)
-      → ArePieces s g m whole stage part task
+      → AreRows s h whole (λ front. stage front h) row task) → ArePieces s g m whole stage part task
   of_rows whole stage part row task crosses made rows = record {
     crosses = crosses;
     each = λ front x xs behind e item rest vars spare tasks follows.
         let stmts : List c.Stmt = part_stmts (part (x ∷ xs)) in
         let h : Seat = inside g item stmts rest vars in
         subst (λ made. FollowsTasks s h spare (stage front h) (made ++ part_end (part (x ∷ xs))) (map task (x ∷ xs) ++ tasks))
-        (sym (made (x ∷ xs)))
-        (rows_follow (rows (x ∷ xs) h refl (inside_around s g m item stmts rest vars a)) spare front (x ∷ xs) behind
+        (sym (made (x ∷ xs))) (rows_follow (rows (x ∷ xs) h refl (inside_around s g m item stmts rest vars a)) spare front (x ∷ xs) behind
         (part_end (part (x ∷ xs))) tasks e follows);
   }
 
@@ -78,8 +76,7 @@ module _ (s : LinkedSet) (g : Seat) (m : NamedModule) (a : Surroundings s g m) w
 
   -- the first of them is called, where it has bytes
   first_called : (spare k j : ℕ) (front ds more : List SegmentEntry) (ps : List (List (ℕ × SegmentEntry))) (rest : List c.Stmt)
-      (tasks : List Task)
-      → t.segments ≡ front ++ (ds ++ more) → j ≡ length front → AllByRecursion (DataIsValid t) ds
+      (tasks : List Task) → t.segments ≡ front ++ (ds ++ more) → j ≡ length front → AllByRecursion (DataIsValid t) ds
       → PartsAreDefined g.program g.unit t k (byte_parts (numbered_from j ds ∷ ps))
       → ((k : ℕ) → PartsAreDefined g.program g.unit t k (byte_parts ps)
       → FollowsTasks s g (suc spare) (tested_stage g) (calls k (byte_parts ps) ++ rest) tasks)
@@ -90,8 +87,7 @@ module _ (s : LinkedSet) (g : Seat) (m : NamedModule) (a : Surroundings s g m) w
           → PartsAreDefined g.program g.unit t k (byte_parts (numbered_from j ds ∷ ps))
           → ((k : ℕ) → PartsAreDefined g.program g.unit t k (byte_parts ps)
           → FollowsTasks s g (suc spare) (tested_stage g) (calls k (byte_parts ps) ++ rest) tasks)
-          → FollowsTasks s g (suc spare) (tested_stage g) (calls k (byte_parts (numbered_from j ds ∷ ps)) ++ rest)
-          (tasks_of ds ++ tasks)
+          → FollowsTasks s g (suc spare) (tested_stage g) (calls k (byte_parts (numbered_from j ds ∷ ps)) ++ rest) (tasks_of ds ++ tasks)
       by true is same =
           rw (same ∙ is) (λ defined others.
           part_called s g m spare k part tested_stage tested_stage (calls (k + 1) (byte_parts ps) ++ rest) (tasks_of ds) tasks
@@ -99,11 +95,9 @@ module _ (s : LinkedSet) (g : Seat) (m : NamedModule) (a : Surroundings s g m) w
           (λ item rest vars spare tasks follows.
           let h : Seat = inside g item (part_stmts part) rest vars in
           writes_of_data s h m (inside_around s g m item (part_stmts part) rest vars a) spare j front ds more (part_end part) tasks
-          whole at valid
-          (bytes_placed m j ds a.instantiable.few_segments
+          whole at valid (bytes_placed m j ds a.instantiable.few_segments
           (let n = ap length whole in let n' = length-append front (ds ++ more) in let n'' = length-append ds more in
-          omega (arith, n, n', n'', at)))
-          (rw is follows)) (others (k + 1) defined.1))
+          omega (arith, n, n', n'', at))) (rw is follows)) (others (k + 1) defined.1))
         where
           part : Part
           part = bytes_part t (numbered_from j ds)
@@ -125,15 +119,12 @@ module _ (s : LinkedSet) (g : Seat) (m : NamedModule) (a : Surroundings s g m) w
       let q : List SegmentEntry = drop 99 ds in
       let split : take 99 ds ++ q ≡ ds = take-append-drop 99 ds in
       let there : t.segments ≡ front ++ (p ++ q) = whole ∙ ap (λ ys. front ++ d ∷ ys) (sym split) in
-      let all : AllByRecursion (DataIsValid t) (p ++ q) =
-      subst (λ ys. AllByRecursion (DataIsValid t) (d ∷ ys)) (sym split) valid in
+      let all : AllByRecursion (DataIsValid t) (p ++ q) = subst (λ ys. AllByRecursion (DataIsValid t) (d ∷ ys)) (sym split) valid in
       let next : j + length p ≡ length (front ++ p) = let e = length-append front p in omega (arith, e, at) in
       subst (λ ps. FollowsTasks s g (suc spare) (tested_stage g) (calls k (byte_parts ps) ++ rest) (tasks_of (d ∷ ds) ++ tasks))
-      (sym (pieces_some_numbered j d ds))
-      (subst (λ ts. FollowsTasks s g (suc spare) (tested_stage g)
+      (sym (pieces_some_numbered j d ds)) (subst (λ ts. FollowsTasks s g (suc spare) (tested_stage g)
       (calls k (byte_parts (numbered_from j p ∷ pieces (numbered_from (j + length p) q))) ++ rest) ts)
-      (sym (append_assoc (tasks_of p) (tasks_of q) tasks)
-      ∙ ap (λ ts. ts ++ tasks)
+      (sym (append_assoc (tasks_of p) (tasks_of q) tasks) ∙ ap (λ ts. ts ++ tasks)
       (sym (flat_map-append (λ (d : SegmentEntry). map (λ (b : ℕ × ℕ). WriteByte d b.0 b.1) (numbered d.bytes)) p q)
       ∙ ap (λ ys. tasks_of (d ∷ ys)) split))
       (first_called spare k j front p q (pieces (numbered_from (j + length p) q)) rest (tasks_of q ++ tasks) there at

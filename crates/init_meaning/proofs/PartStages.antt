@@ -31,9 +31,6 @@ tested_crosses s m elements segments = record {
     elements_fit = h.elements_fit;
     data_fit = h.data_fit;
   };
-  leaves = λ g item stmts rest vars mach made trail inner known h. record {
-    filled = record { together = h.filled.together; locals = known };
-    elements_fit = h.elements_fit;
-    data_fit = h.data_fit;
-  };
+  leaves = λ g item stmts rest vars mach made trail inner known h. record
+      { filled = record { together = h.filled.together; locals = known }; elements_fit = h.elements_fit; data_fit = h.data_fit };
 }

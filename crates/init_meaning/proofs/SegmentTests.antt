@@ -20,8 +20,7 @@ use Rattle.c_init.proofs.NoFaults.{used_by_elements, used_by_segments}
 use Rattle.init_meaning.proofs.Entries.{some_there, there_at}
 use Rattle.init_meaning.proofs.InitRuns.{Stage, FollowsTask, IsDone, Traps, AreRows}
 use Rattle.init_meaning.proofs.InitConstants.{OffsetFound, place_evaluates}
-use Rattle.init_meaning.proofs.InitTests.{IsWide, locals_kept, Asked, ask_and_test, with_size, size_evaluates, operates}
-use Rattle.init_meaning.proofs.InitTests.{passes, fails}
+use Rattle.init_meaning.proofs.InitTests.{IsWide, locals_kept, Asked, ask_and_test, with_size, size_evaluates, operates, passes, fails}
 use Rattle.init_meaning.specs.Owners.{TableOwner, MemoryOwner}
 use Rattle.init_meaning.proofs.Surroundings.{Surroundings, CanTrap, IsFilled, TableFound, table_found, MemoryFound, memory_found, offset_of}
 use Rattle.init_meaning.proofs.Surroundings.{elements_length}
@@ -52,8 +51,7 @@ abbrev pub DataFits : LinkedSet → ℕ → store.Store → SegmentEntry → Typ
 DataFits s u made d = SegmentFits s u made (memory_at s u d.memory) (memory_size made) d.offset (length d.bytes)
 
 pub within_object : (s : LinkedSet) (u : ℕ) (made : store.Store) (at : Option ℕ) (size_of : ℕ → Option ℕ) (code : Code)
-    (count owner size offset number : ℕ)
-    → SegmentFits s u made at size_of code count → at ≡ Some owner → size_of owner ≡ Some size
+    (count owner size offset number : ℕ) → SegmentFits s u made at size_of code count → at ≡ Some owner → size_of owner ≡ Some size
     → if_found (constant_of s u made code) as_offset ≡ Some offset → number < count → offset + number < size
 within_object s u made at size_of code count owner size offset number f owner_is size_is offset_is less =
     let same_owner : f.owner ≡ owner = same_Some f.owner owner (sym f.owner_is ∙ owner_is) in
@@ -97,8 +95,7 @@ segment_tested : (s : LinkedSet) (g : Seat) (m : NamedModule) (t : Task) (stage 
     → Surroundings s g m → IsFilled s g m mach made trail vars → CanTrap g m.tree → tests_bounds m.tree ≡ true
     → ShapeFits type.I32 (shape_of (global_space m.tree) code) → count < 2 ^ 32
     → primitive name ≡ Some does → Gets g mach vars arg pointer → does (pointer ∷ []) mach ≡ gives mach (I64 size)
-    → at ≡ Some owner → size_of owner ≡ Some size
-    → ((offset n : ℕ) → if_found (constant_of s g.unit made code) as_offset ≡ Some offset
+    → at ≡ Some owner → size_of owner ≡ Some size → ((offset n : ℕ) → if_found (constant_of s g.unit made code) as_offset ≡ Some offset
     → do_task s g.unit t n made trail ≡ tested (nat_le (offset + count) size) SegmentOut n made trail)
     → (IsFilled s g m mach made trail (with_size size vars) → SegmentFits s g.unit made at size_of code count
     → stage mach made trail (with_size size vars))
@@ -132,9 +129,7 @@ segment_tested s g m t stage name arg does pointer code at size_of count owner s
     evaluates b is = operates g mach (with_size size vars) op.Gt end (c.Name size_name) (I64 (offset.offset + count)) (I64 size)
         (I32 (if b then 1 else 0))
         (place_evaluates g m.tree mach (with_size size vars) code (n64 count) offset.offset count offset.evaluates
-        (λ rest. refl) offset.small few)
-        (size_evaluates g mach vars size wide)
-        (ap truth is)
+        (λ rest. refl) offset.small few) (size_evaluates g mach vars size wide) (ap truth is)
 
     go : ((nat_le (offset.offset + count) size ≡ true) × (nat_lt size (offset.offset + count) ≡ false) × (offset.offset + count ≤ size))
         ⊎ ((nat_le (offset.offset + count) size ≡ false) × (nat_lt size (offset.offset + count) ≡ true) × (size < offset.offset + count))
@@ -170,8 +165,7 @@ segment_tested s g m t stage name arg does pointer code at size_of count owner s
     })
 
 test_of_elements : (s : LinkedSet) (g : Seat) (m : NamedModule) (front : List ElementEntry) (segments : List SegmentEntry)
-    (e : ElementEntry) (rest : List c.Stmt)
-    → Surroundings s g m → CanTrap g m.tree → ElementIsValid m.tree e → tests_bounds m.tree ≡ true
+    (e : ElementEntry) (rest : List c.Stmt) → Surroundings s g m → CanTrap g m.tree → ElementIsValid m.tree e → tests_bounds m.tree ≡ true
     → FollowsTask s g (AreTested s g m front segments) (TestElements e) (AreTested s g m (front ++ e ∷ []) segments)
     (test_elements m.tree e ++ rest) rest
 test_of_elements s g m front segments e rest a trap valid used mach made trail vars here =
@@ -180,14 +174,10 @@ test_of_elements s g m front segments e rest a trap valid used mach made trail v
     (length found.table.elements) rest mach made trail vars a here.filled trap used valid.offset valid.few refl found.gets
     (tab_len_is mach (table_object o.owner) found.other found.other_is
     ∙ ap (λ n. gives mach (I64 n)) (elements_length g.program s found.table.elements found.other.elements found.agree.elements))
-    owner_is
-    (size_there (λ (o : store.Objects). o.table) (λ (t : store.Table). length t.elements) made o.owner found.table found.table_is)
+    owner_is (size_there (λ (o : store.Objects). o.table) (λ (t : store.Table). length t.elements) made o.owner found.table found.table_is)
     (λ offset n is. rw (owner_is, found.table_is, is) refl)
-    (λ filled fits. record {
-      filled = filled;
-      elements_fit = all_push (ElementFits s g.unit made) front e here.elements_fit fits;
-      data_fit = here.data_fit;
-    })
+    (λ filled fits. record
+    { filled = filled; elements_fit = all_push (ElementFits s g.unit made) front e here.elements_fit fits; data_fit = here.data_fit })
   where
     o : TableOwner s g.unit m.tree
     o = a.known.table valid.there
@@ -199,23 +189,18 @@ test_of_elements s g m front segments e rest a trap valid used mach made trail v
     owner_is = ap (table_at s g.unit) valid.table_is ∙ o.owner_is
 
 test_of_data : (s : LinkedSet) (g : Seat) (m : NamedModule) (elements : List ElementEntry) (front : List SegmentEntry)
-    (d : SegmentEntry) (rest : List c.Stmt)
-    → Surroundings s g m → CanTrap g m.tree → DataIsValid m.tree d → tests_bounds m.tree ≡ true
+    (d : SegmentEntry) (rest : List c.Stmt) → Surroundings s g m → CanTrap g m.tree → DataIsValid m.tree d → tests_bounds m.tree ≡ true
     → FollowsTask s g (AreTested s g m elements front) (TestData d) (AreTested s g m elements (front ++ d ∷ []))
     (test_data m.tree d ++ rest) rest
 test_of_data s g m elements front d rest a trap valid used mach made trail vars here =
     segment_tested s g m (TestData d) (AreTested s g m elements (front ++ d ∷ [])) (codes "w2c_mem_len") (memory_arg m.tree) mem_len
     (state.Pointer (Some (memory_object o.owner))) d.offset (memory_at s g.unit d.memory) (memory_size made) (length d.bytes) o.owner
     (length found.memory.bytes) rest mach made trail vars a here.filled trap used valid.offset valid.few refl found.gets
-    (mem_len_is mach (memory_object o.owner) found.other found.other_is
-    ∙ ap (λ bytes. gives mach (I64 (length bytes))) found.agree.bytes)
+    (mem_len_is mach (memory_object o.owner) found.other found.other_is ∙ ap (λ bytes. gives mach (I64 (length bytes))) found.agree.bytes)
     owner_is (size_there (λ (o : store.Objects). o.memory) (λ (t : store.Memory). length t.bytes) made o.owner found.memory found.memory_is)
     (λ offset n is. rw (owner_is, found.memory_is, is) refl)
-    (λ filled fits. record {
-      filled = filled;
-      elements_fit = here.elements_fit;
-      data_fit = all_push (DataFits s g.unit made) front d here.data_fit fits;
-    })
+    (λ filled fits. record
+    { filled = filled; elements_fit = here.elements_fit; data_fit = all_push (DataFits s g.unit made) front d here.data_fit fits })
   where
     o : MemoryOwner s g.unit m.tree
     o = a.known.memory valid.there
@@ -242,7 +227,6 @@ module _ (s : LinkedSet) (g : Seat) (m : NamedModule) (a : Surroundings s g m) (
   data_rows = record {
     costs = λ d. refl;
     each = λ front d behind rest is. test_of_data s g m m.tree.elements front d rest a trap
-        (all_at (DataIsValid m.tree) m.tree.segments (length front) d a.instantiable.segments
-        (there_at front d behind m.tree.segments is))
+        (all_at (DataIsValid m.tree) m.tree.segments (length front) d a.instantiable.segments (there_at front d behind m.tree.segments is))
         (used_by_segments m.tree m.tree.segments (some_there front d behind m.tree.segments is));
   }

@@ -41,11 +41,9 @@ frame_of g rest vars = record { target = None; running = running g rest vars }
 
 -- behind a call that was followed
 call_then : (s : LinkedSet) (g : Seat) (m : NamedModule) (spare : ℕ) (ty : FuncType) (rest : List c.Stmt) (tasks : List Task) (n : ℕ)
-    (vars : state.Vars) (from to : Progress) (result : exec.Called)
-    → HasLocals m.tree vars → Reaches g.program 1 from to
+    (vars : state.Vars) (from to : Progress) (result : exec.Called) → HasLocals m.tree vars → Reaches g.program 1 from to
     → CallFollows g.program s (suc g.unit) 0 g.pending (frame_of g rest vars ∷ g.below) ty to n result
-    → FollowsTasks s g spare (IsFilled s g m) rest tasks
-    → Instantiates s g (spare + 61) from n (and_then result (do_tasks s g.unit tasks))
+    → FollowsTasks s g spare (IsFilled s g m) rest tasks → Instantiates s g (spare + 61) from n (and_then result (do_tasks s g.unit tasks))
 call_then s g m spare ty rest tasks n vars from to (exec.Back left value made trail) locals first follows behind =
     before s g (spare + 61) spare (1 + follows.statements) n left _ _ (do_tasks s g.unit tasks left made trail) (joined first follows.way)
     (omega (arith, follows.paid.least), omega (arith, follows.paid.most))
@@ -61,8 +59,7 @@ start_follows s g m spare func rest tasks a valid calls behind = record {
   follow = λ n made trail mach vars here.
       let from : Progress = at g mach (c.Call None (c.Called name) [] ∷ rest) vars in
       rw r.callee_is (rw r.function_is (call_then s g m spare r.ty rest tasks n vars from (called g.program g.pending r.address mach []
-      (frame_of g rest vars ∷ g.below))
-      (exec.call_within s 1024 r.function [] n made trail) here.locals
+      (frame_of g rest vars ∷ g.below)) (exec.call_within s 1024 r.function [] n made trail) here.locals
       (call_goes g mach None name [] r.address rest vars [] (λ rest. refl) r.is_no_primitive r.address_is)
       (calls r.function r.address r.ty [] n 0 made trail mach g.pending (frame_of g rest vars ∷ g.below) r.typed r.callable r.stands
       (sym (valid.no_params r.ty r.ty_is)) tt here.together (omega arith))

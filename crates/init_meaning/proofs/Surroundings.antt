@@ -37,8 +37,7 @@ pub record IsFilled (s : LinkedSet) (g : Seat) (m : NamedModule) (machine : stat
   pub locals : HasLocals m.tree vars
 
 pointers_set : (s : LinkedSet) (g : Seat) (m : NamedModule) (machine : state.Machine) (made : store.Store) (trail : Trail)
-    (vars : state.Vars)
-    → Surroundings s g m → IsFilled s g m machine made trail vars → PointersAreSet s g.unit m.tree machine
+    (vars : state.Vars) → Surroundings s g m → IsFilled s g m machine made trail vars → PointersAreSet s g.unit m.tree machine
 pointers_set s g m machine made trail vars a f = f.together.ready.pointers g.unit m.tree (omega arith) (module_is s g.unit m a.module_is)
 
 -- the table, in both
@@ -52,8 +51,7 @@ pub record TableFound (s : LinkedSet) (g : Seat) (m : NamedModule) (mach : state
   pub gets : Gets g mach vars (table_arg m.tree) (state.Pointer (Some (table_object owner)))
 
 pub table_found : (s : LinkedSet) (g : Seat) (m : NamedModule) (mach : state.Machine) (made : store.Store) (trail : Trail)
-    (vars : state.Vars)
-    → (a : Surroundings s g m) → IsFilled s g m mach made trail vars → (o : TableOwner s g.unit m.tree)
+    (vars : state.Vars) → (a : Surroundings s g m) → IsFilled s g m mach made trail vars → (o : TableOwner s g.unit m.tree)
     → TableFound s g m mach made vars o.owner
 table_found s g m mach made trail vars a f o =
     let t = table_there s (suc g.unit) mach made o.owner o.owner_tree f.together.ready (omega (arith, o.early)) o.owner_tree_is o.some in
@@ -78,8 +76,7 @@ pub record MemoryFound (s : LinkedSet) (g : Seat) (m : NamedModule) (mach : stat
   pub gets : Gets g mach vars (memory_arg m.tree) (state.Pointer (Some (memory_object owner)))
 
 pub memory_found : (s : LinkedSet) (g : Seat) (m : NamedModule) (mach : state.Machine) (made : store.Store) (trail : Trail)
-    (vars : state.Vars)
-    → (a : Surroundings s g m) → IsFilled s g m mach made trail vars → (o : MemoryOwner s g.unit m.tree)
+    (vars : state.Vars) → (a : Surroundings s g m) → IsFilled s g m mach made trail vars → (o : MemoryOwner s g.unit m.tree)
     → MemoryFound s g m mach made vars o.owner
 memory_found s g m mach made trail vars a f o =
     let t = memory_there s (suc g.unit) mach made o.owner o.owner_tree f.together.ready (omega (arith, o.early)) o.owner_tree_is o.some in
@@ -95,12 +92,10 @@ memory_found s g m mach made trail vars a f o =
 
 -- an offset, in both
 pub offset_of : (s : LinkedSet) (g : Seat) (m : NamedModule) (mach : state.Machine) (made : store.Store) (trail : Trail) (vars : state.Vars)
-    (code : Code)
-    → Surroundings s g m → IsFilled s g m mach made trail vars → ShapeFits type.I32 (shape_of (global_space m.tree) code)
+    (code : Code) → Surroundings s g m → IsFilled s g m mach made trail vars → ShapeFits type.I32 (shape_of (global_space m.tree) code)
     → OffsetFound s g m.tree mach made vars code
 offset_of s g m mach made trail vars code a f fits =
-    offset_found s g m.tree mach made vars code
-    (constant_found s g m.tree mach made vars (global_space m.tree) type.I32 code fits
+    offset_found s g m.tree mach made vars code (constant_found s g m.tree mach made vars (global_space m.tree) type.I32 code fits
     (λ index is. let o = a.known.global index type.I32 is in
     global_found s g m.tree mach made trail vars index (suc g.unit) type.I32 (module_is s g.unit m a.module_is) o (omega (arith, o.early))
     f.together.agrees f.together.ready (pointers_set s g m mach made trail vars a f) f.locals.pointers_seen f.locals.globals_seen))

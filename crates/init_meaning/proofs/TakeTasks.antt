@@ -84,8 +84,7 @@ pointers_differ a b differ e = differ (ap behind_letter e)
 pointer_set : (s : LinkedSet) (g : Seat) (m : NamedModule) (i : Import) (object : state.Name) (a : state.ObjectAddress)
     (table memory : Bool) (number : ℕ) (rest : List c.Stmt) (mach : state.Machine) (made : store.Store) (trail : Trail) (vars : state.Vars)
     → GivesPointer g.program s g.unit m i a → (here : IsTaking s g m table memory number mach made trail vars)
-    → HoldsPointer object here.x.vars
-    → machine.is_object mach a ≡ true
+    → HoldsPointer object here.x.vars → machine.is_object mach a ≡ true
     → PointerSet s g m object a (set_pointer m i object ∷ rest) rest mach made trail vars
 pointer_set s g m i object a table memory number rest mach made trail vars p here there object_there = record {
   machine = after;
@@ -111,8 +110,7 @@ pointer_set s g m i object a table memory number rest mach made trail vars p her
   statements = 1 + n.0;
   some = omega arith;
   few = omega (arith, n.1);
-  way = rw usable (joined
-      (call_goes g mach (Some (pointer_name object)) (import_symbol i) [] p.address rest vars []
+  way = rw usable (joined (call_goes g mach (Some (pointer_name object)) (import_symbol i) [] p.address rest vars []
       (λ rest. refl) p.is_no_primitive p.address_is)
       (subst (Reaches g.program n.0 (go_on g.program g.pending (call g.program p.address mach [] (frame ∷ g.below)))) arrives n.2));
 }
@@ -150,8 +148,7 @@ pointer_set s g m i object a table memory number rest mach made trail vars p her
     frame : state.Frame
     frame = record { target = Some (pointer_name object); running = running g rest vars }
 
-    n : (n : ℕ) × (n ≤ 300)
-        × Reaches g.program n (go_on g.program g.pending (call g.program p.address mach [] (frame ∷ g.below)))
+    n : (n : ℕ) × (n ≤ 300) × Reaches g.program n (go_on g.program g.pending (call g.program p.address mach [] (frame ∷ g.below)))
         (go_on g.program g.pending (give mach (Some v) (frame ∷ g.below)))
     n = p.gives g.pending mach (frame ∷ g.below) object_there
 
@@ -170,8 +167,7 @@ abbrev takes_as : LinkedSet → ℕ → Import → ℕ → store.Store → Trail
 takes_as s u i n made trail kind = do_task s u (Take (record i { kind = kind })) n made trail
 
 pub global_follows : (s : LinkedSet) (g : Seat) (m : NamedModule) (i : Import) (t : ValType) (mutable table memory : Bool) (number : ℕ)
-    (rest : List c.Stmt)
-    → i.kind ≡ ImportGlobal t mutable → GlobalIsTaken g.program s g.unit m number i → imported_globals m.tree < 2 ^ 64
+    (rest : List c.Stmt) → i.kind ≡ ImportGlobal t mutable → GlobalIsTaken g.program s g.unit m number i → imported_globals m.tree < 2 ^ 64
     → FollowsTask s g (IsTaking s g m table memory number) (Take i) (IsTaking s g m table memory (suc number))
     (set_pointer m i (global_name number) ∷ rest) rest
 global_follows s g m i t mutable table memory number rest kind k few mach made trail vars here = inl (record {
@@ -345,8 +341,7 @@ table_follows s g m i l table memory number rest kind k can low mach made trail 
     seen after agrees = table_seen g.program s after made trail k.owner.owner t.0 agrees t.1
 
     does : (n : ℕ) → do_task s g.unit (Take i) n made trail ≡ tested (limits_fit (length t.0.elements) t.0.max l) ImportLimits n made trail
-    does n =
-        ap (takes_as s g.unit i n made trail) kind ∙ rw (k.import_is, t.1) refl
+    does n = ap (takes_as s g.unit i n made trail) kind ∙ rw (k.import_is, t.1) refl
 
 pub memory_follows : (s : LinkedSet) (g : Seat) (m : NamedModule) (i : Import) (l : Limits) (table memory : Bool) (number : ℕ)
     (rest : List c.Stmt)
@@ -389,5 +384,4 @@ memory_follows s g m i l table memory number rest kind k can low mach made trail
     seen after agrees = memory_seen g.program s after made trail k.owner.owner t.0 agrees t.1
 
     does : (n : ℕ) → do_task s g.unit (Take i) n made trail ≡ tested (limits_fit (store.pages t.0) t.0.max l) ImportLimits n made trail
-    does n =
-        ap (takes_as s g.unit i n made trail) kind ∙ rw (k.import_is, t.1) refl
+    does n = ap (takes_as s g.unit i n made trail) kind ∙ rw (k.import_is, t.1) refl

@@ -44,13 +44,8 @@ begin_follows s g stage rest tasks behind = record { follow = follow }
   where
     follow : (n : ℕ) (made : store.Store) (trail : Trail) (mach : state.Machine) (vars : state.Vars) → stage mach made trail vars
         → Instantiates s g 0 (at g mach (c.Null ∷ rest) vars) n (do_tasks s g.unit (Begin ∷ tasks) n made trail)
-    follow zero made trail mach vars here = record {
-      to = at g mach (c.Null ∷ rest) vars;
-      goes = tt;
-      statements = 0;
-      way = stays g.program (at g mach (c.Null ∷ rest) vars);
-      least = omega arith;
-    }
+    follow zero made trail mach vars here =
+        record { to = at g mach (c.Null ∷ rest) vars; goes = tt; statements = 0; way = stays g.program _; least = omega arith }
     follow (suc k) made trail mach vars here =
         before s g 0 62 1 (suc k) k _ _ (do_tasks s g.unit tasks k made trail) (null_goes g mach rest vars) (omega arith, omega arith)
         (behind.follow k made trail mach vars here)
@@ -71,8 +66,7 @@ abbrev Low : Limits → Type 0
 Low l = IsMaximum l.max
 
 lows : (f : Import → Bool) (imports : List Import) → AllByRecursion Low (flat_map table_of_import imports)
-    → AllByRecursion Low (flat_map memory_of_import imports)
-    → AllByRecursion (λ i. IsLow i.kind) (filter f imports)
+    → AllByRecursion Low (flat_map memory_of_import imports) → AllByRecursion (λ i. IsLow i.kind) (filter f imports)
 lows f [] tables memories = tt
 lows f (i ∷ imports) tables memories =
     go (lows f imports (all_behind Low (table_of_import i) (flat_map table_of_import imports) tables)
@@ -117,8 +111,7 @@ module _ (p : Program) (s : LinkedSet) (u : ℕ) (m : NamedModule) (pending : Pe
       (Begin ∷ (map Take imports ++ tasks))
   taken_first stmts rest tasks can follows =
       begin_follows s (sits stmts) (IsTaking s (sits stmts) m false false 0) (takes_from m 0 imports ++ rest) (map Take imports ++ tasks)
-      (taking_follows s (sits stmts) m 62 rest tasks
-      (omega (arith, instantiable.few_globals)) k.taken
+      (taking_follows s (sits stmts) m 62 rest tasks (omega (arith, instantiable.few_globals)) k.taken
       (may_test is_taken m.tree.imports can) (lows is_taken m.tree.imports
       (all_front Low (flat_map table_of_import m.tree.imports) (map (λ t. t.limits) m.tree.tables)
       (all_front Low (table_space m.tree) (memory_space m.tree) instantiable.maxima))
@@ -131,8 +124,7 @@ module _ (p : Program) (s : LinkedSet) (u : ℕ) (m : NamedModule) (pending : Pe
   whole_does =
       let g : Seat = sits (whole_stmts m) in
       taken_first (whole_stmts m) (stmts_making m.tree (stmts_behind m (traps m))) (tasks_making m.tree (tasks_behind m.tree))
-      (λ used. (used, limits_found m instantiable.few_segments used))
-      (making_follows s g m (around (whole_stmts m))
+      (λ used. (used, limits_found m instantiable.few_segments used)) (making_follows s g m (around (whole_stmts m))
       (filled_follows s g m (traps m) refl (around (whole_stmts m)) (λ used. bounds_found m instantiable.few_segments used) calls_follow
       (data_placed m instantiable.few_segments)))
 
@@ -147,10 +139,8 @@ module _ (p : Program) (s : LinkedSet) (u : ℕ) (m : NamedModule) (pending : Pe
       taken_first stmts
       (map (λ (t : LimitsEntry). make_table t.limits) m.tree.tables
       ++ (map (λ (t : LimitsEntry). make_memory t.limits) m.tree.memories
-      ++ (map call_part (range_with_len 0 (length parts)) ++ ends)))
-      (tasks_making m.tree (tasks_behind m.tree))
-      (λ used. (used, calling_limits_found m (length parts) used))
-      (objects_follow s g m (tasks_behind m.tree) (around stmts)
+      ++ (map call_part (range_with_len 0 (length parts)) ++ ends))) (tasks_making m.tree (tasks_behind m.tree))
+      (λ used. (used, calling_limits_found m (length parts) used)) (objects_follow s g m (tasks_behind m.tree) (around stmts)
       (rw (ap (calls 0) (sym are) ∙ sym (calls_are 0 parts)) at (parts_follow s g m (around stmts) refl calls_follow trap
       (subst (PartsAreDefined p u m.tree 0) are defined))))
 

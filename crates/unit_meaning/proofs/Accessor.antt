@@ -11,8 +11,7 @@ use Rattle.c_meaning.proofs.Ways as ways
 use Rattle.unit_definition.proofs.PointerTypes.{IsPointer, of_table}
 
 -- they may be returned where the type is a pointer's
-pointer_returned : {pointer : CType} → IsPointer pointer → (to : Option ObjectAddress)
-    → step.is_returned pointer (Some (Pointer to)) ≡ true
+pointer_returned : {pointer : CType} → IsPointer pointer → (to : Option ObjectAddress) → step.is_returned pointer (Some (Pointer to)) ≡ true
 pointer_returned of_table to = refl
 pointer_returned _ to = refl
 
@@ -29,14 +28,12 @@ GivesPointer p most a target = (pending : Pending) (m : Machine) (below : List F
 abbrev pub own_stmts : Name → List tree.Stmt
 own_stmts object = tree.Return (tree.Address object) ∷ []
 
-pub own_gives : (p : Program) (u item : ℕ) (symbol object : Name) (pointer : CType) → IsPointer pointer
-    → definition_at p u symbol ≡ Some
+pub own_gives : (p : Program) (u item : ℕ) (symbol object : Name) (pointer : CType) → IsPointer pointer → definition_at p u symbol ≡ Some
     (record {
       item = item;
       func = external (accessor_type pointer) symbol [] (own_stmts object);
       body = record { locals = []; stmts = own_stmts object };
-    })
-    → GivesPointer p 1 (UnitFunc u symbol) (record { unit = u; name = object })
+    }) → GivesPointer p 1 (UnitFunc u symbol) (record { unit = u; name = object })
 own_gives p u item symbol object pointer is_pointer definition pending m below there =
     let s : State = record {
       machine = m;
@@ -47,20 +44,15 @@ own_gives p u item symbol object pointer is_pointer definition pending m below t
     ap (λ (d : Option Definition). go_on p pending (step.begin d u m [] below)) definition in
     let e : go_on p pending (step.c_step p s) ≡ go_on p pending
     (step.give m (Some (Pointer (Some (record { unit = u; name = object })))) below) =
-    rw (there, pointer_returned is_pointer (Some (record { unit = u; name = object }))) refl in (
-      1,
-      omega arith,
-      rw start (subst (Reaches p 1 (Going pending s)) e (ways.step p pending s)),
-    )
+    rw (there, pointer_returned is_pointer (Some (record { unit = u; name = object }))) refl in
+    (1, omega arith, rw start (subst (Reaches p 1 (Going pending s)) e (ways.step p pending s)))
 
 -- to an object that another function gives
 abbrev pub passed_stmts : Name → List tree.Stmt
 passed_stmts name = tree.Call (Some result_name) (tree.Called name) [] ∷ tree.Return (tree.Value (tree.Name result_name)) ∷ []
 
 pub passed_gives : (p : Program) (most u item : ℕ) (symbol name : Name) (f : tree.Func) (pointer : CType) (inner : FuncAddress)
-    (target : ObjectAddress)
-    → IsPointer pointer
-    → f.params ≡ (c_type.Void, None) ∷ [] → f.result ≡ pointer
+    (target : ObjectAddress) → IsPointer pointer → f.params ≡ (c_type.Void, None) ∷ [] → f.result ≡ pointer
     → definition_at p u symbol ≡ Some
     (record { item = item; func = f; body = record { locals = (pointer, result_name, Plain 0) ∷ []; stmts = passed_stmts name } })
     → primitive name ≡ None → func_named p u name ≡ Some inner
@@ -94,11 +86,9 @@ passed_gives p most u item symbol name f pointer inner target is_pointer params 
     running : List tree.Stmt → Vars → Running
     running rest vars = record { unit = u; item = item; result = f.result; stmts = passed_stmts name; rest = rest; vars = vars }
 
-    begins : {pointer : CType} → IsPointer pointer
-        → go_on p pending (step.begin (Some
+    begins : {pointer : CType} → IsPointer pointer → go_on p pending (step.begin (Some
         (record { item = item; func = f; body = record { locals = (pointer, result_name, Plain 0) ∷ []; stmts = passed_stmts name } }))
-        u m [] below)
-        ≡ Going pending
+        u m [] below) ≡ Going pending
         (record { machine = m; running = running (passed_stmts name) ((result_name, Pointer None) ∷ []); below = below })
     begins of_table = rw params refl
     begins _ = rw params refl

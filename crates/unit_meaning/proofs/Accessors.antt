@@ -11,7 +11,6 @@ use Rattle.unit_meaning.proofs.Common.{ObjectAddress, UnitFunc, first_global, gl
 use Rattle.unit_meaning.proofs.Common.{export_symbol, export_type, global_accessor_type, import_symbol, import_type, is_usable, ResolvesAs}
 use Rattle.unit_meaning.proofs.Common.{export_func, external, passes_on, result_name, usable_symbol, IsAcceptedSet, program_of}
 use Rattle.w2c_base.specs.declared.value.ValType.TheVariants as val
-use Rattle.w2c_mangle.specs.declared.symbol.SymbolKind.TheVariants as symbol
 use Rattle.wasm_meaning.specs.LinkedSet as link
 use Rattle.c_tree.specs.declared.tree.CType.TheVariants as c_type
 use Rattle.c_tree.specs.Tree as tree
@@ -71,9 +70,8 @@ global_pointer None = (c_type.PtrU32, of_u32, refl)
 global_pointer (Some (val.I32, mutable)) = (c_type.PtrU32, of_u32, refl)
 global_pointer (Some (val.I64, mutable)) = (c_type.PtrU64, of_u64, refl)
 
-export_does : (s : LinkedSet) (v : ℕ) (n : NamedModule) → slice_get s.modules v ≡ Some n
-    → (h : IsPlaced s.hosts (instances s) v n) (e : Export) (kind : ExportKind) (o : External) → e.kind ≡ kind
-    → Stands (spaces_at s v n h) e kind o → ExportDoes s v n e o
+export_does : (s : LinkedSet) (v : ℕ) (n : NamedModule) → slice_get s.modules v ≡ Some n → (h : IsPlaced s.hosts (instances s) v n)
+    (e : Export) (kind : ExportKind) (o : External) → e.kind ≡ kind → Stands (spaces_at s v n h) e kind o → ExportDoes s v n e o
 export_does s v n is h e kind o kind_is stands = go kind_is stands
   where
     -- a table or a memory
@@ -129,8 +127,7 @@ abbrev ImportsGive : LinkedSet → ℕ → NamedModule → Type 0
 ImportsGive s u m = (i : Import) (o : External) (t : ObjectAddress) → ByImport s u m i o → target_of s o ≡ Some t → ImportGives s u m i t
 
 -- what passes a pointer on, by its type
-passer : {pointer : CType} → IsPointer pointer → (symbol name : Name)
-    → ((passes_on (accessor_type pointer) symbol (Some name)).body
+passer : {pointer : CType} → IsPointer pointer → (symbol name : Name) → ((passes_on (accessor_type pointer) symbol (Some name)).body
     ≡ Some (record { locals = (pointer, result_name, Plain 0) ∷ []; stmts = passed_stmts name }))
     × ((passes_on (accessor_type pointer) symbol (Some name)).params ≡ (c_type.Void, None) ∷ [])
     × ((passes_on (accessor_type pointer) symbol (Some name)).result ≡ pointer)
@@ -152,9 +149,8 @@ defined_as p u item name f g body other definition has_body same has_other =
     ∙ ap (λ (b : tree.Body). Some (record { item = item; func = g; body = b })) bodies
 
 -- an export's function
-pub export_gives : (s : LinkedSet) → IsAcceptedSet s → (v : ℕ) (n : NamedModule) → slice_get s.modules v ≡ Some n
-    → (e : Export) (o : External) (t : ObjectAddress) → target_of s o ≡ Some t
-    → SymbolFound s v n e → ImportsGive s v n → ExportDoes s v n e o
+pub export_gives : (s : LinkedSet) → IsAcceptedSet s → (v : ℕ) (n : NamedModule) → slice_get s.modules v ≡ Some n → (e : Export)
+    (o : External) (t : ObjectAddress) → target_of s o ≡ Some t → SymbolFound s v n e → ImportsGive s v n → ExportDoes s v n e o
     → GivesPointer (program_of s) (2 * v + 2) (UnitFunc v (export_symbol n e)) t
 export_gives s accepted v n is e o t target found imports (GivesOwn pointer is_pointer ty object own func) =
     let x : IsExternal (export_type n.tree e) (export_symbol n e) (export_func n e) = export_external n e in
@@ -190,9 +186,8 @@ kind_by m e kind = kind_of m (record e { kind = kind })
 
 same_both : (s : LinkedSet) → IsAcceptedSet s → (v : ℕ) (n : NamedModule) → slice_get s.modules v ≡ Some n
     → (h : IsPlaced s.hosts (instances s) v n) (e : Export) (kind : ExportKind) (o : External) → e.kind ≡ kind
-    → Stands (spaces_at s v n h) e kind o
-    → (u : ℕ) (m : Module) (i : Import) (k : ImportKind) → ResolvesAs s u i k → import_at s u i ≡ Some o
-    → (import_kind k ≡ kind_of n e) × (export_type n.tree e ≡ type_as m k)
+    → Stands (spaces_at s v n h) e kind o → (u : ℕ) (m : Module) (i : Import) (k : ImportKind) → ResolvesAs s u i k
+    → import_at s u i ≡ Some o → (import_kind k ≡ kind_of n e) × (export_type n.tree e ≡ type_as m k)
 same_both s accepted v n is h e kind o kind_is stands u m i k r at = go kind_is stands k r at
   where
     go : {kind : ExportKind} {o : External} → e.kind ≡ kind → Stands (spaces_at s v n h) e kind o → (k : ImportKind) → ResolvesAs s u i k
@@ -262,18 +257,15 @@ import_next s accepted u m is earlier i o t b target = go (origin s accepted u m
         (import_resolves s accepted u m is b.place i b.is) b.stands in
         let kinds : import_kind i.kind ≡ kind_of n e = both.0 in
         let names : import_symbol i ≡ export_symbol n e
-        = import_symbol_is i
-        ∙ ap (λ k. export_symbol_of i.«module» k i.field) kinds
+        = import_symbol_is i ∙ ap (λ k. export_symbol_of i.«module» k i.field) kinds
         ∙ ap (λ a. export_symbol_of a (kind_of n e) i.field) (sym h.its_name)
-        ∙ ap (export_symbol_of n.name (kind_of n e)) (sym h.one.name_is)
-        ∙ sym (symbol_is n e) in
+        ∙ ap (export_symbol_of n.name (kind_of n e)) (sym h.one.name_is) ∙ sym (symbol_is n e) in
         let symbol : SymbolFound s h.owner n e = symbol_found s accepted u i.«module» i.field o h in
         let from : Origin s u i o = FromModule h found in
         let outside : func_named p u (import_symbol i) ≡ external_func p (import_symbol i)
         = ap (func_named p u) (import_symbol_is i)
         ∙ named_external s accepted u m is i.«module» (origin_bytes s accepted u i o from) (origin_differs s accepted u m is i o from)
-        (import_kind i.kind) i.field
-        ∙ ap (external_func p) (sym (import_symbol_is i)) in
+        (import_kind i.kind) i.field ∙ ap (external_func p) (sym (import_symbol_is i)) in
         let gives = export_gives s accepted h.owner n h.exporter_is e o t target symbol (earlier h.owner n h.early h.exporter_is)
         (export_does s h.owner n h.exporter_is x.placed e x.kind o x.kind_is x.stands) in
         record {
@@ -283,8 +275,7 @@ import_next s accepted u m is earlier i o t b target = go (origin s accepted u m
           address_is = outside ∙ ap (external_func p) names ∙ external_found s h.owner n e symbol;
           outside = ap (external_func p) names ∙ external_found s h.owner n e symbol;
           typed = symbol.typed
-              ∙ ap Some (does_type s h.owner n e o (export_does s h.owner n h.exporter_is x.placed e x.kind o x.kind_is x.stands)
-              ∙ both.1
+              ∙ ap Some (does_type s h.owner n e o (export_does s h.owner n h.exporter_is x.placed e x.kind o x.kind_is x.stands) ∙ both.1
               ∙ sym (type_is m.tree i));
           gives = λ pending mach below there. let r = gives pending mach below there in (r.0, omega (arith, r.1, h.early), r.2);
         }

@@ -13,12 +13,12 @@ pub use Rattle.std.proofs.lemmas.Slice.Eq.{bytes_eq-Decides}
 pub use Rattle.std.specs.List.{AllByRecursion, cons_option, list_any, position_from, range_with_len}
 pub use Rattle.std.specs.Option.{option_or}
 pub use Rattle.std.specs.Prelude.{⊤}
-pub use Rattle.w2c_base.proofs.Lists.{filter_few, get_behind, get_mapped, get_numbered, get_unmapped}
+pub use Rattle.w2c_base.proofs.Lists.{filter_few, get_behind, get_kept, get_mapped, get_numbered, get_unmapped}
 pub use Rattle.w2c_base.proofs.Nothing.{append_none, none_at}
 pub use Rattle.w2c_base.proofs.OfEach.{all_append, all_at}
 pub use Rattle.w2c_base.proofs.Places.{get_within, some_first, right_behind, take_front, get_front}
 pub use Rattle.w2c_base.specs.Lookup.{AreDistinct, at_index, if_found, named, numbered, with_named}
-pub use Rattle.w2c_base.specs.Run.{Ask, Call, Event, Gave, Host, HostFunction, HostTrapped, Init, Phase, Reply, Trail, asks_in}
+pub use Rattle.w2c_base.specs.Run.{Ask, Call, Event, Gave, Host, HostFunction, Init, Phase, Reply, Trail, asks_in}
 pub use Rattle.w2c_base.specs.Run.{call_ended, values_in}
 pub use Rattle.w2c_base.specs.Values.{IsNumber, bits, equal_func_types, equal_types, is_result, type_of, types_of, value, zeros}
 pub use Rattle.w2c_base.specs.declared.signature.FuncType.{FuncType}

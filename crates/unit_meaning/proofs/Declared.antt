@@ -7,7 +7,7 @@ use Rattle.unit_meaning.proofs.Common.{value, ValType, global_space, imported_gl
 use Rattle.unit_meaning.proofs.Common.{SegmentEntry, Module, Name, CType, LinkedSet, NamedModule, bytes_differ, bytes_equal, array_bytes}
 use Rattle.unit_meaning.proofs.Common.{array_named, c_type_of, global_name, memory_name, table_name, global_imports, memory_imports, items}
 use Rattle.unit_meaning.proofs.Common.{pointer_type, table_imports, vars_in, get_behind, get_front, get_mapped, global_count, pointer_name}
-use Rattle.unit_meaning.proofs.Common.{pointers_of, data_name, zero_like, data_of, objects_of, IsAccepted, program_of}
+use Rattle.unit_meaning.proofs.Common.{slice_get_past, pointers_of, data_name, zero_like, data_of, objects_of, IsAccepted, program_of}
 use Rattle.w2c_base.specs.declared.value.ValType.TheVariants as type
 use Rattle.c_tree.specs.declared.tree.CType.TheVariants as c_type
 use Rattle.c_tree.specs.Tree as c
@@ -27,15 +27,7 @@ GivesNone f xs = AllByRecursion (λ x. f x ≡ None) xs
 
 skip : {A B : Type 0} (f : A → Option B) (xs ys : List A) → GivesNone f xs → filter_map f (xs ++ ys) ≡ filter_map f ys
 skip f [] ys none = refl
-skip {A} {B} f (x ∷ xs) ys none = go (f x) none.0 (skip f xs ys none.1)
-  where
-    go : (o : Option B) → o ≡ None → filter_map f (xs ++ ys) ≡ filter_map f ys → cons_option o (filter_map f (xs ++ ys)) ≡ filter_map f ys
-    go None e h = h
-    go (Some b) e h = absurd cc
-
-none_mapped : {A B C : Type 0} (f : B → Option C) (g : A → B) (xs : List A) → ((x : A) → f (g x) ≡ None) → GivesNone f (map g xs)
-none_mapped f g [] none = tt
-none_mapped f g (x ∷ xs) none = (none x, none_mapped f g xs none)
+skip f (x ∷ xs) ys none = rw none.0 (skip f xs ys none.1)
 
 -- ---- tables, memories, globals
 
@@ -61,8 +53,7 @@ memory_there : (tables memories : List LimitsEntry) (rest : List c.Item) → 0 <
     ≡ Some machine.no_memory
 memory_there tables memories rest some =
     ap (named memory_name) (skip machine.file_memory (map table_var tables) (map memory_var memories ++ rest)
-    (none_mapped machine.file_memory table_var tables (λ t. refl)))
-    ∙ first memories some
+    (all_images _ table_var tables (λ t. refl))) ∙ first memories some
   where
     first : (memories : List LimitsEntry) → 0 < length memories
         → named memory_name (filter_map machine.file_memory (map memory_var memories ++ rest)) ≡ Some machine.no_memory
@@ -72,8 +63,7 @@ memory_there tables memories rest some =
 -- ---- the unit's objects
 
 -- what stands behind the unit's objects
-joined : (m : Module) (rest : List c.Item)
-    → objects_of m (pointers_of m) ++ rest ≡ map table_var m.tables ++
+joined : (m : Module) (rest : List c.Item) → objects_of m (pointers_of m) ++ rest ≡ map table_var m.tables ++
     (map memory_var m.memories ++ (map (global_var m) (numbered m.globals) ++ (map pointer_var (pointers_of m) ++ rest)))
 joined m rest =
     append_assoc (map table_var m.tables) (map memory_var m.memories ++ globals_and_pointers) rest
@@ -108,8 +98,7 @@ found_unset q ty initial (c.Var t name None ∷ vars) rest unset found is =
         → named q (cons_option (option_map (λ (v : state.CValue). (name, v)) (machine.zero_of t)) others) ≡ Some initial
     here equal same =
         ap (λ (o : Option state.CValue). named q (cons_option (option_map (λ (v : state.CValue). (name, v)) o) others))
-        (ap machine.zero_of same ∙ is)
-        ∙ ap (λ b. if b then Some initial else named q others) equal
+        (ap machine.zero_of same ∙ is) ∙ ap (λ b. if b then Some initial else named q others) equal
 
     behind : bytes_eq name q ≡ false → named q others ≡ Some initial → (o : Option state.CValue)
         → named q (cons_option (option_map (λ (v : state.CValue). (name, v)) o) others) ≡ Some initial
@@ -126,14 +115,10 @@ objects_unset : (m : Module) (pointers : List (CType × Name)) → AllByRecursio
 objects_unset m pointers =
     all_append IsUnset _ _ (all_images IsUnset _ m.tables (λ x. tt))
     (all_append IsUnset _ _ (all_images IsUnset _ m.memories (λ x. tt))
-    (all_append IsUnset _ _ (all_images IsUnset _ (numbered m.globals) (λ x. tt))
-    (all_images IsUnset _ pointers (λ x. tt))))
+    (all_append IsUnset _ _ (all_images IsUnset _ (numbered m.globals) (λ x. tt)) (all_images IsUnset _ pointers (λ x. tt))))
 
 none_past : {A : Type 0} (xs : List A) (k : ℕ) → is_some (slice_get xs (length xs + k)) ≡ false
-none_past [] k = refl
-none_past (x ∷ xs) k =
-    let e : length (x ∷ xs) + k ≡ suc (length xs + k) = omega arith in
-    ap (λ i. is_some (slice_get (x ∷ xs) i)) e ∙ none_past xs k
+none_past xs k = ap is_some (slice_get_past xs (length xs + k) (omega arith))
 
 -- a list that begins with the unit's objects declares them
 declares : (m : NamedModule) → IsAccepted m → (rest : List c.Item)
@@ -166,8 +151,7 @@ declares m a rest = record {
         → held q (filter_map machine.file_var (objects_of m.tree (pointers_of m.tree) ++ rest)) ≡ Some initial
     holds q ty initial found is like =
         ap (option_map zero_like) (found_unset q ty initial (objects_of m.tree (pointers_of m.tree)) rest
-        (objects_unset m.tree (pointers_of m.tree)) found is)
-        ∙ ap Some like
+        (objects_unset m.tree (pointers_of m.tree)) found is) ∙ ap Some like
 
     number_zero : (t : ValType) → machine.zero_of (c_type_of t) ≡ Some (state.Number (value t 0))
     number_zero type.I32 = refl
@@ -213,8 +197,7 @@ this_array : (i : ℕ) (d : SegmentEntry) (rest : List c.Item) → 0 < length d.
     → slice_get (filter_map (array_bytes (data_name i)) (array_of (i, d) ++ rest)) 0 ≡ Some d.bytes
 this_array i d rest some = go d.bytes some
   where
-    go : (bytes : List ℕ) → 0 < length bytes
-        → slice_get (filter_map (array_bytes (data_name i))
+    go : (bytes : List ℕ) → 0 < length bytes → slice_get (filter_map (array_bytes (data_name i))
         ((elim bytes as (λ x. List c.Item) [ [] ↦ [] | b ∷ bytes ↦ c.Array (data_name i) (length d.bytes) d.bytes ∷ [] ]) ++ rest)) 0
         ≡ Some d.bytes
     go [] some = absurd (omega (arith, some))
@@ -251,13 +234,13 @@ array_in : (m : Module) (rest : List c.Item) (k : ℕ) (d : SegmentEntry) → sl
 array_in m rest k d at some few =
     ap (λ items. slice_get (filter_map (array_bytes (data_name k)) items) 0) (joined m (data_of m ++ rest))
     ∙ ap (λ items. slice_get items 0) (skip (array_bytes (data_name k)) (map table_var m.tables) _
-    (none_mapped (array_bytes (data_name k)) table_var m.tables (λ t. refl)))
+    (all_images _ table_var m.tables (λ t. refl)))
     ∙ ap (λ items. slice_get items 0) (skip (array_bytes (data_name k)) (map memory_var m.memories) _
-    (none_mapped (array_bytes (data_name k)) memory_var m.memories (λ t. refl)))
+    (all_images _ memory_var m.memories (λ t. refl)))
     ∙ ap (λ items. slice_get items 0) (skip (array_bytes (data_name k)) (map (global_var m) (numbered m.globals)) _
-    (none_mapped (array_bytes (data_name k)) (global_var m) (numbered m.globals) (λ t. refl)))
+    (all_images _ (global_var m) (numbered m.globals) (λ t. refl)))
     ∙ ap (λ items. slice_get items 0) (skip (array_bytes (data_name k)) (map pointer_var (pointers_of m)) _
-    (none_mapped (array_bytes (data_name k)) pointer_var (pointers_of m) (λ t. refl)))
+    (all_images _ pointer_var (pointers_of m) (λ t. refl)))
     ∙ (let at_k : k ≡ 0 + k = omega arith in ap (λ j. slice_get (filter_map (array_bytes (data_name j)) (data_of m ++ rest)) 0) at_k)
     ∙ array_there 0 k m.segments d rest at some (omega (arith, few))
 
@@ -266,5 +249,4 @@ pub arrays_are_found : (s : LinkedSet) (u : ℕ) (m : NamedModule) → slice_get
     → array_named (program_of s) u (data_name k) ≡ Some d.bytes
 arrays_are_found s u m is few k d at some =
     ap (λ (unit : Option (List c.Item)). if_found unit (λ items. slice_get (filter_map (array_bytes (data_name k)) items) 0))
-    (get_mapped items s.modules u m is)
-    ∙ array_in m.tree _ k d at some few
+    (get_mapped items s.modules u m is) ∙ array_in m.tree _ k d at some few

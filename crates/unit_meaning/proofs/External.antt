@@ -51,8 +51,7 @@ pub type_found : (s : LinkedSet) (u : ℕ) (m : NamedModule) → slice_get s.mod
     (body : tree.Body) → IsDefinition (typed (items m)) name f body → func_type (program_of s) (UnitFunc u name) ≡ Some (func_type_of f)
 type_found s u m is name f body d =
     ap (λ (unit : Option (List tree.Item)). option_map (λ (d : Definition). func_type_of d.func)
-    (if_found unit (λ items. typed items name))) (unit_at s u m is)
-    ∙ ap (option_map (λ (d : Definition). func_type_of d.func)) d.1
+    (if_found unit (λ items. typed items name))) (unit_at s u m is) ∙ ap (option_map (λ (d : Definition). func_type_of d.func)) d.1
 
 -- a function of the unit, by its name
 pub defines : (s : LinkedSet) (u : ℕ) (m : NamedModule) → slice_get s.modules u ≡ Some m → (f : tree.Func) (body : tree.Body)
@@ -78,10 +77,8 @@ pub symbol_at : (s : LinkedSet) → IsAcceptedSet s → (v : ℕ) (n : NamedModu
 symbol_at s accepted v n is e first = record {
   definition = (both.0.0, ap (λ (u : Option (List tree.Item)). if_found u (λ unit. defined unit symbol)) (unit_at s v n is) ∙ both.0.1);
   first_unit = position_at (λ unit. is_some (defined_for_all unit symbol)) 0 (units_of s) v (items n) (unit_at s v n is)
-      (ap is_some both.1.1)
-      (λ i unit less at. rw (symbol_is n e) (others_undefined s accepted n.name small (kind_of n e) e.name i unit at
-      (λ m m_is. modules_differ s accepted.linked i v m n m_is is (λ same. absurd (omega (arith, less, same))))))
-      ∙ ap Some (omega arith);
+      (ap is_some both.1.1) (λ i unit less at. rw (symbol_is n e) (others_undefined s accepted n.name small (kind_of n e) e.name i unit at
+      (λ m m_is. modules_differ s accepted.linked i v m n m_is is (λ same. absurd (omega (arith, less, same)))))) ∙ ap Some (omega arith);
   typed = type_found s v n is symbol (export_func n e) (export_external n e).body
       (typed_outside (items n) symbol (export_func n e) (export_external n e).body both.1);
 }

@@ -13,7 +13,7 @@ use Rattle.unit_meaning.proofs.Common.{◌∙◌, subst, inl, inr, arith, length
 use Rattle.unit_meaning.proofs.Common.{range_with_len, append_none, none_at, get_within, at_index, if_found, FuncType}
 use Rattle.unit_meaning.proofs.Common.{defined_behind_imports, at_defined, func_of_import, func_space, func_type_in, imported_funcs}
 use Rattle.unit_meaning.proofs.Common.{is_func_import, type_in, BodyEntry, FuncEntry, Import, ImportKind, ImportFunc, ImportGlobal}
-use Rattle.unit_meaning.proofs.Common.{ImportMemory, ImportTable, Module, fault_if, IsValid, bodies_of, External, Instance, IsFunc, IsTable}
+use Rattle.unit_meaning.proofs.Common.{ImportMemory, ImportTable, Module, fault_if, IsValid, bodies_of, External, Instance, IsFunc}
 use Rattle.unit_meaning.proofs.Common.{LinkedSet, ModuleFunc, NamedModule, as_func, func_at, import_at, instances, meaning_of, module_at}
 use Rattle.unit_meaning.proofs.Common.{type_at, func_imports, get_behind, get_mapped, get_numbered, get_unmapped, IsDefined, defined_at}
 use Rattle.unit_meaning.proofs.Common.{IsAccepted, IsAcceptedSet, less_or_not}
@@ -90,10 +90,8 @@ pub record IsOwn (u : ℕ) (m : NamedModule) (k : ℕ) (f : FuncAddress) : Type 
   pub no_import : slice_get (func_imports m.tree) k ≡ None
 
 pub as_func_is : (o : Option External) (f : FuncAddress) → if_found o as_func ≡ Some f → o ≡ Some (IsFunc f)
-as_func_is None f e = absurd (cc)
 as_func_is (Some (IsFunc g)) f e = let same : g ≡ f = cc in ap (λ (x : FuncAddress). Some (IsFunc x)) same
-as_func_is (Some (IsTable owner)) f e = absurd (cc)
-as_func_is (Some _) f e = absurd (cc)
+as_func_is _ f e = absurd (cc)
 
 pub func_space_at : (s : LinkedSet) (u : ℕ) (m : NamedModule) (h : IsPlaced s.hosts (instances s) u m) (k : ℕ)
     → func_at s u k ≡ at_index (spaces_at s u m h).funcs k
@@ -196,7 +194,5 @@ own_func s accepted u m is k there =
       in_set = ap (λ (x : Option Module). if_found x
           (λ (m : Module). if_found (at_defined m m.funcs k) (λ f. type_at s u f.type_index))) module_is
           ∙ ap (λ (x : Option FuncEntry). if_found x (λ f. type_at s u f.type_index))
-          (defined_behind_imports m.tree m.tree.funcs k j place ∙ f.1)
-          ∙ type_at_is s u m is f.0.type_index
-          ∙ t.1;
+          (defined_behind_imports m.tree m.tree.funcs k j place ∙ f.1) ∙ type_at_is s u m is f.0.type_index ∙ t.1;
     }

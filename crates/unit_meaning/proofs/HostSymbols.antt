@@ -44,12 +44,7 @@ position_first {A} p k (x ∷ xs) j found = go (p x) refl found (position_first 
 -- the first that a filter leaves
 pub first_is_found : {A : Type 0} (p : A → Bool) (xs : List A) → slice_get (filter p xs) 0 ≡ find p xs
 first_is_found p [] = refl
-first_is_found {A} p (x ∷ xs) = go (p x) (first_is_found p xs)
-  where
-    go : (b : Bool) → slice_get (filter p xs) 0 ≡ find p xs → slice_get (if b then x ∷ filter p xs else filter p xs) 0 ≡
-        (if b then Some x else find p xs)
-    go true others = refl
-    go false others = others
+first_is_found p (x ∷ xs) = grind (arith, first_is_found p xs)
 
 -- a function of a host
 abbrev pub offered_symbol : ℕ → Host → ℕ × HostFunction → HostSymbol
@@ -182,14 +177,12 @@ offered_by s accepted host_name name o found = of_host (position_from (λ (h : H
           function_is = ap (slice_get h.one.functions) e ∙ f.is;
           stands = let stands : link.IsFunc (link.HostFunc h.place j) ≡ o = cc in sym stands;
           reached = ap (λ (n : Name). external_func (program_of s) (export_symbol_of n Func name)) (sym named_host)
-              ∙ ap (λ (n : Name). external_func (program_of s) (export_symbol_of h.one.name Func n)) (sym named)
-              ∙ reached
+              ∙ ap (λ (n : Name). external_func (program_of s) (export_symbol_of h.one.name Func n)) (sym named) ∙ reached
               ∙ ap (λ (i : ℕ). Some (HostFunc h.place i)) z;
         }
 
     of_host : (h : Option ℕ) → position_from (λ (h : Host). bytes_eq h.name host_name) 0 s.hosts ≡ h
-        → if_found h (λ h. if_found (slice_get s.hosts h)
-        (λ host. option_map (λ f. link.IsFunc (link.HostFunc h f))
+        → if_found h (λ h. if_found (slice_get s.hosts h) (λ host. option_map (λ f. link.IsFunc (link.HostFunc h f))
         (position_from (λ (f : HostFunction). bytes_eq f.name name) 0 host.functions))) ≡ Some o → OfferedBy s host_name name o
     of_host None is found = absurd (cc)
     of_host (Some j) is found =

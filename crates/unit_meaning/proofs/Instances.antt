@@ -47,8 +47,7 @@ instance_at s u m h =
 
 pub earlier_is : (s : LinkedSet) (u : ℕ) (m : NamedModule) (h : IsPlaced s.hosts (instances s) u m) → take u (instances s) ≡ h.earlier
 earlier_is s u m h =
-    ap (take u) h.whole
-    ∙ ap (λ (k : ℕ). take k (h.earlier ++ instance_of s.hosts h.earlier m ∷ h.others)) (sym h.number)
+    ap (take u) h.whole ∙ ap (λ (k : ℕ). take k (h.earlier ++ instance_of s.hosts h.earlier m ∷ h.others)) (sym h.number)
     ∙ take_front h.earlier (instance_of s.hosts h.earlier m ∷ h.others)
 
 -- the index spaces of a module
@@ -84,14 +83,8 @@ export_named spaces (e ∷ exports) name o found = go (bytes_eq e.name name) ref
     go false differ found others = behind (others found)
       where
         behind : IsExported spaces exports name o → IsExported spaces (e ∷ exports) name o
-        behind h = record {
-          place = suc h.place;
-          one = h.one;
-          is = h.is;
-          name_is = h.name_is;
-          stands = h.stands;
-          before = earlier h.place h.before;
-        }
+        behind h = record
+            { place = suc h.place; one = h.one; is = h.is; name_is = h.name_is; stands = h.stands; before = earlier h.place h.before }
           where
             earlier : (place : ℕ) → ((i : ℕ) (b : Export) → i < place → slice_get exports i ≡ Some b → b.name ≢ name) → (i : ℕ) (b : Export)
                 → i < suc place → slice_get (e ∷ exports) i ≡ Some b → b.name ≢ name

@@ -12,7 +12,7 @@ use Rattle.unit_meaning.proofs.Common.{memory_of_import, memory_space, table_of_
 use Rattle.unit_meaning.proofs.Common.{ImportGlobal, ImportMemory, ImportTable, LimitsEntry, External, IsGlobal, IsMemory, IsTable}
 use Rattle.unit_meaning.proofs.Common.{LinkedSet, NamedModule, import_at, global_imports, memory_imports, table_imports, global_object}
 use Rattle.unit_meaning.proofs.Common.{memory_object, table_object, BodiesFollow, Defines, init_func, UnitsAreInstantiatedAlike, IsAccepted}
-use Rattle.unit_meaning.proofs.Common.{IsAcceptedSet, UnitsServe, program_of}
+use Rattle.unit_meaning.proofs.Common.{length-append, IsAcceptedSet, UnitsServe, program_of}
 use Rattle.init_meaning.specs.ReachedFuncs.{FuncIsReached}
 use Rattle.init_meaning.specs.Taken.{GivesPointer, IsTakenAs, AreTaken, is_taken, next_number}
 use Rattle.unit_meaning.proofs.Declared.{units_declare, arrays_are_found}
@@ -79,8 +79,7 @@ whole_stream : (p : Import → Bool) (xs : List Import) → Stream p xs (filter 
 whole_stream p xs k = let at : k ≡ 0 + k = omega arith in ap (slice_get (filter p xs)) at
 
 length_front : {A B : Type 0} (xs : List A) (f : B → A) (ys : List B) → length xs ≤ length (xs ++ map f ys)
-length_front [] f ys = omega arith
-length_front (x ∷ xs) f ys = let le : length xs ≤ length (xs ++ map f ys) = length_front xs f ys in omega (arith, le)
+length_front xs f ys = omega (arith, length-append xs (map f ys))
 
 module _ (gives : ImportsGivePointers) (s : LinkedSet) (accepted : IsAcceptedSet s) (u : ℕ) (m : NamedModule)
     (module_is : slice_get s.modules u ≡ Some m) (instantiable : IsInstantiable m.tree) where
@@ -94,11 +93,9 @@ module _ (gives : ImportsGivePointers) (s : LinkedSet) (accepted : IsAcceptedSet
   and_more number i kind rest e func one others =
       rw (ap is_func e ∙ func) (subst (IsTakenAs (program_of s) s u m number i) (sym e) one, others)
 
-  taken_from : (place tables memories number : ℕ) (xs : List Import)
-      → ((k : ℕ) → slice_get xs k ≡ slice_get m.tree.imports (place + k))
+  taken_from : (place tables memories number : ℕ) (xs : List Import) → ((k : ℕ) → slice_get xs k ≡ slice_get m.tree.imports (place + k))
       → Stream is_table_import xs (table_imports m.tree) tables → Stream is_memory_import xs (memory_imports m.tree) memories
-      → Stream is_global_import xs (global_imports m.tree) number
-      → Taken number (filter is_taken xs)
+      → Stream is_global_import xs (global_imports m.tree) number → Taken number (filter is_taken xs)
   taken_from place tables memories number [] places t e g = tt
   taken_from place tables memories number (i ∷ xs) places t e g =
       go i.kind refl (taken_from (suc place) (if is_table_import i then suc tables else tables)

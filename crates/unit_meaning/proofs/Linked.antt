@@ -57,8 +57,7 @@ module_is_no_host s linked u h m host is is' =
     let within = slice_get_within names u m.name (get_mapped module_name s.modules u m is) in
     distinct_at (names ++ hosts) u (length names + h) m.name host.name linked.names_differ
     (get_before names hosts u within ∙ get_mapped module_name s.modules u m is)
-    (get_behind names hosts h ∙ get_mapped host_name s.hosts h host is')
-    (λ e. absurd (omega (arith, within, e)))
+    (get_behind names hosts h ∙ get_mapped host_name s.hosts h host is') (λ e. absurd (omega (arith, within, e)))
 
 pub accepted_at : (s : LinkedSet) → IsAcceptedSet s → (u : ℕ) (m : NamedModule) → slice_get s.modules u ≡ Some m → IsAccepted m
 accepted_at s accepted u m is = all_at IsAccepted s.modules u m accepted.accepted is
@@ -127,13 +126,11 @@ pub exported_by : (s : LinkedSet) (module_name name : List ℕ) (o : External) �
 exported_by s module_name name o found = exported_among s (instances s) module_name name o (λ v i is. is) found
 
 -- by one before the module with number u
-pub exported_before : (s : LinkedSet) (u : ℕ) (m : NamedModule) → slice_get s.modules u ≡ Some m
-    → (module_name name : List ℕ) (o : External) → exported (take u (instances s)) module_name name ≡ Some o
-    → ExportedBy s u module_name name o
+pub exported_before : (s : LinkedSet) (u : ℕ) (m : NamedModule) → slice_get s.modules u ≡ Some m → (module_name name : List ℕ)
+    (o : External) → exported (take u (instances s)) module_name name ≡ Some o → ExportedBy s u module_name name o
 exported_before s u m is module_name name o found =
     let at : IsPlaced s.hosts (instances s) u m = placed s u m is in
-    let h = exported_among s at.earlier module_name name o
-    (λ v i there. ap (λ (all : List Instance). slice_get all v) at.whole
+    let h = exported_among s at.earlier module_name name o (λ v i there. ap (λ (all : List Instance). slice_get all v) at.whole
     ∙ get_before at.earlier _ v (slice_get_within at.earlier v i there) ∙ there)
     (ap (λ (l : List Instance). exported l module_name name) (sym (earlier_is s u m at)) ∙ found) in
     record {

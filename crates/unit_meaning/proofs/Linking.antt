@@ -12,17 +12,17 @@ use Rattle.c_init.proofs.NoFaults.{rows_of}
 use Rattle.c_init.specs.Init.{part_func, parts_of}
 use Rattle.unit_meaning.proofs.Common.{if_found, same_func_type, NotDefined, TypeDiffers, ◌≡◌, ℕ, zero, suc, ◌+◌, ◌<◌, Bool, true, false, ⊤}
 use Rattle.unit_meaning.proofs.Common.{◌&&◌, ◌||◌, ◌≢◌, List, [], ◌∷◌, ◌++◌, map, length, take, is_some, if◌then◌else◌, slice_get, Some, ap}
-use Rattle.unit_meaning.proofs.Common.{None, All, Option, find, zip, flat_map, filter_map, bytes_eq, sym, refl, ◌∙◌, arith, AllByRecursion}
+use Rattle.unit_meaning.proofs.Common.{None, Option, find, flat_map, filter_map, bytes_eq, sym, refl, ◌∙◌, subst, arith, AllByRecursion}
 use Rattle.unit_meaning.proofs.Common.{bytes_eq-Decides, cons_option, list_any, position_from, range_with_len, option_or, append_none, Host}
 use Rattle.unit_meaning.proofs.Common.{all_append, all_at, numbered, export_symbol_of-injective, init_symbol_of-injective, export_symbol_of}
 use Rattle.unit_meaning.proofs.Common.{init_symbol_of-not_export, init_symbol_of, type_in, Export, Import, ImportKind, ImportFunc, Module}
 use Rattle.unit_meaning.proofs.Common.{ImportGlobal, ImportMemory, ImportTable, SegmentEntry, duplicate_exports, IsValid, Name, is_among}
 use Rattle.unit_meaning.proofs.Common.{func_type_of, CType, External, IsFunc, IsGlobal, IsMemory, IsTable, LinkedSet, NamedModule, Program}
-use Rattle.unit_meaning.proofs.Common.{import_at, bytes_differ, LinkRefusal, Twice, defined_for_all, external_func, external_functions}
+use Rattle.unit_meaning.proofs.Common.{zip, import_at, bytes_differ, LinkRefusal, Twice, defined_for_all, external_func, external_functions}
 use Rattle.unit_meaning.proofs.Common.{func_type, host_symbol, host_symbols, FuncAddress, UnitFunc, made_static, helper_of, Typed, firsts}
 use Rattle.unit_meaning.proofs.Common.{c_func_type_if, declared_symbols, export_symbol, import_symbol, import_type, symbol_type, ResolvesAs}
 use Rattle.unit_meaning.proofs.Common.{same_c_func_type, get_unmapped, body_of, needs_of, export_func, data_name, init_func, bodies, items}
-use Rattle.unit_meaning.proofs.Common.{data_of, declaration, objects_of, prototype, IsAcceptedSet, UnitsLink, program_of, right_behind}
+use Rattle.unit_meaning.proofs.Common.{All, data_of, declaration, objects_of, prototype, IsAcceptedSet, UnitsLink, program_of, right_behind}
 use Rattle.unit_meaning.proofs.Linked.{modules_differ, module_is_no_host, accepted_at}
 use Rattle.unit_meaning.proofs.External.{SymbolFound, units_of, unit_at, type_found, symbol_at, external_found, others_undefined}
 use Rattle.unit_meaning.proofs.HostSymbols.{symbols_of, asks_for, first_is_found}
@@ -63,10 +63,9 @@ none_any p [] h = refl
 none_any p (x ∷ xs) h = let e : p x ≡ false = h 0 x refl in rw e (none_any p xs (λ i a. h (suc i) a))
 
 taken_at : {A : Type 0} (u : ℕ) (xs : List A) (i : ℕ) (a : A) → slice_get (take u xs) i ≡ Some a → (slice_get xs i ≡ Some a) × (i < u)
-taken_at zero xs i a at = absurd (cc)
-taken_at (suc u) [] i a at = absurd (cc)
 taken_at (suc u) (x ∷ xs) zero a at = (at, omega arith)
 taken_at (suc u) (x ∷ xs) (suc i) a at = let h = taken_at u xs i a at in (h.0, omega (arith, h.1))
+taken_at _ _ i a at = absurd (cc)
 
 not_twice : (s : LinkedSet) (u : ℕ) (f : tree.Func) → host_symbol (program_of s) f.name ≡ None
     → list_any (λ items. is_some (defined_for_all items f.name)) (take u (units_of s)) ≡ false → program_twice (program_of s) u f ≡ []
@@ -76,8 +75,7 @@ not_twice s u f no_host no_unit = go (is_some f.body) (is_some (host_symbol (pro
     go : (a b c : Bool) → b ≡ false → c ≡ false → (if a && (b || c) then Twice u f.name ∷ [] else []) ≡ []
     go true false false e e' = refl
     go false b c e e' = refl
-    go true true c e e' = absurd (cc)
-    go true false true e e' = absurd (cc)
+    go _ _ _ e e' = absurd (cc)
 
 resolved : (s : LinkedSet) (u : ℕ) (f : tree.Func) (a : FuncAddress) → external_func (program_of s) f.name ≡ Some a
     → func_type (program_of s) a ≡ Some (func_type_of f) → program_unresolved (program_of s) u f ≡ []
@@ -182,9 +180,8 @@ export_links s accepted u m is j e at = (
         (accepted_at s accepted u m is).bytes j e at)
 
 -- another unit does not define the init function's symbol
-init_undefined : (s : LinkedSet) → IsAcceptedSet s → (u : ℕ) (m : NamedModule) → slice_get s.modules u ≡ Some m
-    → (i : ℕ) (unit : List tree.Item) → slice_get (units_of s) i ≡ Some unit → i ≢ u
-    → is_some (defined_for_all unit (init_symbol_of m.name)) ≡ false
+init_undefined : (s : LinkedSet) → IsAcceptedSet s → (u : ℕ) (m : NamedModule) → slice_get s.modules u ≡ Some m → (i : ℕ)
+    (unit : List tree.Item) → slice_get (units_of s) i ≡ Some unit → i ≢ u → is_some (defined_for_all unit (init_symbol_of m.name)) ≡ false
 init_undefined s accepted u m is i unit there other =
     let w = get_unmapped items s.modules i unit there in
     let small = (accepted_at s accepted u m is).bytes in
@@ -262,13 +259,8 @@ same_types [] = refl
 same_types (t ∷ types) = ap (λ ts. t ∷ ts) (same_types types)
 
 abbrev declared_func : Typed → tree.Func
-declared_func symbol = record {
-  is_static = false;
-  result = symbol.1.result;
-  name = symbol.0;
-  params = map (λ t. (t, None)) symbol.1.params;
-  body = None;
-}
+declared_func symbol =
+    record { is_static = false; result = symbol.1.result; name = symbol.0; params = map (λ t. (t, None)) symbol.1.params; body = None }
 
 declaration_links : (s : LinkedSet) → IsAcceptedSet s → (u : ℕ) (m : NamedModule) → slice_get s.modules u ≡ Some m → (j : ℕ) (x : Typed)
     → slice_get (declared_symbols m) j ≡ Some x → Links s u (declared_func x)
@@ -321,28 +313,18 @@ static_item : (P : tree.Func → Type 0) (f : tree.Func) → f.is_static ≡ tru
 static_item P f e = rw e tt
 
 external_item : (P : tree.Func → Type 0) (f : tree.Func) → f.is_static ≡ false → P f → OfItem P (tree.Function f)
-external_item P f e h = go f.is_static e
-  where
-    go : (b : Bool) → b ≡ false → IfAny P (if b then None else Some f)
-    go true e = absurd (cc)
-    go false e = h
+external_item P f e h = subst (λ b. IfAny P (if b then None else Some f)) (sym e) h
 
 abbrev prototype_func : tree.Func → tree.Func
-prototype_func f = record {
-  is_static = f.is_static;
-  result = f.result;
-  name = f.name;
-  params = map (λ (q : tree.Param). (q.0, None)) f.params;
-  body = None;
-}
+prototype_func f = record
+    { is_static = f.is_static; result = f.result; name = f.name; params = map (λ (q : tree.Param). (q.0, None)) f.params; body = None }
 
 objects_external : (P : tree.Func → Type 0) (m : Module) (pointers : List (CType × Name))
     → AllByRecursion (OfItem P) (objects_of m pointers)
 objects_external P m pointers =
     all_append (OfItem P) _ _ (all_images (OfItem P) _ m.tables (λ x. tt))
     (all_append (OfItem P) _ _ (all_images (OfItem P) _ m.memories (λ x. tt))
-    (all_append (OfItem P) _ _ (all_images (OfItem P) _ (numbered m.globals) (λ x. tt))
-    (all_images (OfItem P) _ pointers (λ x. tt))))
+    (all_append (OfItem P) _ _ (all_images (OfItem P) _ (numbered m.globals) (λ x. tt)) (all_images (OfItem P) _ pointers (λ x. tt))))
 
 data_external : (P : tree.Func → Type 0) (m : Module) → AllByRecursion (OfItem P) (data_of m)
 data_external P m = all_flat (OfItem P) _ (numbered m.segments) (λ d. by d.0 d.1 d.1.bytes)
@@ -373,9 +355,7 @@ unit_links s accepted u m is = all_external (Links s u) (items m)
     (all_append (OfItem (Links s u)) _ _ (all_map_at (OfItem (Links s u)) (λ e. tree.Function (export_func m e)) m.tree.exports
     (λ j e at. external_item (Links s u) (export_func m e) (export_external m e).external (export_links s accepted u m is j e at)))
     (all_append (OfItem (Links s u)) _ _ (all_map_at (OfItem (Links s u)) (λ p. tree.Function (part_func m.tree p))
-    (numbered (parts_of m.tree))
-    (λ j p at. static_item (Links s u) (part_func m.tree p) refl))
-    (init_links s accepted u m is, tt)))))))))
+    (numbered (parts_of m.tree)) (λ j p at. static_item (Links s u) (part_func m.tree p) refl)) (init_links s accepted u m is, tt)))))))))
 
 -- ---- all units
 
@@ -406,7 +386,5 @@ units_link s accepted =
     let e : i ≡ 0 + i = omega arith in
     ap (λ j. flat_map (program_unresolved p j) (external_functions (items m))) (sym e)
     ∙ nothing_of_each (Links s i) (program_unresolved p i) (external_functions (items m)) (λ f h. h.1) (unit_links s accepted i m is)) in
-    refusal_stands p
-    ∙ ap (λ refusals. slice_get (refusals ++ flat_map (λ u. flat_map (program_unresolved p u.0) (external_functions u.1))
-    (numbered p.units)) 0) no_twice
-    ∙ ap (λ (refusals : List LinkRefusal). slice_get refusals 0) no_unresolved
+    refusal_stands p ∙ ap (λ refusals. slice_get (refusals ++ flat_map (λ u. flat_map (program_unresolved p u.0) (external_functions u.1))
+    (numbered p.units)) 0) no_twice ∙ ap (λ (refusals : List LinkRefusal). slice_get refusals 0) no_unresolved

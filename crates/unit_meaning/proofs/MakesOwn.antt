@@ -1,12 +1,12 @@
 -- Code changes only objects that are made, and a module's tasks make only its own: of a module of which
 -- nothing is made, nothing is made by others.
 use Rattle.unit_meaning.proofs.Common.{reverse, take, equal_types, types_of, ImportKind, ◌≡◌, ℕ, zero, suc, Bool, true, false, ◌≢◌, List}
-use Rattle.unit_meaning.proofs.Common.{[], ◌∷◌, ◌++◌, length, drop, if◌then◌else◌, slice_get, slice_set, Some, None, Option, sym, refl, ap}
-use Rattle.unit_meaning.proofs.Common.{◌∙◌, ⊤, if_found, Ask, Event, Gave, HostTrapped, Reply, Trail, bits, equal_func_types, is_result}
-use Rattle.unit_meaning.proofs.Common.{zeros, FuncType, TrapKind, ValType, Value, I32, I64, declared_locals, Code, GlobalGet, I32Const}
-use Rattle.unit_meaning.proofs.Common.{I64Const, Kind, end_code, then_code, BodyEntry, ElementEntry, Import, ImportMemory, ImportTable}
-use Rattle.unit_meaning.proofs.Common.{SegmentEntry, Back, CallStops, Called, GlobalAddress, LinkedSet, ModuleFunc, as_memory, as_table}
-use Rattle.unit_meaning.proofs.Common.{func_at, global_at, import_at, memory_at, table_at, type_at, and_then, do_tasks}
+use Rattle.unit_meaning.proofs.Common.{[], ◌∷◌, ◌++◌, length, drop, slice_get, slice_set, Some, None, Option, sym, refl, ap, ◌∙◌, ⊤}
+use Rattle.unit_meaning.proofs.Common.{if_found, Ask, Event, Gave, Reply, Trail, bits, equal_func_types, is_result, zeros, FuncType}
+use Rattle.unit_meaning.proofs.Common.{TrapKind, ValType, Value, I32, I64, declared_locals, Code, GlobalGet, I32Const, I64Const, Kind}
+use Rattle.unit_meaning.proofs.Common.{end_code, then_code, BodyEntry, ElementEntry, Import, ImportMemory, ImportTable, SegmentEntry, Back}
+use Rattle.unit_meaning.proofs.Common.{CallStops, Called, GlobalAddress, LinkedSet, ModuleFunc, as_memory, as_table, func_at, global_at}
+use Rattle.unit_meaning.proofs.Common.{import_at, memory_at, table_at, type_at, and_then, do_tasks}
 use Rattle.w2c_base.specs.declared.value.ValType.TheVariants as type
 use Rattle.w2c_base.specs.declared.trap.TrapKind.TheVariants as trap
 use Rattle.wasm_tree.specs.Instructions.{Otherwise, no_else, else_code, Unreachable, Nop, Return, Drop, Select, MemorySize, MemoryGrow}
@@ -18,20 +18,11 @@ use Rattle.wasm_meaning.specs.Operators.{Answer, Gives, Traps, binary}
 use Rattle.wasm_meaning.specs.LinkedSet.{FuncAddress, HostFunc, func_type, body_of}
 use Rattle.wasm_meaning.specs.Store as store
 use Rattle.wasm_meaning.specs.Execution as exec
-use Rattle.wasm_meaning.specs.Execution.{Result, Normal, Branch, Returned, Stops, Calls, Done, Leaves, NoRule, Stuck}
+use Rattle.wasm_meaning.specs.Execution.{Result, Normal, Branch, Returned, Stops, Calls, Done, Leaves, NoRule}
 use Rattle.wasm_meaning.specs.Run as wasm
 use Rattle.unit_meaning.proofs.Untouched.{store_of, TasksMakeOwn}
+use Rattle.c_meaning.proofs.StepsKeep.{either_way, where_there}
 use Rattle.init_meaning.proofs.OwnObjects.{set_others}
-
--- what is chosen has what each choice has
-choice : {A : Type 0} (P : A → Type 0) (b : Bool) (x y : A) → P x → P y → P (if b then x else y)
-choice P true x y h k = h
-choice P false x y h k = k
-
-optional : {A B : Type 0} (P : B → Type 0) (o : Option A) (none : B) (some : A → B) → P none → ((a : A) → o ≡ Some a → P (some a))
-    → P (elim o [ None ↦ none | Some a ↦ some a ])
-optional P None none some h k = h
-optional P (Some a) none some h k = k a refl
 
 abbrev state_of : Result → store.State
 state_of (Normal left stack state) = state
@@ -49,13 +40,12 @@ module _ (v : ℕ) where
   -- of another module
   changed_other : (made : store.Store) (owner : ℕ) (change : store.Objects → store.Objects) → v ≢ owner → Kept made
       → Kept (store.with_objects made owner change)
-  changed_other made owner change differ kept = optional Kept (slice_get made owner) made (λ o. slice_set made owner (change o)) kept
-      (λ o is. set_others made owner v (change o) differ ∙ kept)
+  changed_other made owner change differ kept =
+      where_there Kept (slice_get made owner) kept (λ o is. set_others made owner v (change o) differ ∙ kept)
 
   -- of an object that has something
   changed : {A : Type 0} (part : store.Objects → Option A) (made : store.Store) (owner : ℕ) (old : A)
-      (change : store.Objects → store.Objects)
-      → part store.no_objects ≡ None → if_found (slice_get made owner) part ≡ Some old → Kept made
+      (change : store.Objects → store.Objects) → part store.no_objects ≡ None → if_found (slice_get made owner) part ≡ Some old → Kept made
       → Kept (store.with_objects made owner change)
   changed part made owner old change none found kept = changed_other made owner change (λ same.
       let is : part store.no_objects ≡ Some old
@@ -97,8 +87,10 @@ module _ (v : ℕ) where
   answered_kept t (Traps kind) stack state kept = tt
 
   selected_kept : (stack : List Value) (state : store.State) → Kept state.store → DoneKept (exec.selected stack state)
-  selected_kept (I32 zero ∷ second ∷ first ∷ stack) state kept = choice DoneKept _ (Leaves (second ∷ stack) state) NoRule kept tt
-  selected_kept (I32 (suc c) ∷ second ∷ first ∷ stack) state kept = choice DoneKept _ (Leaves (first ∷ stack) state) NoRule kept tt
+  selected_kept (I32 zero ∷ second ∷ first ∷ stack) state kept =
+      either_way DoneKept _ {x = Leaves (second ∷ stack) state} {y = NoRule} kept tt
+  selected_kept (I32 (suc c) ∷ second ∷ first ∷ stack) state kept =
+      either_way DoneKept _ {x = Leaves (first ∷ stack) state} {y = NoRule} kept tt
   selected_kept _ state kept = tt
 
   pushed_kept : (o : Option Value) (stack : List Value) (state : store.State) → Kept state.store → DoneKept (exec.pushed o stack state)
@@ -107,21 +99,20 @@ module _ (v : ℕ) where
 
   local_kept : (index : ℕ) (x : Value) (stack : List Value) (state : store.State) → Kept state.store
       → DoneKept (exec.local_set index x stack state)
-  local_kept index x stack state kept = optional DoneKept (slice_get state.locals index) NoRule _ tt (λ old is.
-      choice DoneKept _ (Leaves stack (exec.in_locals state (slice_set state.locals index x))) NoRule kept tt)
+  local_kept index x stack state kept = where_there DoneKept (slice_get state.locals index) tt (λ old is.
+      either_way DoneKept _ {x = Leaves stack (exec.in_locals state (slice_set state.locals index x))} {y = NoRule} kept tt)
 
   global_kept : (s : LinkedSet) (g : Option GlobalAddress) (x : Value) (stack : List Value) (state : store.State) → Kept state.store
       → DoneKept (exec.global_set s g x stack state)
   global_kept s None x stack state kept = tt
-  global_kept s (Some g) x stack state kept = optional DoneKept (store.global_in state.store g) NoRule _ tt (λ old found.
-      choice DoneKept (exec.may_set s g x) (Leaves stack (exec.in_store state (store.with_global state.store g x))) NoRule
-      (global_changed state.store g old x found kept) tt)
+  global_kept s (Some g) x stack state kept = where_there DoneKept (store.global_in state.store g) tt (λ old found.
+      either_way DoneKept (exec.may_set s g x) (global_changed state.store g old x found kept) tt)
 
   on_memory_kept : (at : Option ℕ) (state : store.State) (go : ℕ → store.Memory → Done)
       → ((owner : ℕ) (m : store.Memory) → store.memory_in state.store owner ≡ Some m → DoneKept (go owner m))
       → DoneKept (exec.on_memory at state go)
   on_memory_kept None state go h = tt
-  on_memory_kept (Some owner) state go h = optional DoneKept (store.memory_in state.store owner) NoRule (go owner) tt (h owner)
+  on_memory_kept (Some owner) state go h = where_there DoneKept (store.memory_in state.store owner) tt (h owner)
 
   written_kept : (owner : ℕ) (m : store.Memory) (bytes : Option (List ℕ)) (stack : List Value) (state : store.State)
       → Kept state.store → store.memory_in state.store owner ≡ Some m → DoneKept (exec.written owner m bytes stack state)
@@ -151,11 +142,11 @@ module _ (v : ℕ) where
   plain_kept s p (GlobalSet index) (x ∷ stack) state kept = global_kept s (global_at s p index) x stack state kept
   plain_kept s p (Load op arg) (I32 base ∷ stack) state kept =
       on_memory_kept (memory_at s p 0) state _ (λ owner m found. answered_kept _ _ stack state kept)
-  plain_kept s p (Store op arg) (x ∷ I32 base ∷ stack) state kept = choice DoneKept _ _ NoRule
+  plain_kept s p (Store op arg) (x ∷ I32 base ∷ stack) state kept = either_way DoneKept _ {y = NoRule}
       (on_memory_kept (memory_at s p 0) state _ (λ owner m found. written_kept owner m _ stack state kept found)) tt
   plain_kept s p MemorySize stack state kept = on_memory_kept (memory_at s p 0) state _ (λ owner m found. kept)
   plain_kept s p MemoryGrow (I32 more ∷ stack) state kept =
-      on_memory_kept (memory_at s p 0) state _ (λ owner m found. optional DoneKept (store.grown m more) _ _ kept
+      on_memory_kept (memory_at s p 0) state _ (λ owner m found. where_there DoneKept (store.grown m more) kept
       (λ new is. memory_changed state.store owner m new found kept))
   plain_kept s p MemoryCopy (I32 count ∷ I32 from ∷ I32 to ∷ stack) state kept =
       on_memory_kept (memory_at s p 0) state _ (λ owner m found. written_kept owner m _ stack state kept found)
@@ -201,15 +192,13 @@ module _ (v : ℕ) where
       → ((n : ℕ) (stack : List Value) (state : store.State) → Kept state.store → ResultKept (jump n stack state))
       → ResultKept (exec.ended jump under r)
   ended_kept jump under (Branch zero n stack state) kept h = h n stack state kept
-  ended_kept jump under (Branch (suc label) n stack state) kept h = kept
   ended_kept jump under _ kept h = kept
 
   leave_kept : (t : Option ValType) (under : List Value) (r : Result) → ResultKept r → ResultKept (exec.leave t under r)
   leave_kept t under r kept = ended_kept _ under r kept (λ n stack state kept. onto_kept n (exec.top t stack) under state kept)
 
-  turns_kept : (k : ℕ) (body : ℕ → store.State → Result)
-      → ((n : ℕ) (state : store.State) → Kept state.store → ResultKept (body n state)) → (under : List Value) (n : ℕ) (state : store.State)
-      → Kept state.store → ResultKept (exec.turns k body under n state)
+  turns_kept : (k : ℕ) (body : ℕ → store.State → Result) → ((n : ℕ) (state : store.State) → Kept state.store → ResultKept (body n state))
+      → (under : List Value) (n : ℕ) (state : store.State) → Kept state.store → ResultKept (exec.turns k body under n state)
   turns_kept zero body h under n state kept = kept
   turns_kept (suc k) body h under n state kept =
       ended_kept _ under (body n state) (h n state kept) (λ n stack state kept. turns_kept k body h under n state kept)
@@ -221,9 +210,8 @@ module _ (v : ℕ) where
   choose_kept (I32 (suc c) ∷ stack) state first second kept h k = h stack
   choose_kept _ state first second kept h k = kept
 
-  pick_kept : (stack : List Value) (state : store.State) (labels : List ℕ) (default : ℕ) (go : ℕ → List Value → Result)
-      → Kept state.store → ((label : ℕ) (rest : List Value) → ResultKept (go label rest))
-      → ResultKept (exec.pick stack state labels default go)
+  pick_kept : (stack : List Value) (state : store.State) (labels : List ℕ) (default : ℕ) (go : ℕ → List Value → Result) → Kept state.store
+      → ((label : ℕ) (rest : List Value) → ResultKept (go label rest)) → ResultKept (exec.pick stack state labels default go)
   pick_kept (I32 i ∷ stack) state labels default go kept h = h _ stack
   pick_kept _ state labels default go kept h = kept
 
@@ -247,9 +235,8 @@ module _ (v : ℕ) where
   finish_kept : (t : Option ValType) (r : Result) → ResultKept r → CallKept (exec.finish t r)
   finish_kept t (Normal n stack state) kept = gave_kept (exec.gives_all t stack) n state kept
   finish_kept t (Branch zero n stack state) kept = gave_kept (exec.gives_top t stack) n state kept
-  finish_kept t (Branch (suc label) n stack state) kept = kept
   finish_kept t (Returned n stack state) kept = gave_kept (exec.gives_top t stack) n state kept
-  finish_kept t (Stops why state) kept = kept
+  finish_kept t _ kept = kept
 
   module _ (s : LinkedSet) (calls : Calls) (h : CallsKept calls) where
     invoke_kept : (f : FuncAddress) (params : List ValType) (n : ℕ) (stack : List Value) (state : store.State) → Kept state.store
@@ -257,21 +244,20 @@ module _ (v : ℕ) where
     invoke_kept f params n stack state kept =
         let args : List Value = reverse (take (length params) stack) in
         let back : Called = calls f args n state.store state.trail in
-        choice ResultKept (equal_types params (types_of args)) (exec.came_back back (drop (length params) stack) state) (Stops Stuck state)
+        either_way ResultKept (equal_types params (types_of args))
         (came_back_kept back (drop (length params) stack) state (h f args n state.store state.trail kept)) kept
 
     call_kept : (f : Option FuncAddress) (n : ℕ) (stack : List Value) (state : store.State) → Kept state.store
         → ResultKept (exec.call s calls f n stack state)
     call_kept None n stack state kept = kept
     call_kept (Some f) n stack state kept =
-        optional ResultKept (func_type s f) _ _ kept (λ ty is. invoke_kept f ty.params n stack state kept)
+        where_there ResultKept (func_type s f) kept (λ ty is. invoke_kept f ty.params n stack state kept)
 
     element_kept : (e : Option (Option FuncAddress)) (want : FuncType) (n : ℕ) (stack : List Value) (state : store.State)
         → Kept state.store → ResultKept (exec.call_element s calls e want n stack state)
-    element_kept None want n stack state kept = kept
-    element_kept (Some None) want n stack state kept = kept
-    element_kept (Some (Some f)) want n stack state kept = optional ResultKept (func_type s f) _ _ kept (λ ty is.
-        choice ResultKept (equal_func_types ty want) _ _ (invoke_kept f ty.params n stack state kept) kept)
+    element_kept (Some (Some f)) want n stack state kept = where_there ResultKept (func_type s f) kept (λ ty is.
+        either_way ResultKept (equal_func_types ty want) (invoke_kept f ty.params n stack state kept) kept)
+    element_kept _ want n stack state kept = kept
 
     indirect_kept : (t : Option store.Table) (want : Option FuncType) (n : ℕ) (stack : List Value) (state : store.State)
         → Kept state.store → ResultKept (exec.call_indirect s calls t want n stack state)
@@ -327,15 +313,12 @@ module _ (v : ℕ) where
     enter_kept p (Some body) (Some ty) args n made trail kept =
         let state : store.State = record { locals = args ++ zeros (declared_locals body.runs); store = made; trail = trail } in
         finish_kept ty.result (exec.exec s calls p body.code n [] state) (code_kept p body.code n [] state kept)
-    enter_kept p (Some body) None args n made trail kept = kept
-    enter_kept p None ty args n made trail kept = kept
+    enter_kept p _ _ args n made trail kept = kept
 
   replied_kept : (ty : Option FuncType) (replies : List Reply) (before : List Event) (a : Ask) (n : ℕ) (made : store.Store)
       → Kept made → CallKept (exec.replied ty replies before a n made)
-  replied_kept None replies before a n made kept = kept
-  replied_kept (Some ty) [] before a n made kept = kept
-  replied_kept (Some ty) (HostTrapped ∷ replies) before a n made kept = kept
-  replied_kept (Some ty) (Gave result ∷ replies) before a n made kept = choice CallKept (is_result ty.result result) _ _ kept kept
+  replied_kept (Some ty) (Gave result ∷ replies) before a n made kept = either_way CallKept (is_result ty.result result) kept kept
+  replied_kept _ _ before a n made kept = kept
 
   calls_kept : (s : LinkedSet) (room : ℕ) → CallsKept (exec.call_within s room)
   calls_kept s zero (HostFunc h f) args n made trail kept =
@@ -355,7 +338,7 @@ module _ (v : ℕ) where
 
   tested_kept : (passes : Bool) (kind : TrapKind) (n : ℕ) (made : store.Store) (trail : Trail) → Kept made
       → CallKept (wasm.tested passes kind n made trail)
-  tested_kept passes kind n made trail kept = choice CallKept passes _ _ kept kept
+  tested_kept passes kind n made trail kept = either_way CallKept passes kept kept
 
   table_kept : (s : LinkedSet) (p : ℕ) (e : ElementEntry) (made : store.Store) (trail : Trail) (go : ℕ → store.Table → ℕ → Called)
       → Kept made → ((owner : ℕ) (t : store.Table) (offset : ℕ) → store.table_in made owner ≡ Some t → CallKept (go owner t offset))

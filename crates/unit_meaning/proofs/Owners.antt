@@ -55,11 +55,10 @@ global_import_at (x ∷ imports) k g e = go x.kind refl k e (λ k e. global_impo
         → (i : Import) × (slice_get (cond (is_global kind) (x ∷ filter is_global_import imports) (filter is_global_import imports)) k
         ≡ Some i) × (i.kind ≡ ImportGlobal g.0 g.1)
     go (ImportFunc t) is k e behind = behind k e
-    go (ImportTable l) is k e behind = behind k e
-    go (ImportMemory l) is k e behind = behind k e
     go (ImportGlobal t mutable) is zero e behind = let same : (t, mutable) ≡ g = same_Some {A = ValType × Bool} (t, mutable) g e in
         (x, refl, is ∙ ap (λ (g : ValType × Bool). ImportGlobal g.0 g.1) same)
     go (ImportGlobal t mutable) is (suc k) e behind = behind k e
+    go _ is k e behind = behind k e
 
 -- ---- owners
 
@@ -85,18 +84,15 @@ module _ (s : LinkedSet) (u : ℕ) (m : NamedModule) (module_is : slice_get s.mo
 
   -- the index of an import stands for what the import stands for
   stands : {A : Type 0} (space : IndexSpaces → List (Option A)) (wanted : Import → Bool) (as_wanted : External → Option A)
-      (own : List (Option A)) (k : ℕ) (i : Import) (x : External)
-      → space (spaces_of (import_at s u) u m.tree)
+      (own : List (Option A)) (k : ℕ) (i : Import) (x : External) → space (spaces_of (import_at s u) u m.tree)
       ≡ map (λ i. if_found (import_at s u i) as_wanted) (filter wanted m.tree.imports) ++ own
       → slice_get (filter wanted m.tree.imports) k ≡ Some i → import_at s u i ≡ Some x
       → if_found (slice_get (instances s) u) (λ i. at_index (space i.spaces) k) ≡ as_wanted x
   stands {A} space wanted as_wanted own k i x space_is at is =
-      looked_up space s u m k module_is
-      ∙ ap (λ (entries : List (Option A)). at_index entries k) space_is
+      looked_up space s u m k module_is ∙ ap (λ (entries : List (Option A)). at_index entries k) space_is
       ∙ ap (λ (found : Option (Option A)). if_found found (λ entry. entry))
       (get_front (map (λ i. if_found (import_at s u i) as_wanted) (filter wanted m.tree.imports)) own k
-      (if_found (import_at s u i) as_wanted)
-      (get_mapped (λ i. if_found (import_at s u i) as_wanted) (filter wanted m.tree.imports) k i at))
+      (if_found (import_at s u i) as_wanted) (get_mapped (λ i. if_found (import_at s u i) as_wanted) (filter wanted m.tree.imports) k i at))
       ∙ ap (λ (found : Option External). if_found found as_wanted) is
 
   object_of : (found : Option ℕ) (imports : List Import) (count : Module → ℕ) (owner : ℕ) → found ≡ Some owner
@@ -113,8 +109,7 @@ module _ (s : LinkedSet) (u : ℕ) (m : NamedModule) (module_is : slice_get s.mo
 
   table_of : (owner : ℕ) → table_at s u 0 ≡ Some owner → (slice_get (table_imports m.tree) 0 ≡ None → owner ≡ u) → TableOwner s u m.tree
   table_of owner is own =
-      object_of (table_at s u 0) (table_imports m.tree) (λ tree. length tree.tables) owner is
-      (table_owner s u m 0 owner module_is is) own
+      object_of (table_at s u 0) (table_imports m.tree) (λ tree. length tree.tables) owner is (table_owner s u m 0 owner module_is is) own
 
   memory_of : (owner : ℕ) → memory_at s u 0 ≡ Some owner → (slice_get (memory_imports m.tree) 0 ≡ None → owner ≡ u) → MemoryOwner s u m.tree
   memory_of owner is own =
@@ -130,8 +125,7 @@ module _ (s : LinkedSet) (u : ℕ) (m : NamedModule) (module_is : slice_get s.mo
       let h : HasObject s u r.0 (λ tree. length tree.tables) = earlier i (IsTable r.0) r.1 in (
         table_of r.0
             (stands (λ spaces. spaces.tables) is_table_import as_table (replicate (length m.tree.tables) (Some u)) 0 i (IsTable r.0)
-            refl at r.1)
-            (λ none. absurd (none-some i (sym none ∙ at))),
+            refl at r.1) (λ none. absurd (none-some i (sym none ∙ at))),
         h.early,
         r.1,
       )
@@ -145,8 +139,7 @@ module _ (s : LinkedSet) (u : ℕ) (m : NamedModule) (module_is : slice_get s.mo
       let h : HasObject s u r.0 (λ tree. length tree.memories) = earlier i (IsMemory r.0) r.1 in (
         memory_of r.0
             (stands (λ spaces. spaces.memories) is_memory_import as_memory (replicate (length m.tree.memories) (Some u)) 0 i (IsMemory r.0)
-            refl at r.1)
-            (λ none. absurd (none-some i (sym none ∙ at))),
+            refl at r.1) (λ none. absurd (none-some i (sym none ∙ at))),
         h.early,
         r.1,
       )
@@ -177,11 +170,8 @@ module _ (s : LinkedSet) (u : ℕ) (m : NamedModule) (module_is : slice_get s.mo
           → option_map {U = ValType × Bool} (λ (e : GlobalEntry). (e.ty, e.mutable)) found ≡ Some (t, mutable)
           → (entry : GlobalEntry) × (slice_get tree.globals g.number ≡ Some entry) × (entry.ty ≡ t)
       inner tree None is e = absurd cc
-      inner tree (Some entry) is e = (
-        entry,
-        is,
-        ap (λ (x : ValType × Bool). x.0) (same_Some {A = ValType × Bool} (entry.ty, entry.mutable) (t, mutable) e),
-      )
+      inner tree (Some entry) is e =
+          (entry, is, ap (λ (x : ValType × Bool). x.0) (same_Some {A = ValType × Bool} (entry.ty, entry.mutable) (t, mutable) e))
 
       go : (found : Option Module) → module_at s g.owner ≡ found
           → if_found found (λ m. option_map {U = ValType × Bool} (λ (e : GlobalEntry). (e.ty, e.mutable)) (slice_get m.globals g.number))
@@ -214,8 +204,7 @@ module _ (s : LinkedSet) (u : ℕ) (m : NamedModule) (module_is : slice_get s.mo
   global_by_import k i t mutable at kind =
       let r = resolved_global s u i t mutable (of_kind is_global_import k i at).0 kind in
       let early : r.0.owner < u = earlier i (IsGlobal r.0) r.1 in (
-        global_of k t mutable r.0
-            (stands (λ spaces. spaces.globals) is_global_import as_global
+        global_of k t mutable r.0 (stands (λ spaces. spaces.globals) is_global_import as_global
             (map (λ k. Some (record { owner = u; number = k })) (range_with_len 0 (length m.tree.globals))) k i (IsGlobal r.0) refl at r.1)
             r.2 (λ none. absurd (none-some i (sym none ∙ at))),
         early,

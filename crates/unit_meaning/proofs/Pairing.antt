@@ -52,12 +52,11 @@ tables_alike p s (Some table) (Some other) h = elements_alike p s table.elements
 pub stores_alike : (p : Program) (s : link.LinkedSet) (w : wasm.WasmRun) (q : ℕ) (made : store.Store) (units : List state.Objects)
     → StoresAgree p s q made units → StoresAlike s w q made units
 stores_alike p s w q [] [] h = tt
-stores_alike p s w q [] (u ∷ units) h = absurd h
-stores_alike p s w q (o ∷ made) [] h = absurd h
 stores_alike p s w q (o ∷ made) (u ∷ units) h = (
   record { memory = memories_alike o.memory _ h.0.memory; table = tables_alike p s o.table _ h.0.table; globals = λ got. h.0.globals },
   stores_alike p s w (suc q) made units h.1,
 )
+stores_alike p s w q _ _ h = absurd h
 
 -- ---- the pairing from one place, with n steps
 
@@ -78,15 +77,9 @@ later p from to n left k way least o = record
     { to = o.to; goes = o.goes; statements = k + o.statements; way = join p k _ _ _ _ way o.way; least = omega (arith, o.least, least) }
 
 behind : (p : Program) (s : link.LinkedSet) (from to : Progress) (n left k : ℕ) (w : wasm.WasmRun) → Reaches p k from to → n ≤ left + k
-    → k + 400 * left ≤ 400 * n
-    → PairedFrom p s to left w → PairedFrom p s from n w
-behind p s from to n left k w way least most (inl e) = inl (record {
-  run = e.run;
-  statements = k + e.statements;
-  way = join p k e.statements _ _ _ way e.way;
-  few = omega (arith, e.few, most);
-  alike = e.alike;
-})
+    → k + 400 * left ≤ 400 * n → PairedFrom p s to left w → PairedFrom p s from n w
+behind p s from to n left k w way least most (inl e) = inl (record
+    { run = e.run; statements = k + e.statements; way = join p k _ _ _ _ way e.way; few = omega (arith, e.few, most); alike = e.alike })
 behind p s from to n left k w way least most (inr o) = inr (o.0, later p from to n left k way least o.1)
 
 -- a stop
@@ -94,8 +87,7 @@ abbrev stopped_run : Pending → exec.Stop → store.Store → Trail → wasm.Wa
 stopped_run pending why made trail = record { phase = pending.phase; events = trail.events; store = made; outcome = wasm.Stopped why }
 
 ends_alike : (p : Program) (s : link.LinkedSet) (pending : Pending) (spare : ℕ) (start from : Progress) (steps n k : ℕ) (why : exec.Stop)
-    (made : store.Store) (trail : Trail)
-    → Reaches p k start from → k + 400 * n + spare ≤ 400 * steps
+    (made : store.Store) (trail : Trail) → Reaches p k start from → k + 400 * n + spare ≤ 400 * steps
     → ((reason : state.Stop) → SameStop why reason → OutcomesAlike (wasm.Stopped why) (c.Stopped reason))
     → EndsAlike p s pending spare from n why made trail → PairedFrom p s start steps (stopped_run pending why made trail)
 ends_alike p s pending spare start from steps n k why made trail way most alike h = inl (record {
@@ -113,8 +105,7 @@ ends_alike p s pending spare start from steps n k why made trail way most alike 
 })
 
 stops : (p : Program) (s : link.LinkedSet) (pending : Pending) (spare : ℕ) (start from : Progress) (steps n k : ℕ) (why : exec.Stop)
-    (made : store.Store) (trail : Trail)
-    → Reaches p k start from → steps ≤ n + k → k + 400 * n + spare ≤ 400 * steps
+    (made : store.Store) (trail : Trail) → Reaches p k start from → steps ≤ n + k → k + 400 * n + spare ≤ 400 * steps
     → StopsAlike p s pending spare from n why made trail → PairedFrom p s start steps (stopped_run pending why made trail)
 stops p s pending spare start from steps n k (exec.Trapped kind) made trail way least most h =
     ends_alike p s pending spare start from steps n k (exec.Trapped kind) made trail way most
@@ -134,23 +125,20 @@ begun_as_called : (p : Program) (pending : Pending) (d : Option Definition) (u :
 begun_as_called p pending None u m args = refl
 begun_as_called p pending (Some d) u m args = go (first_vars d args)
   where
-    go : (vars : Option state.Vars)
-        → begun pending (elim vars [
-          | None ↦ Stops m state.Stuck
-          | Some vars ↦ next m
-              (record { unit = u; item = d.item; result = d.func.result; stmts = d.body.stmts; rest = d.body.stmts; vars = vars }) []
-        ])
-        ≡ go_on p pending (elim vars [
-          | None ↦ Stops m state.Stuck
-          | Some vars ↦ next m
-              (record { unit = u; item = d.item; result = d.func.result; stmts = d.body.stmts; rest = d.body.stmts; vars = vars }) []
-        ])
+    go : (vars : Option state.Vars) → begun pending (elim vars [
+      | None ↦ Stops m state.Stuck
+      | Some vars ↦ next m
+          (record { unit = u; item = d.item; result = d.func.result; stmts = d.body.stmts; rest = d.body.stmts; vars = vars }) []
+    ]) ≡ go_on p pending (elim vars [
+      | None ↦ Stops m state.Stuck
+      | Some vars ↦ next m
+          (record { unit = u; item = d.item; result = d.func.result; stmts = d.body.stmts; rest = d.body.stmts; vars = vars }) []
+    ])
     go None = refl
     go (Some vars) = refl
 
 pub entry_is_called : (p : Program) (m : state.Machine) (last : Phase) (phase : Phase)
-    (f : Option state.FuncAddress) (args : List Value) (entries : List Entry) (u : ℕ) (name : state.Name)
-    → f ≡ Some (state.UnitFunc u name)
+    (f : Option state.FuncAddress) (args : List Value) (entries : List Entry) (u : ℕ) (name : state.Name) → f ≡ Some (state.UnitFunc u name)
     → begin_entry p m last (record { phase = phase; func = f; args = args } ∷ entries)
     ≡ called p (record { phase = phase; entries = entries }) (state.UnitFunc u name) m args []
 entry_is_called p m last phase f args entries u name is =
@@ -167,8 +155,7 @@ call_given p k entries m (Some v) = refl
 
 -- both runs tell it alike
 told_together : (p : Program) (s : link.LinkedSet) (count : ℕ) (m : state.Machine) (made : store.Store) (trail : Trail)
-    (value : Option Value)
-    → Together p s count 0 m made trail → Together p s count 0 (told_end m value) made (call_ended trail value)
+    (value : Option Value) → Together p s count 0 m made trail → Together p s count 0 (told_end m value) made (call_ended trail value)
 told_together p s count m made trail value h = record {
   agrees = record { objects = h.agrees.objects; same_trail = ap (λ (t : Trail). call_ended t value) h.agrees.same_trail };
   ready = record {
@@ -190,19 +177,14 @@ init_pending s u modules calls = record { phase = Init u; entries = init_entries
 -- the pairing behind calls, wherever both runs agree
 abbrev BehindCalls : Program → link.LinkedSet → ℕ → ℕ → List wasm.ListedCall → Type 0
 BehindCalls p s count k calls =
-    (last : Phase) (n : ℕ) (made : store.Store) (trail : Trail) (m : state.Machine)
-    → Together p s count 0 m made trail
-    → PairedFrom p s (begin_entry p m last (call_entries p k calls)) n
-    (wasm.run_tasks s (call_plan k calls) last n made trail)
+    (last : Phase) (n : ℕ) (made : store.Store) (trail : Trail) (m : state.Machine) → Together p s count 0 m made trail
+    → PairedFrom p s (begin_entry p m last (call_entries p k calls)) n (wasm.run_tasks s (call_plan k calls) last n made trail)
 
 one_call : (p : Program) (s : link.LinkedSet) (count k : ℕ) (call : wasm.ListedCall) (calls : List wasm.ListedCall)
-    (ty : FuncType) (frames : List state.Frame) (start from : Progress) (n back : ℕ) (o : exec.Called)
-    → Reaches p 1 start from → back ≤ 2
+    (ty : FuncType) (frames : List state.Frame) (start from : Progress) (n back : ℕ) (o : exec.Called) → Reaches p 1 start from → back ≤ 2
     → ((m : state.Machine) (value : Option Value) → is_result ty.result value ≡ true
-    → Reaches p back (given p (call_pending p k calls) m value frames)
-    (given p (call_pending p k calls) m value []))
-    → CallFollows p s count 0 (call_pending p k calls) frames ty from n o
-    → BehindCalls p s count (suc k) calls
+    → Reaches p back (given p (call_pending p k calls) m value frames) (given p (call_pending p k calls) m value []))
+    → CallFollows p s count 0 (call_pending p k calls) frames ty from n o → BehindCalls p s count (suc k) calls
     → PairedFrom p s start (suc n) (wasm.then_run o (record { phase = Call k; place = 0; task = wasm.CallExport call })
     (wasm.run_tasks s (call_plan (suc k) calls) (Call k)))
 one_call p s count k call calls ty frames start from n back (exec.Back left value made trail) first few gives h more =
@@ -214,14 +196,12 @@ one_call p s count k call calls ty frames start from n back (exec.Back left valu
     (more (Call k) left made (call_ended trail value) (told_end h.machine value)
     (told_together p s count h.machine made trail value h.together))
 one_call p s count k call calls ty frames start from n back (exec.CallStops why made trail) first few gives h more =
-    stops p s (call_pending p k calls) call_spare start from
-    (suc n) n 1 why made trail first (omega arith) (omega arith) h
+    stops p s (call_pending p k calls) call_spare start from (suc n) n 1 why made trail first (omega arith) (omega arith) h
 
 calls_paired : (s : link.LinkedSet) (count : ℕ) → length s.modules ≤ count
     → CallsFollow (program_of s) s count 1024 (exec.call_within s 1024)
     → (k : ℕ) (calls : List wasm.ListedCall) → AllByRecursion (IsWrapped s) calls
-    → AllByRecursion (λ (call : wasm.ListedCall). AllByRecursion IsNumber call.args) calls
-    → BehindCalls (program_of s) s count k calls
+    → AllByRecursion (λ (call : wasm.ListedCall). AllByRecursion IsNumber call.args) calls → BehindCalls (program_of s) s count k calls
 calls_paired s count all follow k [] wrapped numbers last n made trail m together = inl (record {
   run = over (record { phase = last; entries = [] }) m c.Ended;
   statements = 0;
@@ -271,13 +251,12 @@ calls_paired s count all follow k (call ∷ calls) wrapped numbers last (suc n) 
 -- lists of the same types
 same_at : {A B : Type 0} (f : A → B) (xs ys : List A) (i : ℕ) (x : A) → map f ys ≡ map f xs → slice_get xs i ≡ Some x
     → (y : A) × (slice_get ys i ≡ Some y) × (f y ≡ f x)
-same_at f [] ys i x e found = absurd (cc)
-same_at f (x' ∷ xs) [] i x e found = absurd (cc)
 same_at f (x' ∷ xs) (y ∷ ys) zero x e found =
     let is : x' ≡ x = cc in
     let head : f y ≡ f x' = cc in
     (y, refl, head ∙ ap f is)
 same_at f (x' ∷ xs) (y ∷ ys) (suc i) x e found = let tail : map f ys ≡ map f xs = cc in same_at f xs ys i x tail found
+same_at f _ _ i x e found = absurd (cc)
 
 -- modules from number u on, of which nothing is made
 abbrev pub AreUntouched : link.LinkedSet → ℕ → state.Machine → store.Store → Type 0
@@ -285,8 +264,7 @@ AreUntouched s u machine made = (v : ℕ) (m : link.NamedModule) → u ≤ v →
 
 untouched_behind : (s : link.LinkedSet) (u : ℕ) (machine after : state.Machine) (made made' : store.Store)
     → ((v : ℕ) → v ≢ u → slice_get made v ≡ Some store.no_objects → slice_get made' v ≡ Some store.no_objects)
-    → map object_types after.units ≡ map object_types machine.units
-    → AreUntouched s u machine made → AreUntouched s (suc u) after made'
+    → map object_types after.units ≡ map object_types machine.units → AreUntouched s u machine made → AreUntouched s (suc u) after made'
 untouched_behind s u machine after made made' store_kept types_kept before v m le is =
     let old : IsUntouched v m machine made = before v m (omega arith) is in
     let there = same_at object_types machine.units after.units v old.now types_kept old.unit in
@@ -301,26 +279,21 @@ untouched_behind s u machine after made made' store_kept types_kept before v m l
 abbrev BehindModules : link.LinkedSet → ℕ → List link.NamedModule → List wasm.ListedCall → Type 0
 BehindModules s u modules calls =
     (last : Phase) (n : ℕ) (made : store.Store) (trail : Trail) (m : state.Machine)
-    → Together (program_of s) s u 0 m made trail → AreUntouched s u m made
-    → PairedFrom (program_of s) s (begin_entry (program_of s) m last
+    → Together (program_of s) s u 0 m made trail → AreUntouched s u m made → PairedFrom (program_of s) s (begin_entry (program_of s) m last
     (init_entries u modules (call_entries (program_of s) 0 calls))) n
     (wasm.run_tasks s (module_plan u modules (call_plan 0 calls)) last n made trail)
 
 one_module : (s : link.LinkedSet) (u : ℕ) (modules : List link.NamedModule) (calls : List wasm.ListedCall)
-    (from : Progress) (n : ℕ) (o : exec.Called)
-    → InitFollows (program_of s) s u
-    (init_pending s u modules calls) [] from n o
+    (from : Progress) (n : ℕ) (o : exec.Called) → InitFollows (program_of s) s u (init_pending s u modules calls) [] from n o
     → ((k : ℕ) (machine : state.Machine) → Reaches (program_of s) k from
     (begin_entry (program_of s) machine (Init u) (init_entries (suc u) modules (call_entries (program_of s) 0 calls)))
-    → AreUntouched s (suc u) machine (store_of o))
-    → BehindModules s (suc u) modules calls
+    → AreUntouched s (suc u) machine (store_of o)) → BehindModules s (suc u) modules calls
     → PairedFrom (program_of s) s from n (behind_module o u (wasm.run_tasks s (module_plan (suc u) modules (call_plan 0 calls)) (Init u)))
 one_module s u modules calls from n (exec.Back left value made trail) h untouched more =
     behind (program_of s) s from _ n left h.statements _ h.way h.paid.least (omega (arith, h.paid.most))
     (more (Init u) left made trail h.machine h.together (untouched h.statements h.machine h.way))
 one_module s u modules calls from n (exec.CallStops why made trail) h untouched more =
-    stops (program_of s) s
-    (init_pending s u modules calls) 0 from
+    stops (program_of s) s (init_pending s u modules calls) 0 from
     from n n 0 why made trail (stays (program_of s) from) (omega arith) (omega arith) h
 
 -- what is behind an item of a list
@@ -359,11 +332,9 @@ modules_paired instantiated bodies serve wrapped s accepted calls are numbers u
     let kept : (k : ℕ) (machine : state.Machine) → Reaches p k (called p pending (state.UnitFunc u name) m [] [])
     (begin_entry p machine (Init u) entries) → AreUntouched s (suc u) machine (store_of o)
     = λ k machine way. untouched_behind s u m machine made (store_of o)
-    (λ v differ. tasks_make_own s u v (wasm.tasks_of first.tree) n made trail differ)
-    (sym (entry_units p machine (Init u) entries)
+    (λ v differ. tasks_make_own s u v (wasm.tasks_of first.tree) n made trail differ) (sym (entry_units p machine (Init u) entries)
     ∙ ap (λ (x : Progress). map object_types (units_of x)) (sym way.there)
-    ∙ types_stay p k (called p pending (state.UnitFunc u name) m [] [])
-    ∙ ap (λ (x : Progress). map object_types (units_of x)) (sym begins)
+    ∙ types_stay p k (called p pending (state.UnitFunc u name) m [] []) ∙ ap (λ (x : Progress). map object_types (units_of x)) (sym begins)
     ∙ entry_units p m last (init_entries u (first ∷ modules) (call_entries p 0 calls)))
     untouched in
     rw begins (subst (PairedFrom p s (called p pending (state.UnitFunc u name) m [] []) n)
@@ -394,13 +365,11 @@ runs_paired instantiated bodies serve wrapped inits s accepted calls replies n l
     let trail : Trail = record { replies = replies; events = [] } in
     let paired = modules_paired instantiated bodies serve wrapped s accepted calls
     (all_wrapped s accepted wrapped calls listing) (all_numbers s calls listing) 0 s.modules refl
-    (Init 0) n made trail (fresh p replies) (starts_together s replies)
-    (λ v m le is. starts_untouched s replies v m is) in
+    (Init 0) n made trail (fresh p replies) (starts_together s replies) (λ v m le is. starts_untouched s replies v m is) in
     rw (entries_are p s.modules calls (inits s accepted)) (rw (plan_is s calls) paired)
 
 out_with : (p : Program) (s : link.LinkedSet) (calls : List wasm.ListedCall) (replies : List Reply) (n : ℕ)
-    → GoesOn p (c_start p (map symbol_call calls) replies) n
-    → (c_run p (map symbol_call calls) n replies).outcome ≡ c.OutOfSteps
+    → GoesOn p (c_start p (map symbol_call calls) replies) n → (c_run p (map symbol_call calls) n replies).outcome ≡ c.OutOfSteps
 out_with p s calls replies n h =
     run_shorter p (map symbol_call calls) replies n h.statements h.least
     (going_is_out p (map symbol_call calls) replies h.statements (subst IsGoing (sym h.way.there) h.goes))
@@ -419,14 +388,12 @@ units_are_paired instantiated bodies serve wrapped inits s accepted calls replie
 -- ---- both directions, and that no run is undefined or stuck
 
 no_undefined : (o : wasm.Outcome) (kind : ℕ) (place : state.Place) → OutcomesAlike o (c.Stopped (state.Undefined kind place)) → ⊥
-no_undefined wasm.Ended kind place h = h
 no_undefined (wasm.Stopped (exec.Trapped k)) kind place h = h
-no_undefined (wasm.Stopped _) kind place h = h
+no_undefined _ kind place h = h
 
 no_stuck : (o : wasm.Outcome) → OutcomesAlike o (c.Stopped state.Stuck) → ⊥
-no_stuck wasm.Ended h = h
 no_stuck (wasm.Stopped (exec.Trapped k)) h = h
-no_stuck (wasm.Stopped _) h = h
+no_stuck _ h = h
 
 no_stuck_module : (o : c.Outcome) → OutcomesAlike (wasm.Stopped exec.Stuck) o → ⊥
 no_stuck_module c.Ended h = h
@@ -467,8 +434,7 @@ never_stops s paired = record {
     module_never_stuck : (calls : List wasm.ListedCall) (replies : List Reply) (n : ℕ)
         → (wasm.wasm_run s calls n replies).outcome ≡ wasm.Stopped exec.Stuck → Paired s calls replies n → ⊥
     module_never_stuck calls replies n stopped (inl alike) =
-        no_stuck_module (c_run_of (program_of s) calls (400 * n + 400) replies).outcome
-        (rw stopped at alike.outcome)
+        no_stuck_module (c_run_of (program_of s) calls (400 * n + 400) replies).outcome (rw stopped at alike.outcome)
     module_never_stuck calls replies n stopped (inr out) = let wrong : wasm.Stopped exec.Stuck ≡ wasm.Stopped exec.OutOfSteps = sym stopped
         ∙ out.0 in grind arith
 

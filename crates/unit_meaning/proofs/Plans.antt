@@ -25,8 +25,7 @@ call_plan k (c ∷ calls) = record { phase = Call k; place = 0; task = CallExpor
 
 modules_planned : (u : ℕ) (modules : List NamedModule) (rest : List Planned)
     → flat_map (λ (m : ℕ × NamedModule). map (λ t. record { phase = Init m.0; place = m.0; task = t }) (tasks_of m.1.tree))
-    (zip (range_with_len u (length modules)) modules) ++ rest
-    ≡ module_plan u modules rest
+    (zip (range_with_len u (length modules)) modules) ++ rest ≡ module_plan u modules rest
 modules_planned u [] rest = refl
 modules_planned u (m ∷ modules) rest =
     let next : u + 1 ≡ suc u = omega arith in
@@ -46,8 +45,7 @@ calls_planned k (c ∷ calls) =
 pub plan_is : (s : LinkedSet) (calls : List ListedCall) → plan_of s calls ≡ module_plan 0 s.modules (call_plan 0 calls)
 plan_is s calls =
     ap (λ plan. flat_map (λ (m : ℕ × NamedModule). map (λ t. record { phase = Init m.0; place = m.0; task = t }) (tasks_of m.1.tree))
-    (numbered s.modules) ++ plan) (calls_planned 0 calls)
-    ∙ modules_planned 0 s.modules (call_plan 0 calls)
+    (numbered s.modules) ++ plan) (calls_planned 0 calls) ∙ modules_planned 0 s.modules (call_plan 0 calls)
 
 -- ---- the entries
 
@@ -66,8 +64,7 @@ init_func_of m = UnitFunc m.0 (init_symbol_of m.1.name)
 inits_entered : (u : ℕ) (modules : List NamedModule) (rest : List Entry)
     → map (λ (f : ℕ × FuncAddress). record { phase = Init f.0; func = Some f.1; args = [] })
     (zip (range_with_len u (length (map init_func_of (zip (range_with_len u (length modules)) modules))))
-    (map init_func_of (zip (range_with_len u (length modules)) modules))) ++ rest
-    ≡ init_entries u modules rest
+    (map init_func_of (zip (range_with_len u (length modules)) modules))) ++ rest ≡ init_entries u modules rest
 inits_entered u [] rest = refl
 inits_entered u (m ∷ modules) rest =
     let next : u + 1 ≡ suc u = omega arith in
@@ -76,8 +73,7 @@ inits_entered u (m ∷ modules) rest =
 
 calls_entered : (p : Program) (k : ℕ) (calls : List ListedCall)
     → map (λ (c : ℕ × SymbolCall). record { phase = Call c.0; func = called_func p c.1; args = c.1.args })
-    (zip (range_with_len k (length (map symbol_call calls))) (map symbol_call calls))
-    ≡ call_entries p k calls
+    (zip (range_with_len k (length (map symbol_call calls))) (map symbol_call calls)) ≡ call_entries p k calls
 calls_entered p k [] = refl
 calls_entered p k (c ∷ calls) =
     let next : k + 1 ≡ suc k = omega arith in
@@ -116,8 +112,7 @@ tasks_keep m = (
       (all_append KeepsTrail _ _ (all_flat KeepsTrail _ m.elements
       (λ e. all_images KeepsTrail (λ f. WriteElement e f.0 f.1.index) (numbered e.funcs) (λ f value trail. refl)))
       (all_append KeepsTrail _ _ (all_flat KeepsTrail _ m.segments
-      (λ d. all_images KeepsTrail (λ b. WriteByte d b.0 b.1) (numbered d.bytes) (λ b value trail. refl)))
-      (start_keeps m.start)))))))),
+      (λ d. all_images KeepsTrail (λ b. WriteByte d b.0 b.1) (numbered d.bytes) (λ b value trail. refl))) (start_keeps m.start)))))))),
 )
 
 -- ---- the run over a module's tasks is what they come to, and the run behind
@@ -127,15 +122,13 @@ behind_module (Back left value made trail) u go = go left made trail
 behind_module (CallStops why made trail) u go = record { phase = Init u; events = trail.events; store = made; outcome = Stopped why }
 
 task_by_task : (s : LinkedSet) (u : ℕ) (tasks : List Task) (rest : List Planned) → AllByRecursion KeepsTrail tasks
-    → (n : ℕ) (made : store.Store) (trail : Trail)
-    → run_tasks s (map (planned u) tasks ++ rest) (Init u) n made trail
+    → (n : ℕ) (made : store.Store) (trail : Trail) → run_tasks s (map (planned u) tasks ++ rest) (Init u) n made trail
     ≡ behind_module (do_tasks s u tasks n made trail) u (run_tasks s rest (Init u))
 task_by_task s u [] rest keep n made trail = refl
 task_by_task s u (t ∷ tasks) rest keep n made trail =
     go (paid (is_free t) n made trail (λ left. do_task s u t left made trail)) (task_by_task s u tasks rest keep.1)
   where
-    go : (o : Called)
-        → ((n : ℕ) (made : store.Store) (trail : Trail) → run_tasks s (map (planned u) tasks ++ rest) (Init u) n made trail
+    go : (o : Called) → ((n : ℕ) (made : store.Store) (trail : Trail) → run_tasks s (map (planned u) tasks ++ rest) (Init u) n made trail
         ≡ behind_module (do_tasks s u tasks n made trail) u (run_tasks s rest (Init u)))
         → then_run o (planned u t) (run_tasks s (map (planned u) tasks ++ rest) (Init u))
         ≡ behind_module (and_then o (do_tasks s u tasks)) u (run_tasks s rest (Init u))

@@ -1,14 +1,14 @@
 -- What an export or an import of a table, a memory or a global stands for: its function gives a pointer to the
 -- owner's object.
 use Rattle.w2c_base.proofs.Places.{get_before}
-use Rattle.unit_meaning.proofs.Common.{◌≡◌, ℕ, zero, suc, ◌+◌, ◌-◌, ◌<◌, ◌≤◌, Bool, true, false, List, [], ◌∷◌, ◌++◌, map, length}
-use Rattle.unit_meaning.proofs.Common.{replicate, if◌then◌else◌, slice_get, Some, None, filter, Option, sym, refl, ap, ◌∙◌, inl, inr, arith}
-use Rattle.unit_meaning.proofs.Common.{length-map, length-range_with_len, slice_get_past, slice_get_within, range_with_len, at_index}
-use Rattle.unit_meaning.proofs.Common.{if_found, imported_globals, is_global_import, is_memory_import, is_table_import, Import, External}
+use Rattle.unit_meaning.proofs.Common.{◌≡◌, ℕ, zero, suc, ◌+◌, ◌-◌, ◌<◌, ◌≤◌, Bool, List, ◌++◌, map, length, replicate}
+use Rattle.unit_meaning.proofs.Common.{slice_get, Some, None, filter, Option, sym, ap, ◌∙◌, inl, inr, arith, length-map}
+use Rattle.unit_meaning.proofs.Common.{length-range_with_len, slice_get_past, slice_get_within, range_with_len, at_index, if_found}
+use Rattle.unit_meaning.proofs.Common.{imported_globals, is_global_import, is_memory_import, is_table_import, Import, External}
 use Rattle.unit_meaning.proofs.Common.{GlobalAddress, Instance, IsFunc, IsGlobal, IsMemory, IsTable, LinkedSet, NamedModule, as_global}
 use Rattle.unit_meaning.proofs.Common.{as_memory, as_table, import_at, instances, meaning_of, ObjectAddress, first_global, global_name}
 use Rattle.unit_meaning.proofs.Common.{memory_name, table_name, global_imports, memory_imports, table_imports, get_behind, get_numbered}
-use Rattle.unit_meaning.proofs.Common.{get_unmapped, less_or_not}
+use Rattle.unit_meaning.proofs.Common.{get_kept, get_unmapped, less_or_not}
 use Rattle.unit_meaning.proofs.Instances.{IsPlaced, earlier_is, spaces_at}
 use Rattle.c_init.proofs.Small.{some_same, there_in}
 
@@ -20,18 +20,6 @@ target_of s (IsMemory owner) = Some (record { unit = owner; name = memory_name }
 target_of s (IsGlobal g) = Some (record { unit = g.owner; name = global_name (first_global s g.owner + g.number) })
 
 -- ---- index spaces
-
-pub filter_at : {A : Type 0} (p : A → Bool) (xs : List A) (k : ℕ) (a : A) → slice_get (filter p xs) k ≡ Some a
-    → (j : ℕ) × (slice_get xs j ≡ Some a) × (p a ≡ true)
-filter_at p [] k a at = absurd (cc)
-filter_at {A} p (x ∷ xs) k a at = go k (p x) refl at (λ k. filter_at p xs k a)
-  where
-    go : (k : ℕ) (b : Bool) → p x ≡ b → slice_get (if b then x ∷ filter p xs else filter p xs) k ≡ Some a
-        → ((k : ℕ) → slice_get (filter p xs) k ≡ Some a → (j : ℕ) × (slice_get xs j ≡ Some a) × (p a ≡ true))
-        → (j : ℕ) × (slice_get (x ∷ xs) j ≡ Some a) × (p a ≡ true)
-    go zero true e at others = let same : x ≡ a = cc in (0, ap Some same, ap p (sym same) ∙ e)
-    go (suc k) true e at others = let h = others k at in (suc h.0, h.1, h.2)
-    go k false e at others = let h = others k at in (suc h.0, h.1, h.2)
 
 pub data SpaceCase {A : Type 0} (imports : List Import) (stands : Import → Option A) (own : List (Option A)) (k : ℕ) (x : A) : Type 0 where
   AnImport : (i : Import) → (at : slice_get imports k ≡ Some i) → (is : stands i ≡ Some x) → SpaceCase imports stands own k x
@@ -67,23 +55,16 @@ replicated (suc count) a b (suc j) e = replicated count a b j e
 
 -- an external value of its kind
 pub as_table_is : (o : Option External) (owner : ℕ) → if_found o as_table ≡ Some owner → o ≡ Some (IsTable owner)
-as_table_is None w e = absurd (cc)
-as_table_is (Some (IsFunc g)) w e = absurd (cc)
 as_table_is (Some (IsTable v)) w e = let same : v ≡ w = cc in ap (λ x. Some (IsTable x)) same
-as_table_is (Some _) w e = absurd (cc)
+as_table_is _ w e = absurd (cc)
 
 pub as_memory_is : (o : Option External) (owner : ℕ) → if_found o as_memory ≡ Some owner → o ≡ Some (IsMemory owner)
-as_memory_is None w e = absurd (cc)
-as_memory_is (Some (IsFunc g)) w e = absurd (cc)
 as_memory_is (Some (IsMemory v)) w e = let same : v ≡ w = cc in ap (λ x. Some (IsMemory x)) same
-as_memory_is (Some _) w e = absurd (cc)
+as_memory_is _ w e = absurd (cc)
 
 pub as_global_is : (o : Option External) (g : GlobalAddress) → if_found o as_global ≡ Some g → o ≡ Some (IsGlobal g)
-as_global_is None w e = absurd (cc)
-as_global_is (Some (IsFunc g)) w e = absurd (cc)
-as_global_is (Some (IsTable v)) w e = absurd (cc)
-as_global_is (Some (IsMemory v)) w e = absurd (cc)
 as_global_is (Some (IsGlobal g)) w e = let same : g ≡ w = cc in ap (λ x. Some (IsGlobal x)) same
+as_global_is _ w e = absurd (cc)
 
 -- ---- an object by its index: an import's, or the module's own
 
@@ -96,7 +77,7 @@ pub record ByImport (s : LinkedSet) (v : ℕ) (m : NamedModule) (i : Import) (o 
 by_import : (s : LinkedSet) (v : ℕ) (m : NamedModule) (h : IsPlaced s.hosts (instances s) v m) (p : Import → Bool) (k : ℕ) (i : Import)
     (o : External) → slice_get (filter p m.tree.imports) k ≡ Some i → meaning_of s.hosts h.earlier i ≡ Some o → ByImport s v m i o
 by_import s v m h p k i o at stands =
-    let f = filter_at p m.tree.imports k i at in
+    let f = get_kept p m.tree.imports k i at in
     record { place = f.0; is = f.1; stands = ap (λ (l : List Instance). meaning_of s.hosts l i) (earlier_is s v m h) ∙ stands }
 
 some_there : {A : Type 0} (count j : ℕ) (x y : A) → slice_get (replicate count x) j ≡ Some y → 0 < count

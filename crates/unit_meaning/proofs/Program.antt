@@ -1,13 +1,12 @@
 -- The units of a linked set serve its modules' bodies, and a listed call begins a wrapper.
 use Rattle.w2c_base.proofs.Places.{get_before}
 use Rattle.wasm_meaning.specs.LinkedSet as link
-use Rattle.c_tree.specs.Tree as tree
 use Rattle.unit_definition.proofs.Defined.{helper_defined, helper_typed, helper_is_no_primitive, func_is_no_primitive}
 use Rattle.unit_definition.proofs.Defined.{export_is_no_primitive}
 use Rattle.unit_meaning.proofs.Common.{◌≡◌, ℕ, suc, ◌*◌, ◌≤◌, List, map, length, slice_get, Some, Contains, Option, option_map, sym, refl}
 use Rattle.unit_meaning.proofs.Common.{ap, ◌∙◌, subst, arith, slice_get_within, if_found, types_of, FuncType, export_symbol_of, Func}
 use Rattle.unit_meaning.proofs.Common.{Import, ImportFunc, External, Instance, IsFunc, LinkedSet, NamedModule, as_func, exported, func_at}
-use Rattle.unit_meaning.proofs.Common.{import_at, instances, meaning_of, defined, definition_at, func_type, primitive, UnitFunc, helper_of}
+use Rattle.unit_meaning.proofs.Common.{import_at, instances, meaning_of, definition_at, func_type, primitive, UnitFunc, helper_of}
 use Rattle.unit_meaning.proofs.Common.{Helper, export_symbol, func_imports, get_mapped, ResolvesAs, callable_later, IsDefined, body_of}
 use Rattle.unit_meaning.proofs.Common.{helpers_of, Defines, Reached, IsAcceptedSet, UnitsServe, program_of, symbol_call}
 use Rattle.unit_meaning.proofs.Instances.{IsPlaced, placed, earlier_is}
@@ -51,8 +50,7 @@ import_index s u m is k i at f stands =
     ap (λ (l : List Instance). meaning_of s.hosts l i) (sym (earlier_is s u m h)) ∙ stands in
     let front : slice_get (map g (func_imports m.tree)) k ≡ Some (Some f) = get_mapped g (func_imports m.tree) k i at
     ∙ ap (λ (o : Option External). Some (if_found o as_func)) here in
-    func_space_at s u m h k
-    ∙ ap (λ (o : Option (Option link.FuncAddress)). if_found o (λ e. e))
+    func_space_at s u m h k ∙ ap (λ (o : Option (Option link.FuncAddress)). if_found o (λ e. e))
     (get_before (map g (func_imports m.tree)) _ k (slice_get_within (map g (func_imports m.tree)) k (Some f) front) ∙ front)
 
 import_found : (s : LinkedSet) → IsAcceptedSet s → (u : ℕ) (m : NamedModule) → slice_get s.modules u ≡ Some m → (k : ℕ) (i : Import)

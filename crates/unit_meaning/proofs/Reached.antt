@@ -50,8 +50,7 @@ parts_from p u m k (x ∷ xs) h = (
 )
 
 pub parts_are_there : PartsAreThere
-parts_are_there s accepted u m is = parts_from (program_of s) u m.tree 0 (parts_of m.tree)
-    (λ j x at. let e : j ≡ 0 + j = omega arith in
+parts_are_there s accepted u m is = parts_from (program_of s) u m.tree 0 (parts_of m.tree) (λ j x at. let e : j ≡ 0 + j = omega arith in
     subst (λ n. Defines (program_of s) u (part_func m.tree (n, x))) e (part_is_defined s accepted u m is j x at))
 
 pub imports_give_pointers : ImportsGivePointers

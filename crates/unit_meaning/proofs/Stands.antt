@@ -18,13 +18,13 @@ use Rattle.unit_meaning.proofs.Common.{Host, HostFunction, types_of, FuncType, V
 use Rattle.unit_meaning.proofs.Common.{func_type_in, imported_funcs, is_func_import, type_in, Export, ExportKind, ExportFunc, ExportGlobal}
 use Rattle.unit_meaning.proofs.Common.{ExportMemory, ExportTable, Import, ImportFunc, Module, Name, func_type_of, CType, External}
 use Rattle.unit_meaning.proofs.Common.{IndexSpaces, Instance, IsFunc, LinkedSet, NamedModule, export_of, exported, func_at, import_at}
-use Rattle.unit_meaning.proofs.Common.{instances, join, stays, Definition, Program, c_params_of, c_result_of, c_type_of, defined}
-use Rattle.unit_meaning.proofs.Common.{definition_at, external_func, func_named, func_type, primitive, Pending, Frame, FuncAddress}
-use Rattle.unit_meaning.proofs.Common.{HostFunc, Machine, UnitFunc, FunctionsAlike, func_name, global_name, memory_name, table_name}
-use Rattle.unit_meaning.proofs.Common.{c_func_type, c_func_type_if, export_symbol, export_type, global_imports, import_symbol, is_usable}
-use Rattle.unit_meaning.proofs.Common.{memory_imports, table_imports, filter_few, ResolvesAs, callable_later, IsCallable, IsDefined}
-use Rattle.unit_meaning.proofs.Common.{body_of, func_of, params_of, HasLimits, callee, PassesOn, StandsFor, called, core, given, accessor}
-use Rattle.unit_meaning.proofs.Common.{export_func, passes_on, IsAccepted, IsAcceptedSet, program_of}
+use Rattle.unit_meaning.proofs.Common.{instances, join, stays, Program, c_params_of, c_result_of, c_type_of, defined, definition_at}
+use Rattle.unit_meaning.proofs.Common.{external_func, func_named, func_type, primitive, Pending, Frame, FuncAddress, HostFunc, Machine}
+use Rattle.unit_meaning.proofs.Common.{UnitFunc, FunctionsAlike, func_name, global_name, memory_name, table_name, c_func_type}
+use Rattle.unit_meaning.proofs.Common.{c_func_type_if, export_symbol, export_type, global_imports, import_symbol, is_usable, memory_imports}
+use Rattle.unit_meaning.proofs.Common.{table_imports, filter_few, ResolvesAs, callable_later, IsCallable, IsDefined, body_of, func_of}
+use Rattle.unit_meaning.proofs.Common.{params_of, HasLimits, callee, PassesOn, StandsFor, called, core, given, accessor, export_func}
+use Rattle.unit_meaning.proofs.Common.{passes_on, IsAccepted, IsAcceptedSet, program_of}
 use Rattle.body_forms.specs.Variables.{params_from}
 use Rattle.unit_meaning.proofs.Instances.{IsPlaced, spaces_at, placed, earlier_is}
 use Rattle.unit_meaning.proofs.Linked.{ExportedBy, accepted_at}
@@ -35,6 +35,7 @@ use Rattle.unit_meaning.proofs.Usable.{import_resolves, type_at_is, usable}
 use Rattle.unit_meaning.proofs.Funcs.{ImportedFunc, IsImport, IsOwn, OwnFunc, imported_func, func_case, func_space_at, own_func}
 use Rattle.unit_meaning.proofs.Listed.{WrapsOnce}
 use Rattle.unit_meaning.proofs.Wrapper.{wraps, wrapper_type}
+use Rattle.c_prelude.proofs.CallStatements.{named_here}
 use Rattle.c_init.proofs.Small.{some_same}
 
 -- the same as `StandsFor`, with so many statements at most
@@ -85,9 +86,8 @@ passes_itself p most ty a pending m args below = record {
 
 -- a wrapper before a function that stands
 passes_wrapped : (p : Program) (most : ℕ) (ty : FuncType) (outer inner inmost : FuncAddress) (pending : Pending) (m : Machine)
-    (args : List Value) (below : List Frame)
-    → (w : WrapsOnce p ty outer inner pending m args below) → PassesOn p most ty inner inmost pending m args (w.frames ++ below)
-    → PassesOn p (most + 3) ty outer inmost pending m args below
+    (args : List Value) (below : List Frame) → (w : WrapsOnce p ty outer inner pending m args below)
+    → PassesOn p most ty inner inmost pending m args (w.frames ++ below) → PassesOn p (most + 3) ty outer inmost pending m args below
 passes_wrapped p most ty outer inner inmost pending m args below w h =
     let e : (h.frames ++ w.frames) ++ below ≡ h.frames ++ (w.frames ++ below) = append_assoc h.frames w.frames below in
     record {
@@ -169,12 +169,7 @@ own_stands s accepted u m is k f h =
       callee_is = ap (λ (o : Option Import). elim o
           [ None ↦ Some (func_name k) | Some i ↦ if is_usable m i then Some (import_symbol i) else None ]) h.no_import;
       address = UnitFunc u (func_name k);
-      address_is = ap (λ (unit : Option (List tree.Item)). if_found unit
-          (λ items. option_or (option_map (λ d. UnitFunc u (func_name k)) (defined items (func_name k)))
-          (external_func (program_of s) (func_name k)))) (unit_at s u m is)
-          ∙ ap (λ (o : Option Definition). option_or (option_map (λ d. UnitFunc u (func_name k)) o)
-          (external_func (program_of s) (func_name k)))
-          (sym (ap (λ (unit : Option (List tree.Item)). if_found unit (λ items. defined items (func_name k))) (unit_at s u m is)) ∙ d.4.1);
+      address_is = named_here (program_of s) u (func_name k) _ d.4.1;
       free = func_is_no_primitive k;
       stands = record {
         alike = inl (record { index = k; name_is = refl; func_is = refl });
@@ -185,12 +180,8 @@ own_stands s accepted u m is k f h =
             (UnitFunc u (func_name k)) pending machine args below;
       };
       typed = own.in_module;
-      callable = record {
-        early = omega arith;
-        tree = m.tree;
-        tree_is = ap (option_map (λ (m : NamedModule). m.tree)) is;
-        defined = h.defined;
-      };
+      callable =
+          record { early = omega arith; tree = m.tree; tree_is = ap (option_map (λ (m : NamedModule). m.tree)) is; defined = h.defined };
     })
 
 -- ---- wrappers
@@ -242,10 +233,8 @@ pub record ExportedFunc (s : LinkedSet) (v : ℕ) (m : NamedModule) (e : Export)
       → WrapsOnce (program_of s) inner_stands.ty (UnitFunc v (export_symbol m e)) inner pending machine args below
 
 pub exported_func : (s : LinkedSet) → IsAcceptedSet s → (many : ℕ) (module_name name : List ℕ) (f : link.FuncAddress)
-    (h : ExportedBy s many module_name name (IsFunc f))
-    → exported (instances s) module_name name ≡ Some (IsFunc f)
-    → ((k : ℕ) → func_at s h.owner k ≡ Some f → FuncStands s h.owner h.exporter k f)
-    → ExportedFunc s h.owner h.exporter h.one.one f
+    (h : ExportedBy s many module_name name (IsFunc f)) → exported (instances s) module_name name ≡ Some (IsFunc f)
+    → ((k : ℕ) → func_at s h.owner k ≡ Some f → FuncStands s h.owner h.exporter k f) → ExportedFunc s h.owner h.exporter h.one.one f
 exported_func s accepted many module_name name f h found inner =
     let p : Program = program_of s in
     let v : ℕ = h.owner in
@@ -320,8 +309,7 @@ exported_in_all : (s : LinkedSet) (u : ℕ) (m : NamedModule) → slice_get s.mo
     → exported (take u (instances s)) module_name name ≡ Some o → exported (instances s) module_name name ≡ Some o
 exported_in_all s u m is module_name name o found =
     let h : IsPlaced s.hosts (instances s) u m = placed s u m is in
-    ap (λ (all : List Instance). exported all module_name name) h.whole
-    ∙ exported_more h.earlier _ module_name name o
+    ap (λ (all : List Instance). exported all module_name name) h.whole ∙ exported_more h.earlier _ module_name name o
     (ap (λ (l : List Instance). exported l module_name name) (sym (earlier_is s u m h)) ∙ found)
 
 -- the type of an imported function
@@ -336,9 +324,7 @@ import_typed s accepted u m is k i h f ty stands typed =
     let types : r.1 ≡ ty = some_same (sym r.4 ∙ ap (link.func_type s) func ∙ typed) in
     let within = slice_get_within (flat_map func_of_import m.tree.imports) k h.ty_index h.in_space in
     ap (λ (x : Option ℕ). if_found x (type_in m.tree)) (get_before (flat_map func_of_import m.tree.imports) _ k within ∙ h.in_space)
-    ∙ sym (type_at_is s u m is h.ty_index)
-    ∙ r.3
-    ∙ ap Some types
+    ∙ sym (type_at_is s u m is h.ty_index) ∙ r.3 ∙ ap Some types
 
 host_stands : (s : LinkedSet) (most : ℕ) (host_name name : Name) (f : link.FuncAddress) (h : OfferedBy s host_name name (IsFunc f))
     → StandsIn (program_of s) s most f (HostFunc h.host h.function)
@@ -412,8 +398,7 @@ import_stands s accepted u m is earlier i f kind from = go from
 -- each function of a module, where those of earlier modules stand
 stands_next : (s : LinkedSet) → IsAcceptedSet s → (u : ℕ) (m : NamedModule) → slice_get s.modules u ≡ Some m
     → ((v : ℕ) (n : NamedModule) → v < u → slice_get s.modules v ≡ Some n → (k : ℕ) (f : link.FuncAddress) → func_at s v k ≡ Some f
-    → FuncStands s v n k f)
-    → (k : ℕ) (f : link.FuncAddress) → func_at s u k ≡ Some f → FuncStands s u m k f
+    → FuncStands s v n k f) → (k : ℕ) (f : link.FuncAddress) → func_at s u k ≡ Some f → FuncStands s u m k f
 stands_next s accepted u m is earlier k f at = elim (func_case s u m is k f at) [
   | inl i ↦ imported i
   | inr own ↦ own_stands s accepted u m is k f own

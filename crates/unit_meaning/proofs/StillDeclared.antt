@@ -32,8 +32,6 @@ agree_at : (p : Program) (s : LinkedSet) (q : ℕ) (made : store.Store) (units :
     (u : state.Objects) → StoresAgree p s q made units → slice_get made i ≡ Some o → slice_get units i ≡ Some u
     → ObjectsAgree p s (q + i) o u
 agree_at p s q [] [] i o u a is is' = absurd (cc)
-agree_at p s q [] (y ∷ units) i o u a is is' = absurd a
-agree_at p s q (x ∷ made) [] i o u a is is' = absurd a
 agree_at p s q (x ∷ made) (y ∷ units) zero o u a is is' =
     let e : q ≡ q + 0 = omega arith in
     let first : x ≡ o = cc in
@@ -42,6 +40,7 @@ agree_at p s q (x ∷ made) (y ∷ units) zero o u a is is' =
 agree_at p s q (x ∷ made) (y ∷ units) (suc i) o u a is is' =
     let e : suc q + i ≡ q + suc i = omega arith in
     rw e at (agree_at p s (suc q) made units i o u a.1 is is')
+agree_at p s q _ _ i o u a is is' = absurd a
 
 no_table_there : (p : Program) (s : LinkedSet) (o : Option state.Table) → is_some o ≡ true → TablesAgree p s None o
     → o ≡ Some machine.no_table

@@ -14,8 +14,7 @@ alike = record {
     vars,
     map (λ (e : Name × Memory). e.0) o.memories,
     map (λ (e : Name × Table). e.0) o.tables,
-  ))
-      (zeroed_kept name v o.vars (ap (option_map zero_like) there ∙ ap Some (one_zero_of_one_type old v same)));
+  )) (zeroed_kept name v o.vars (ap (option_map zero_like) there ∙ ap Some (one_zero_of_one_type old v same)));
   memory = λ o name new. ap (λ names. (zeroed o.vars, names, map (λ (e : Name × Table). e.0) o.tables))
       (names_of_entries name new o.memories);
   table = λ o name new. ap (λ names. (zeroed o.vars, map (λ (e : Name × Memory). e.0) o.memories, names))

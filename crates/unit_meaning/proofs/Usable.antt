@@ -60,9 +60,7 @@ import_symbol_is i = by i.kind
   where
     by : (k : ImportKind) → import_symbol (record i { kind = k }) ≡ export_symbol_of i.«module» (import_kind k) i.field
     by (ImportFunc t) = refl
-    by (ImportTable l) = refl
-    by (ImportMemory l) = refl
-    by (ImportGlobal t mutable) = refl
+    by _ = refl
 
 resolved : (s : LinkedSet) (p : ℕ) (i : Import) (k : ImportKind) → ResolvesAs s p i k → (o : External) × (import_at s p i ≡ Some o)
 resolved s p i (ImportFunc t) r = (IsFunc r.0, r.2)
@@ -93,9 +91,7 @@ type_is m i = by i.kind
   where
     by : (k : ImportKind) → import_type m (record i { kind = k }) ≡ type_as m k
     by (ImportFunc t) = refl
-    by (ImportTable l) = refl
-    by (ImportMemory l) = refl
-    by (ImportGlobal t mutable) = refl
+    by _ = refl
 
 pub type_at_is : (s : LinkedSet) (u : ℕ) (m : NamedModule) → slice_get s.modules u ≡ Some m → (t : ℕ) → type_at s u t ≡ type_in m.tree t
 type_at_is s u m is t = ap (λ (x : Option NamedModule). if_found (option_map (λ (m : NamedModule). m.tree) x)
@@ -139,10 +135,8 @@ same_symbol_types s accepted u m is k l i j at at' same =
     let stands : import_at s u i ≡ import_at s u j
     = ap (λ (name : Name). option_or (exported (take u (instances s)) name i.field) (offered s.hosts name i.field)) parts.0
     ∙ ap (λ (field : Name). option_or (exported (take u (instances s)) j.«module» field) (offered s.hosts j.«module» field)) parts.2 in
-    type_is m.tree i
-    ∙ same_kind_types s u m is i j stands i.kind j.kind (import_resolves s accepted u m is k i at)
-    (import_resolves s accepted u m is l j at') parts.1
-    ∙ sym (type_is m.tree j)
+    type_is m.tree i ∙ same_kind_types s u m is i j stands i.kind j.kind (import_resolves s accepted u m is k i at)
+    (import_resolves s accepted u m is l j at') parts.1 ∙ sym (type_is m.tree j)
 
 -- ---- the symbol's type in the unit
 
@@ -181,8 +175,7 @@ symbol_typed s accepted u m is k i at =
     let first = named_import (import_type m.tree) m.tree.imports k i at in
     named_behind m (export_type m.tree) (import_symbol i) m.tree.exports (imported_symbols m) (λ e same.
     differ (export_symbol_of-injective m.name i.«module» (kind_of m e) (import_kind i.kind) e.name i.field
-    (accepted_at s accepted u m is).bytes small (sym (symbol_is m e) ∙ same ∙ import_symbol_is i)).0)
-    ∙ first.4
+    (accepted_at s accepted u m is).bytes small (sym (symbol_is m e) ∙ same ∙ import_symbol_is i)).0) ∙ first.4
     ∙ ap Some (same_symbol_types s accepted u m is first.0 k first.1 i first.2 at first.3)
 
 pub usable : (s : LinkedSet) → IsAcceptedSet s → (u : ℕ) (m : NamedModule) → slice_get s.modules u ≡ Some m → (k : ℕ) (i : Import)

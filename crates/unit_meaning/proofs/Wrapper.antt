@@ -103,8 +103,7 @@ at_work pending m below r = Going pending (record { machine = m; running = r; be
 
 -- the beginning of the function
 begun : (p : Program) (pending : Pending) (item u : ℕ) (f : tree.Func) (body : tree.Body) (args : List Value) (locals : Vars) (m : Machine)
-    (below : List Frame)
-    → step.are_of_types (step.param_types f.params) (map Number args) ≡ true
+    (below : List Frame) → step.are_of_types (step.param_types f.params) (map Number args) ≡ true
     → step.bind (step.param_names f.params) (map Number args) ≡ Some (arg_vars 0 args) → step.locals_of body.locals ≡ Some locals
     → go_on p pending (step.begin (Some (record { item = item; func = f; body = body })) u m (map Number args) below)
     ≡ at_work pending m below (running_at u item f.result body.stmts body.stmts (arg_vars 0 args ++ locals))
@@ -119,18 +118,15 @@ begun p pending item u f body args locals m below fit params is =
     ∙ ap (λ (ls : Option Vars). option_map (λ (locals : Vars). arg_vars 0 args ++ locals) ls) is in
     ap (λ (o : Option Vars). go_on p pending (elim o [
       | None ↦ step.Stops m Stuck
-      | Some vars ↦ step.next m
-          (running_at u item f.result body.stmts body.stmts vars) below
+      | Some vars ↦ step.next m (running_at u item f.result body.stmts body.stmts vars) below
     ])) first
 
 -- the call of the other function
 passed : (p : Program) (pending : Pending) (u item : ℕ) (result : CType) (stmts rest : List tree.Stmt) (target : Option Name) (name : Name)
     (inner : FuncAddress) (args : List Value) (locals : Vars) (m : Machine) (below : List Frame)
-    → length args < 2 ^ 64 → primitive name ≡ None → func_named p u name ≡ Some inner
-    → Reaches p 1
+    → length args < 2 ^ 64 → primitive name ≡ None → func_named p u name ≡ Some inner → Reaches p 1
     (at_work pending m below (running_at u item result stmts
-    (tree.Call target (tree.Called name) (args_from 0 (map c_type_of (types_of args))) ∷ rest)
-    (arg_vars 0 args ++ locals)))
+    (tree.Call target (tree.Called name) (args_from 0 (map c_type_of (types_of args))) ∷ rest) (arg_vars 0 args ++ locals)))
     (called p pending inner m args
     (record { target = target; running = running_at u item result stmts rest (arg_vars 0 args ++ locals) } ∷ below))
 passed p pending u item result stmts rest target name inner args locals m below few free is =
@@ -209,12 +205,10 @@ wraps_value : (p : Program) (pending : Pending) (u item : ℕ) (symbol name : Na
     (t : ValType) (rt : CType) (zero_value : CValue) (f : tree.Func) (body : tree.Body) (args : List Value) (m : Machine)
     (below : List Frame)
     → initial_of rt (zero_number rt) ≡ Some zero_value → zero_like zero_value ≡ Number (value t 0) → f.result ≡ c_type_of t
-    → f.params ≡ named_params (proper_types (c_params_of (types_of args)))
-    → f.body ≡ Some (record {
+    → f.params ≡ named_params (proper_types (c_params_of (types_of args))) → f.body ≡ Some (record {
       locals = (rt, result_name, zero_number rt) ∷ [];
       stmts = whole (Some result_name) name (proper_types (c_params_of (types_of args))) (tree.Return (tree.Value (tree.Name result_name)));
-    })
-    → f.body ≡ Some body → definition_at p u symbol ≡ Some (record { item = item; func = f; body = body })
+    }) → f.body ≡ Some body → definition_at p u symbol ≡ Some (record { item = item; func = f; body = body })
     → length args < 2 ^ 64 → primitive name ≡ None → func_named p u name ≡ Some inner
     → WrapsOnce p (record { params = params; result = Some t }) (UnitFunc u symbol) inner pending m args below
 wraps_value p pending u item symbol name inner params t rt zero_value f body args m below zero_is zero_typed result params_are body_is
