@@ -6,13 +6,8 @@ use Rattle.wasm_spelling.proofs.WithinPlaces.{formed_is_within}
 -- a valid module within the limits, under a name
 pub named_is_accepted : (name : List ℕ) (tree : Module) → IsValid tree → WithinLimits tree → 1 ≤ length name → length name ≤ 1024
     → AreBytes name → IsAccepted (record { name = name; tree = tree })
-named_is_accepted name tree is_valid within named short are_bytes = record {
-  valid = is_valid;
-  within = within;
-  named = named;
-  short = short;
-  bytes = All-from_recursion (λ b. b < 256) name are_bytes;
-}
+named_is_accepted name tree is_valid within named short are_bytes =
+    record { valid = is_valid; within = within; named = named; short = short; bytes = All-from_recursion (λ b. b < 256) name are_bytes }
 
 pub module_is_accepted : (bytes name : List ℕ) (tree : Module) → IsModuleOf bytes name tree
     → IsAccepted (record { name = name; tree = tree })
@@ -23,14 +18,8 @@ module_is_accepted bytes name tree is =
 -- the verdict on a file's bytes, and its module
 pub module_of : (bytes name : List ℕ) (tree : Module) → IsVerdictOn bytes (Read tree Accepted) → AreBytes bytes → 1 ≤ length name
     → length name ≤ 1024 → AreBytes name → IsModuleOf bytes name tree
-module_of bytes name tree verdict are named short name_bytes = record {
-  spelled = verdict.0;
-  valid = valid tree verdict.1;
-  are_bytes = are;
-  named = named;
-  short = short;
-  name_bytes = name_bytes;
-}
+module_of bytes name tree verdict are named short name_bytes =
+    record { spelled = verdict.0; valid = valid tree verdict.1; are_bytes = are; named = named; short = short; name_bytes = name_bytes }
 
 pub verdict_on : (bytes name : List ℕ) (tree : Module) → IsModuleOf bytes name tree → IsVerdictOn bytes (Read tree Accepted)
 verdict_on bytes name tree is = (is.spelled, accepted tree is.valid)

@@ -19,14 +19,10 @@ IsOfItself c = IsAccepted c.«module» × (c.unit ≡ items c.«module»)
 abbrev file_module : File → Module → NamedModule
 file_module f module_tree = record { name = f.name; tree = module_tree }
 
-same_module : (c : Chosen) (f : File) (module_tree : Module) → c.«module».name ≡ f.name → c.«module».tree ≡ module_tree
-    → file_module f module_tree ≡ c.«module»
-same_module c f module_tree named same = λ i. record { name = sym named i; tree = sym same i }
-
 from_file : UnitsAreProper → (c : Chosen) (f : File) → IsTranslated f → ComesFrom c f → IsOfItself c
 from_file proper c f (module_tree, is, is_text) from =
-    let same : file_module f module_tree ≡ c.«module» =
-    same_module c f module_tree from.named (one_tree f.bytes c.«module».tree module_tree from.bytes_spell is.spelled) in
+    let tree_is = one_tree f.bytes c.«module».tree module_tree from.bytes_spell is.spelled in
+    let same : file_module f module_tree ≡ c.«module» = λ i. record { name = sym from.named i; tree = sym tree_is i } in
     let accepted : IsAccepted (file_module f module_tree) = module_is_accepted f.bytes f.name module_tree is in
     let spelled : CSpells c.unit (print_of (items (file_module f module_tree))) = subst (CSpells c.unit) is_text from.text_spells in
     subst (λ (m : NamedModule). IsAccepted m × (c.unit ≡ items m)) same
@@ -35,8 +31,7 @@ from_file proper c f (module_tree, is, is_text) from =
 -- ---- all of it
 
 all_from_files : UnitsAreProper → (files : List File) → AllByRecursion IsTranslated files → (chosen : List Chosen)
-    → AllByRecursion (ComesFromOne files) chosen
-    → AllByRecursion IsOfItself chosen
+    → AllByRecursion (ComesFromOne files) chosen → AllByRecursion IsOfItself chosen
 all_from_files proper files translated [] from = tt
 all_from_files proper files translated (c ∷ chosen) ((f, there, one), from) =
     (from_file proper c f (of_contained IsTranslated files f translated there) one, all_from_files proper files translated chosen from)
@@ -59,10 +54,7 @@ named_hosts (h ∷ hosts) (of_one, of_all) = (All-from_recursion (λ b. b < 256)
 -- ---- the theorem, of the units of c_unit and of others that are equal to them
 
 of_set : UnitsDoTheSame → sets.UnitsLink → (s : LinkedSet) → sets.IsAcceptedSet s → LinkAndDoTheSame (sets.program_of s) s
-of_set same link s accepted = record {
-  wired = record { link = link s accepted; calls = calls_fit s accepted };
-  same = same s accepted;
-}
+of_set same link s accepted = record { wired = record { link = link s accepted; calls = calls_fit s accepted }; same = same s accepted }
 
 pub translation_theorem : UnitsDoTheSame → sets.UnitsLink → UnitsAreProper → TranslationTheorem
 translation_theorem same link proper files translated chosen hosts from named linked =

@@ -76,12 +76,10 @@ accepted_is_given bytes (Ok given) refused tree accepted no_memory = refl
 accepted_is_given bytes (Err r) refused tree accepted no_memory =
     absurd (accepted_is_not_refused bytes tree r accepted (refused_for bytes r (λ e. no_memory (ap Err e)) refused))
 
--- the bytes have an accepted module
-abbrev pub AreAccepted : List ℕ → Type 0
-AreAccepted bytes = (tree : Module) × IsVerdictOn bytes (Read tree Accepted)
-
-pub refused_is_given : {A : Type 0} (bytes : List ℕ) (result : Result A Refusal) (P : A → Type 0) → ((x : A) → P x → AreAccepted bytes)
-    → IfOk result P → IfErr result (IsRefusal bytes) → (r : Refusal) → IsRefused bytes r → result ≢ Err Memory → result ≡ Err r
+-- where what is given says that the bytes have an accepted module
+pub refused_is_given : {A : Type 0} (bytes : List ℕ) (result : Result A Refusal) (P : A → Type 0)
+    → ((x : A) → P x → (tree : Module) × IsVerdictOn bytes (Read tree Accepted)) → IfOk result P → IfErr result (IsRefusal bytes)
+    → (r : Refusal) → IsRefused bytes r → result ≢ Err Memory → result ≡ Err r
 refused_is_given bytes (Ok given) P accepts made refused r is no_memory =
     let (tree, accepted) = accepts given made in
     absurd (accepted_is_not_refused bytes tree r accepted is)

@@ -83,8 +83,6 @@ module _ (contents : Contents) (there : get contents (codes "two.wasm") ≡ Some
   two_status job status is answers = subst (λ (j : Job). Answers j status) (only_job job is) answers
 
   pub two_done : (new : Told) → Done two_words (Some contents) new → new ≡ written (Some contents) two_files
-  two_done new done = by_files (done contents refl)
-    where
-      by_files : (files : List (Name × List ℕ)) × IsJob two_words contents (Write files) × (new ≡ written (Some contents) files)
-          → new ≡ written (Some contents) two_files
-      by_files (files, job, stand) = stand ∙ ap (written (Some contents)) (same_files files two_files (only_job (Write files) job))
+  two_done new done =
+      let (files, job, stand) = done contents refl in
+      stand ∙ ap (written (Some contents)) (same_files files two_files (only_job (Write files) job))

@@ -19,9 +19,6 @@ use Rattle.wasm2c_cli.proofs.ExampleJob.{two_printed}
 pub two_spells : CSpells two_unit two_c
 two_spells = two_spelled_by two_c two_printed
 
-only_unit : (unit : List Item) → CSpells unit two_c → unit ≡ two_unit
-only_unit unit spelled = one_unit unit two_unit two_c spelled two_spells
-
 -- ---- calls one after another, each of which is nine statements and ends with the same event
 
 module _ (p : Program) (call : SymbolCall) (gave : Event) (replies : List Reply) (made : List Objects) where
@@ -55,8 +52,7 @@ module _ (p : Program) (call : SymbolCall) (gave : Event) (replies : List Reply)
       let e : 9 * suc n ≡ 9 + 9 * n = omega arith in
       ap (λ i. after p i (begin_entry p (between events) last (entries k (suc n)))) e
       ∙ after_sum p 9 (9 * n) (begin_entry p (between events) last (entries k (suc n)))
-      ∙ ap (after p (9 * n)) (one k events last (entries (k + 1) n))
-      ∙ calls_run one n (k + 1) (events ++ gave ∷ []) (Call k)
+      ∙ ap (after p (9 * n)) (one k events last (entries (k + 1) n)) ∙ calls_run one n (k + 1) (events ++ gave ∷ []) (Call k)
       ∙ ap (λ told. Over (ended (last_phase (k + 1) n (Call k)) told)) (append_assoc events (gave ∷ []) (replicate n gave))
 
 -- ---- the unit's runs
@@ -91,8 +87,7 @@ module _ (hosts : List Host) (replies : List Reply) where
 
   enough_is : (n : ℕ) → run hosts replies n (2 + 9 * n) ≡ whole n
   enough_is n = ap run_of (after_sum (alone hosts) 2 (9 * n) (c_start (alone hosts) (replicate n two_call) replies)
-      ∙ ap (after (alone hosts) (9 * n)) (begins n)
-      ∙ calls_run (alone hosts) two_call gave_42 replies nothing one_call n 0 [] (Init 0))
+      ∙ ap (after (alone hosts) (9 * n)) (begins n) ∙ calls_run (alone hosts) two_call gave_42 replies nothing one_call n 0 [] (Init 0))
 
   not_out : (o : Outcome) → o ≡ Ended → o ≢ OutOfSteps
   not_out o is out = cc
@@ -121,11 +116,10 @@ values_of_all (suc n) = ap (λ values. Some (I32 42) ∷ values) (values_of_all 
 two_run_is : (unit : List Item) (hosts : List Host) (calls steps : ℕ) (replies : List Reply) → CSpells unit two_c
     → two_run two_unit hosts calls steps replies ≡ two_run unit hosts calls steps replies
 two_run_is unit hosts calls steps replies spelled =
-    ap (λ (u : List Item). two_run u hosts calls steps replies) (sym (only_unit unit spelled))
+    ap (λ (u : List Item). two_run u hosts calls steps replies) (sym (one_unit unit two_unit two_c spelled two_spells))
 
 pub two_over : (unit : List Item) (hosts : List Host) (calls steps : ℕ) (replies : List Reply) → CSpells unit two_c
-    → (two_run unit hosts calls steps replies).outcome ≢ OutOfSteps
-    → ((two_run unit hosts calls steps replies).outcome ≡ Ended)
+    → (two_run unit hosts calls steps replies).outcome ≢ OutOfSteps → ((two_run unit hosts calls steps replies).outcome ≡ Ended)
     × (values_in (two_run unit hosts calls steps replies).events ≡ replicate calls (Some (I32 42)))
 two_over unit hosts calls steps replies spelled =
     subst (λ (run : CRun). run.outcome ≢ OutOfSteps → (run.outcome ≡ Ended) × (values_in run.events ≡ replicate calls (Some (I32 42))))

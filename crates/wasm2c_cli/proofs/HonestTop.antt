@@ -1,23 +1,14 @@
 -- What stands after a call, where the files behave as files: what its clauses on contents say.
 use Rattle.wasm2c_cli.proofs.Common.{◌≡◌, ℕ, zero, suc, ◌⊎◌, List, [], ◌∷◌, ◌++◌, get_or, Some, None, Ok, Err, Option, Result, MatchOption}
 use Rattle.wasm2c_cli.proofs.Common.{sym, refl, ◌∙◌, subst, inl, inr, append-nil, arith, same_Some, Contents, Name, Told, Event, Read}
-use Rattle.wasm2c_cli.proofs.Common.{AreHonest, Does, ReadAnswer, WriteAnswer, BreaksOffAt, FailsLast, WritesFiles, WritesSome, limited}
-use Rattle.wasm2c_cli.proofs.Common.{AreRead, IsUnreadable, NotThere, Past, StopsReading, TooLong, Unreadable, total, Stands, StandsAt}
-use Rattle.wasm2c_cli.proofs.Common.{written, most_module_bytes, Line, generate, line_of, runtime, AreReadOf, AreSourcesBy, IsJob, IsJobOf}
-use Rattle.wasm2c_cli.proofs.Common.{Job, Missing, Refused, TranslatesBy, Usage, Write, WritesBy, read_line, refused_line, usage_line}
-use Rattle.wasm2c_cli.proofs.Common.{write_line, Follows, IsJobOver, PassesLine, ReadsFirst, ReadsWhole, StopsAfter, StopsByAnswer}
-use Rattle.wasm2c_cli.proofs.Common.{inputs_of, most_set_bytes, Done, StandsOfJob, Answers, Reason}
+use Rattle.wasm2c_cli.proofs.Common.{AreHonest, Does, ReadAnswer, FailsLast, WritesFiles, limited, AreRead, IsUnreadable, NotThere, Past}
+use Rattle.wasm2c_cli.proofs.Common.{StopsReading, TooLong, Unreadable, total, StandsAt, written, most_module_bytes, Line, generate}
+use Rattle.wasm2c_cli.proofs.Common.{line_of, runtime, AreReadOf, AreSourcesBy, IsJob, IsJobOf, Job, Missing, Refused, Usage, Write}
+use Rattle.wasm2c_cli.proofs.Common.{WritesBy, read_line, refused_line, usage_line, write_line, Follows, IsJobOver, PassesLine, ReadsFirst}
+use Rattle.wasm2c_cli.proofs.Common.{ReadsWhole, StopsAfter, StopsByAnswer, inputs_of, most_set_bytes, Done, StandsOfJob, Answers, Reason}
 use Rattle.w2c_io.specs.declared.answers.ReadAnswer.TheVariants as reading
 use Rattle.w2c_files.proofs.Honest.{broken_stands, files_hold, honest_both, in_order_keep, reads_are, some_stand}
 use Rattle.wasm2c_cli.specs.HonestPassing.{PassesHonestly}
-use Rattle.wasm2c_cli.proofs.TopLaws.{is_job, usage_job}
-
--- ---- reads
-
-reads_keep : (names : List Name) (given : List Event) (old new : Told) (current after : Option Name) → ReadsFirst names given
-    → AreHonest given old current new after → new ≡ old
-reads_keep names given old new current after reads honest =
-    (in_order_keep (limited most_module_bytes names) given old new current after reads honest).0
 
 -- ---- jobs over bytes of which less is said
 
@@ -27,18 +18,23 @@ module _ (P Q : List (List ℕ) → Type 0) (so : (all : List (List ℕ)) → P 
   sources_so (runtime dir) sources read = read
   sources_so line sources read = so sources read
 
-  translates_so : (line : Line) (files : List (Name × List ℕ)) → TranslatesBy P line files → TranslatesBy Q line files
-  translates_so line files t = record {
-    sources = t.sources;
-    modules = t.modules;
-    read = sources_so line t.sources t.read;
-    accepted = t.accepted;
-    written = t.written;
-  }
-
   writes_so : (line : Line) (files : List (Name × List ℕ)) → WritesBy P line files → WritesBy Q line files
   writes_so (runtime dir) files w = w
-  writes_so line files w = translates_so line files w
+  writes_so line files w =
+      let read = sources_so line w.sources w.read in
+      record { sources = w.sources; modules = w.modules; read = read; accepted = w.accepted; written = w.written }
+
+-- what a call comes to, for each status from 0 on: the job's files stand whole, a file is refused, the words have no line, a file is not
+-- there or its read failed, a write of a file failed, or memory was wanting
+abbrev Came : List Name → (List ℕ → Type 0) → Contents → Told → List Event → ℕ → Type 0
+Came words says m new events status = get_or (
+    ((files : List (Name × List ℕ)) × IsJob words m (Write files) × (new ≡ written (Some m) files))
+    ∷ ((new ≡ Some m) × ((file : Name) × (reason : Reason) × says (refused_line file reason) × IsJob words m (Refused file reason)))
+    ∷ ((new ≡ Some m) × (line_of words ≡ None))
+    ∷ ((new ≡ Some m) × ((file : Name) × says (read_line file) × (IsJob words m (Missing file) ⊎ FailsLast file events)))
+    ∷ ((file : Name) × (files : List (Name × List ℕ)) × IsJob words m (Write files) × StandsAt (Some m) new files file
+    × says (write_line file))
+    ∷ StandsOfJob words m (Some m) new ∷ []) status ⊥
 
 -- ---- one line
 
@@ -48,20 +44,14 @@ module _ (line : Line) (m : Contents) (given put : List Event) (new : Told) (cur
   behind : (at : Option Name) × AreHonest put (Some m) at new after
   behind =
       let (told, at, first, last) = honest_both given put (Some m) new current after honest in
-      (at, subst (λ (t : Told). AreHonest put t at new after) (reads_keep (inputs_of line) given (Some m) told current at reads first) last)
+      let kept = (in_order_keep (limited most_module_bytes (inputs_of line)) given (Some m) told current at reads first).0 in
+      (at, subst (λ (t : Told). AreHonest put t at new after) kept last)
 
   none_put : put ≡ [] → new ≡ Some m
   none_put none = (subst (λ (es : List Event). AreHonest es (Some m) behind.0 new after) none behind.1).0
 
   pub whole_put : (files : List (Name × List ℕ)) → WritesFiles files put → new ≡ written (Some m) files
   whole_put files wrote = files_hold files put (Some m) new behind.0 after wrote behind.1
-
-  broken_put : (files : List (Name × List ℕ)) (name : Name) (why : WriteAnswer) → BreaksOffAt files name why put
-      → StandsAt (Some m) new files name
-  broken_put files name why broken = broken_stands files name why put (Some m) new behind.0 after broken behind.1
-
-  some_put : (files : List (Name × List ℕ)) → WritesSome files put → Stands (Some m) new files
-  some_put files some = some_stand files put (Some m) new behind.0 after some behind.1
 
   pub all_held : (all : List (List ℕ)) → ReadsWhole (inputs_of line) given all → AreReadOf line m all
   all_held all read =
@@ -91,14 +81,7 @@ module _ (line : Line) (m : Contents) (given put : List Event) (new : Told) (cur
   stopped_job file why at =
       let (last, read) = last_read file why at in
       elim (by last.0 last.1 last.2 at.answer why at.stops at.calls last.3) [
-        | inl stops ↦ inl (record {
-          front = at.front;
-          rest = at.rest;
-          all = at.all;
-          split = at.split;
-          read = read;
-          stops = stops;
-        })
+        | inl stops ↦ inl (record { front = at.front; rest = at.rest; all = at.all; split = at.split; read = read; stops = stops })
         | inr fails ↦ inr fails
       ]
     where
@@ -112,9 +95,6 @@ module _ (line : Line) (m : Contents) (given put : List Event) (new : Told) (cur
       by told here now (Ok bytes) (Past place) (long, is) calls does = inl (bytes, does.0, does.3, omega (arith, long, at.together), is)
       by told here now _ _ stops calls does = absurd stops
 
-  missing_job : (file : Name) → StopsAfter (inputs_of line) given file NotThere → IsJobOf line m (Missing file) ⊎ FailsLast file given
-  missing_job file at = elim (stopped_job file NotThere at) [ inl stops ↦ inl stops | inr fails ↦ inr fails.1 ]
-
   -- where the file is there
   limit_job : (file : Name) (why : Unreadable) → (why ≡ NotThere → ⊥) → StopsAfter (inputs_of line) given file why
       → StopsReading most_module_bytes most_set_bytes m (inputs_of line) file why
@@ -126,93 +106,63 @@ module _ (line : Line) (m : Contents) (given put : List Event) (new : Told) (cur
   refused_job file reason (inr (sources, read, first)) =
       inr (sources, sources_so (ReadsWhole (inputs_of line) given) (AreReadOf line m) all_held line sources read, first)
 
--- ---- the words
+  -- ---- what a call on words of this line comes to
 
--- what a call comes to, for each status from 0 on: the job's files stand whole, a file is refused, the words have no line, a file is not
--- there or its read failed, a write of a file failed, or memory was wanting
-abbrev Came : List Name → (List ℕ → Type 0) → Contents → Told → List Event → ℕ → Type 0
-Came words says m new events status = get_or (
-    ((files : List (Name × List ℕ)) × IsJob words m (Write files) × (new ≡ written (Some m) files))
-    ∷ ((new ≡ Some m) × ((file : Name) × (reason : Reason) × says (refused_line file reason) × IsJob words m (Refused file reason)))
-    ∷ ((new ≡ Some m) × (line_of words ≡ None))
-    ∷ ((new ≡ Some m) × ((file : Name) × says (read_line file) × (IsJob words m (Missing file) ⊎ FailsLast file events)))
-    ∷ ((file : Name) × (files : List (Name × List ℕ)) × IsJob words m (Write files) × StandsAt (Some m) new files file
-    × says (write_line file))
-    ∷ StandsOfJob words m (Some m) new ∷ []) status ⊥
+  module _ (words : List Name) (found : line_of words ≡ Some line) (status : ℕ) (says : List ℕ → Type 0) (events : List Event)
+      (split : events ≡ given ++ put) where
+    abbrev CameTo : ℕ → Type 0
+    CameTo = Came words says m new events
+
+    on_job : (job : Job) → IsJobOver line given job → Follows job status says put → CameTo status
+    on_job Usage job follows = absurd follows
+    on_job (Missing file) job (is, none, said) = subst CameTo (sym is) (
+      none_put none,
+      (
+        file,
+        said,
+        elim (stopped_job file NotThere job) [
+          | inl of_line ↦ inl (rw found of_line)
+          | inr (away, (front, limit, calls)) ↦ inr (
+            front,
+            limit,
+            split ∙ (λ i. calls i ++ none i) ∙ append-nil (front ++ Read file limit (Err reading.Failed) ∷ []),
+          )
+        ],
+      ),
+    )
+    on_job (Refused file reason) job (is, none, said) =
+        subst CameTo (sym is) (none_put none, (file, reason, said, rw found (refused_job file reason job)))
+    on_job (Write files) job (inl (is, wrote)) = subst CameTo (sym is) (files, rw found (written_job files job), whole_put files wrote)
+    on_job (Write files) job (inr (inl (is, file, broken, said))) =
+        let at = broken_stands files file _ put (Some m) new behind.0 after broken behind.1 in
+        subst CameTo (sym is) (file, files, rw found (written_job files job), at, said)
+    on_job (Write files) job (inr (inr (is, some))) =
+        let stands = some_stand files put (Some m) new behind.0 after some behind.1 in
+        subst CameTo (sym is) (inr (files, rw found (written_job files job), stands))
+
+-- ---- the words
 
 module _ (words : List Name) (status : ℕ) (says : List ℕ → Type 0) (m : Contents) (new : Told)
     (call : PassesHonestly words status says m new) where
   abbrev Comes : ℕ → Type 0
   Comes = Came words says m new call.events
 
-  on_line : (line : Line) → line_of words ≡ Some line → (p : PassesLine line status says call.events)
-      → AreHonest (p.given ++ p.put) (Some m) call.current new call.after → Comes status
-  on_line line found p honest = elim p.follows [
-    | inl job ↦ on_job job.0 job.1 job.2
-    | inr memory ↦ subst Comes (sym memory.0) (inl (same memory.1))
-  ]
-    where
-      same : p.put ≡ [] → new ≡ Some m
-      same none = none_put line _ _ _ _ _ _ p.reads honest none
-
-      of_words : (job : Job) → IsJobOf line m job → IsJob words m job
-      of_words job of_line = is_job words line m job found of_line
-
-      writes : (files : List (Name × List ℕ)) → IsJobOver line p.given (Write files) → IsJob words m (Write files)
-      writes files job = of_words (Write files) (written_job line _ _ _ _ _ _ p.reads honest files job)
-
-      on_job : (job : Job) → IsJobOver line p.given job → Follows job status says p.put → Comes status
-      on_job Usage job follows = absurd follows
-      on_job (Missing file) job (is, none, said) = subst Comes (sym is) (
-        same none,
-        (
-          file,
-          said,
-          elim (missing_job line _ _ _ _ _ _ p.reads honest file job) [
-            | inl of_line ↦ inl (of_words (Missing file) of_line)
-            | inr (front, limit, calls) ↦ inr (
-              front,
-              limit,
-              p.split ∙ (λ i. calls i ++ none i) ∙ append-nil (front ++ Read file limit (Err reading.Failed) ∷ []),
-            )
-          ],
-        ),
-      )
-      on_job (Refused file reason) job (is, none, said) = subst Comes (sym is) (
-        same none,
-        (file, reason, said, of_words (Refused file reason) (refused_job line _ _ _ _ _ _ p.reads honest file reason job)),
-      )
-      on_job (Write files) job (inl (is, wrote)) = subst Comes (sym is) (
-        files,
-        writes files job,
-        whole_put line _ _ _ _ _ _ p.reads honest files wrote,
-      )
-      on_job (Write files) job (inr (inl (is, file, broken, said))) = subst Comes (sym is) (
-        file,
-        files,
-        writes files job,
-        broken_put line _ _ _ _ _ _ p.reads honest files file _ broken,
-        said,
-      )
-      on_job (Write files) job (inr (inr (is, some))) = subst Comes (sym is) (inr (
-        files,
-        writes files job,
-        some_put line _ _ _ _ _ _ p.reads honest files some,
-      ))
-
   pub came : Comes status
   came = by (line_of words) refl call.passes
     where
-      no_calls : call.events ≡ [] → new ≡ Some m
-      no_calls nothing = (subst (λ (es : List Event). AreHonest es (Some m) call.current new call.after) nothing call.honest).0
+      so : (events : List Event) → call.events ≡ events → AreHonest events (Some m) call.current new call.after
+      so events is = subst (λ (es : List Event). AreHonest es (Some m) call.current new call.after) is call.honest
 
-      by : (o : Option Line) → line_of words ≡ o
-          → MatchOption o ((call.events ≡ []) × (((status ≡ 2) × says usage_line) ⊎ (status ≡ 5)))
+      by : (o : Option Line) → line_of words ≡ o → MatchOption o ((call.events ≡ []) × (((status ≡ 2) × says usage_line) ⊎ (status ≡ 5)))
           (λ line. PassesLine line status says call.events) → Comes status
-      by None is (nothing, inl (two, said)) = subst Comes (sym two) (no_calls nothing, is)
-      by None is (nothing, inr five) = subst Comes (sym five) (inl (no_calls nothing))
-      by (Some line) is p =
-          on_line line is p (subst (λ (es : List Event). AreHonest es (Some m) call.current new call.after) p.split call.honest)
+      by None is (nothing, inl (two, said)) = subst Comes (sym two) ((so [] nothing).0, is)
+      by None is (nothing, inr five) = subst Comes (sym five) (inl (so [] nothing).0)
+      by (Some line) is p = elim p.follows [
+        | inl (job, over, follows) ↦ on_job line m p.given p.put new call.current call.after p.reads (so (p.given ++ p.put) p.split)
+            words is status says call.events p.split job over follows
+        | inr (five, none) ↦ subst Comes (sym five)
+            (inl (none_put line m p.given p.put new call.current call.after p.reads (so (p.given ++ p.put) p.split) none))
+      ]
 
   -- status 1 to 3: nothing has changed
   pub honest_untouched : (status ≡ 1) ⊎ (status ≡ 2) ⊎ (status ≡ 3) → new ≡ Some m
@@ -221,20 +171,16 @@ module _ (words : List Name) (status : ℕ) (says : List ℕ → Type 0) (m : Co
   honest_untouched (inr (inr is)) = (subst Comes is came).0
 
   -- any status: that of the job, unless a read or a write failed or memory was wanting
-  pub honest_answered : (status ≡ 4) ⊎ (status ≡ 5) ⊎ ((file : Name) × FailsLast file call.events)
-      ⊎ ((job : Job) × IsJob words m job × Answers job status)
-  honest_answered = by status came
-    where
-      by : (n : ℕ) → Comes n → (n ≡ 4) ⊎ (n ≡ 5) ⊎ ((file : Name) × FailsLast file call.events)
-          ⊎ ((job : Job) × IsJob words m job × Answers job n)
-      by zero (files, job, whole) = inr (inr (inr (Write files, job, refl)))
-      by (suc zero) (same, (file, reason, said, job)) = inr (inr (inr (Refused file reason, job, refl)))
-      by (suc (suc zero)) (same, none) = inr (inr (inr (Usage, usage_job words m none, refl)))
-      by (suc (suc (suc zero))) (same, (file, said, inl job)) = inr (inr (inr (Missing file, job, refl)))
-      by (suc (suc (suc zero))) (same, (file, said, inr fails)) = inr (inr (inl (file, fails)))
-      by (suc (suc (suc (suc zero)))) broken = inl refl
-      by (suc (suc (suc (suc (suc zero))))) stands = inr (inl refl)
-      by _ none = absurd none
+  pub honest_answered : (n : ℕ) → Comes n
+      → (n ≡ 4) ⊎ (n ≡ 5) ⊎ ((file : Name) × FailsLast file call.events) ⊎ ((job : Job) × IsJob words m job × Answers job n)
+  honest_answered zero (files, job, whole) = inr (inr (inr (Write files, job, refl)))
+  honest_answered (suc zero) (same, (file, reason, said, job)) = inr (inr (inr (Refused file reason, job, refl)))
+  honest_answered (suc (suc zero)) (same, none) = inr (inr (inr (Usage, rw none refl, refl)))
+  honest_answered (suc (suc (suc zero))) (same, (file, said, inl job)) = inr (inr (inr (Missing file, job, refl)))
+  honest_answered (suc (suc (suc zero))) (same, (file, said, inr fails)) = inr (inr (inl (file, fails)))
+  honest_answered (suc (suc (suc (suc zero)))) broken = inl refl
+  honest_answered (suc (suc (suc (suc (suc zero))))) stands = inr (inl refl)
+  honest_answered _ none = absurd none
 
 -- status 0: the job's files stand whole
 pub honest_done : (words : List Name) (says : List ℕ → Type 0) (m : Contents) (new : Told) → PassesHonestly words 0 says m new

@@ -1,15 +1,15 @@
 -- Words ask for at most one job, and the files of a job have distinct names.
 use Rattle.wasm2c_cli.proofs.Common.{◌≡◌, ℕ, ◌⊎◌, List, [], ◌∷◌, Some, None, Option, MatchOption, sym, refl, ap, ◌∙◌, subst, inl, inr}
-use Rattle.wasm2c_cli.proofs.Common.{Contents, Name, Event, NotThere, StopsReading, Unreadable, AreDistinct, IsOneOf, file_names}
-use Rattle.wasm2c_cli.proofs.Common.{most_module_bytes, Module, Line, generate, line_of, runtime, AreReadOf, AreSourcesBy, IsJob, IsJobBy}
-use Rattle.wasm2c_cli.proofs.Common.{IsJobOf, Job, Missing, Refused, Translates, TranslatesBy, Usage, Write, Writes, WritesBy, files_of}
-use Rattle.wasm2c_cli.proofs.Common.{HasPassed, IsJobOver, ReadsWhole, StopsAfter, Target, inputs_of, most_set_bytes, names_of_targets}
-use Rattle.wasm2c_cli.proofs.Common.{targets_of, IsFirstRefused, PassesLimitBy, Reason}
+use Rattle.wasm2c_cli.proofs.Common.{Contents, Name, Event, NotThere, StopsReading, Unreadable, AreDistinct, file_names, most_module_bytes}
+use Rattle.wasm2c_cli.proofs.Common.{Module, Line, generate, line_of, runtime, AreReadOf, AreSourcesBy, IsJob, IsJobBy, IsJobOf, Job}
+use Rattle.wasm2c_cli.proofs.Common.{Missing, Refused, TranslatesBy, Usage, Write, Writes, WritesBy, files_of, HasPassed, IsJobOver}
+use Rattle.wasm2c_cli.proofs.Common.{ReadsWhole, StopsAfter, Target, inputs_of, most_set_bytes, names_of_targets, targets_of}
+use Rattle.wasm2c_cli.proofs.Common.{IsFirstRefused, PassesLimitBy, Reason, AreAccepted}
 use Rattle.w2c_gen.proofs.Formed.{one_file}
 use Rattle.wasm2c_cli.proofs.ModuleFiles.{one_of_targets}
 use Rattle.wasm2c_cli.proofs.OneReading.{contents_end, EndsOnce, reads_end}
 use Rattle.wasm2c_cli.proofs.Passed.{passed, distinct_outputs}
-use Rattle.wasm2c_cli.proofs.ReasonLaws.{accepted_not_first, one_first_refused, one_limit, limit_not_missing, one_modules, over}
+use Rattle.wasm2c_cli.proofs.ReasonLaws.{accepted_not_first, one_first_refused, one_limit, limit_not_missing, modules_of, over}
 
 -- Below, reading the files of a line ends in one way: `S` says where it stops, and `R` what it gives.
 
@@ -36,6 +36,15 @@ translated_or_not : {C : Type 0} (line : Line) (R : List (List ℕ) → Type 0) 
 translated_or_not (runtime dir) R files w by_files by_runtime = by_runtime dir refl
 translated_or_not line R files w by_files by_runtime = by_files w
 
+same_files : (line : Line) (S : Name → Unreadable → Type 0) (R : List (List ℕ) → Type 0) → EndsOnce (inputs_of line) S R → HasPassed line
+    → (files others : List (Name × List ℕ)) → WritesBy R line files → WritesBy R line others → files ≡ others
+same_files (runtime dir) S R ends p files others t u = t ∙ sym u
+same_files line S R ends p files others t u =
+    let same = same_sources line S R ends t.sources u.sources p t.read u.read in
+    let accepted = subst (λ (all : List (List ℕ)). AreAccepted all u.modules) (sym same) u.accepted in
+    let modules = modules_of t.sources t.modules u.modules t.accepted accepted in
+    t.written ∙ ap (files_of (targets_of line)) modules ∙ sym u.written
+
 module _ (line : Line) (S : Name → Unreadable → Type 0) (R : List (List ℕ) → Type 0) (ends : EndsOnce (inputs_of line) S R)
     (p : HasPassed line) where
   limit_not_sources : (file : Name) (reason : Reason) (sources : List (List ℕ)) → PassesLimitBy (S file) reason
@@ -45,30 +54,9 @@ module _ (line : Line) (S : Name → Unreadable → Type 0) (R : List (List ℕ)
 
   -- ---- what is written
 
-  same_translation : (files others : List (Name × List ℕ)) → TranslatesBy R line files → TranslatesBy R line others → files ≡ others
-  same_translation files others t u =
-      let modules = one_modules t.sources u.sources t.modules u.modules (same_sources line S R ends t.sources u.sources p t.read u.read)
-      t.accepted u.accepted in
-      t.written ∙ ap (files_of (targets_of line)) modules ∙ sym u.written
-
   stop_not_written : (file : Name) (why : Unreadable) (files : List (Name × List ℕ)) → S file why → WritesBy R line files → ⊥
   stop_not_written file why files s w = translated_or_not line R files w (λ t. stop_not_sources line S R ends file why t.sources s t.read)
       (λ dir is. ends.none_stops file why (ap inputs_of is) s)
-
-  limit_not_written : (file : Name) (reason : Reason) (files : List (Name × List ℕ)) → PassesLimitBy (S file) reason
-      → WritesBy R line files → ⊥
-  limit_not_written file reason files limit w = let (why, s, for) = over (S file) reason limit in stop_not_written file why files s w
-
-  refused_not_written : (sources : List (List ℕ)) (file : Name) (reason : Reason) (files : List (Name × List ℕ))
-      → AreSourcesBy R line sources → IsFirstRefused (inputs_of line) sources file reason → WritesBy R line files → ⊥
-  refused_not_written sources file reason files read first w = translated_or_not line R files w
-      (λ t. accepted_not_first (inputs_of line) t.sources t.modules file reason t.accepted
-      (rw (same_sources line S R ends sources t.sources p read t.read) at first))
-      (λ dir is. no_first sources file reason (ap inputs_of is) first)
-    where
-      no_first : (sources : List (List ℕ)) (file : Name) (reason : Reason) → inputs_of line ≡ []
-          → IsFirstRefused (inputs_of line) sources file reason → ⊥
-      no_first sources file reason none first = subst (λ (names : List Name). IsFirstRefused names sources file reason) none first
 
   -- ---- at most one job
 
@@ -82,8 +70,12 @@ module _ (line : Line) (S : Name → Unreadable → Type 0) (R : List (List ℕ)
   missing_not_refused file other reason s (inr (sources, read, first)) = stop_not_sources line S R ends file NotThere sources s read
 
   not_refused_and_written : (file : Name) (reason : Reason) (files : List (Name × List ℕ)) → Refuses file reason → WritesBy R line files → ⊥
-  not_refused_and_written file reason files (inl limit) w = limit_not_written file reason files limit w
-  not_refused_and_written file reason files (inr (sources, read, first)) w = refused_not_written sources file reason files read first w
+  not_refused_and_written file reason files (inl limit) w =
+      let (why, s, for) = over (S file) reason limit in stop_not_written file why files s w
+  not_refused_and_written file reason files (inr (sources, read, first)) w = translated_or_not line R files w
+      (λ t. accepted_not_first (inputs_of line) t.sources t.modules file reason t.accepted
+      (rw (same_sources line S R ends sources t.sources p read t.read) at first))
+      (λ dir is. subst (λ (names : List Name). IsFirstRefused names sources file reason) (ap inputs_of is) first)
 
   same_refusal : (file other : Name) (reason r : Reason) → Refuses file reason → Refuses other r → (file ≡ other) × (reason ≡ r)
   same_refusal file other reason r (inl limit) (inl limit') = one_limit S ends.one_stops file other reason r limit limit'
@@ -93,29 +85,19 @@ module _ (line : Line) (S : Name → Unreadable → Type 0) (R : List (List ℕ)
       one_first_refused (inputs_of line) sources file other reason r first
       (rw (same_sources line S R ends sources others p read read') first')
 
-  one_of_line : ((files others : List (Name × List ℕ)) → WritesBy R line files → WritesBy R line others → files ≡ others)
-      → (job other : Job) → IsJobBy S R line job → IsJobBy S R line other → job ≡ other
-  one_of_line files_same Usage other j k = absurd j
-  one_of_line files_same (Missing file) (Missing other) j k = ap Missing (ends.one_stops file other NotThere NotThere j k).0
-  one_of_line files_same (Missing file) (Refused other reason) j k = absurd (missing_not_refused file other reason j k)
-  one_of_line files_same (Missing file) (Write files) j k = absurd (stop_not_written file NotThere files j k)
-  one_of_line files_same (Refused file reason) (Missing other) j k = absurd (missing_not_refused other file reason k j)
-  one_of_line files_same (Refused file reason) (Refused other r) j k =
+  pub one_line_job : (job other : Job) → IsJobBy S R line job → IsJobBy S R line other → job ≡ other
+  one_line_job Usage other j k = absurd j
+  one_line_job (Missing file) (Missing other) j k = ap Missing (ends.one_stops file other NotThere NotThere j k).0
+  one_line_job (Missing file) (Refused other reason) j k = absurd (missing_not_refused file other reason j k)
+  one_line_job (Missing file) (Write files) j k = absurd (stop_not_written file NotThere files j k)
+  one_line_job (Refused file reason) (Missing other) j k = absurd (missing_not_refused other file reason k j)
+  one_line_job (Refused file reason) (Refused other r) j k =
       let same = same_refusal file other reason r j k in λ i. Refused (same.0 i) (same.1 i)
-  one_of_line files_same (Refused file reason) (Write files) j k = absurd (not_refused_and_written file reason files j k)
-  one_of_line files_same (Write files) (Missing other) j k = absurd (stop_not_written other NotThere files k j)
-  one_of_line files_same (Write files) (Refused other reason) j k = absurd (not_refused_and_written other reason files k j)
-  one_of_line files_same (Write files) (Write others) j k = ap Write (files_same files others j k)
-  one_of_line files_same _ _ j k = absurd k
-
-same_files : (line : Line) (S : Name → Unreadable → Type 0) (R : List (List ℕ) → Type 0) → EndsOnce (inputs_of line) S R → HasPassed line
-    → (files others : List (Name × List ℕ)) → WritesBy R line files → WritesBy R line others → files ≡ others
-same_files (runtime dir) S R ends p files others w v = w ∙ sym v
-same_files line S R ends p files others w v = same_translation line S R ends p files others w v
-
-pub one_line_job : (line : Line) (S : Name → Unreadable → Type 0) (R : List (List ℕ) → Type 0) → EndsOnce (inputs_of line) S R
-    → HasPassed line → (job other : Job) → IsJobBy S R line job → IsJobBy S R line other → job ≡ other
-one_line_job line S R ends p job other j k = one_of_line line S R ends p (same_files line S R ends p) job other j k
+  one_line_job (Refused file reason) (Write files) j k = absurd (not_refused_and_written file reason files j k)
+  one_line_job (Write files) (Missing other) j k = absurd (stop_not_written other NotThere files k j)
+  one_line_job (Write files) (Refused other reason) j k = absurd (not_refused_and_written other reason files k j)
+  one_line_job (Write files) (Write others) j k = ap Write (same_files line S R ends p files others j k)
+  one_line_job _ _ j k = absurd k
 
 pub one_job : (words : List Name) (contents : Contents) (job other : Job) → IsJob words contents job → IsJob words contents other
     → job ≡ other
@@ -139,23 +121,15 @@ pub files_distinct : (targets : List Target) (modules : List Module) → AreDist
     → AreDistinct (file_names (files_of targets modules))
 files_distinct [] modules distinct = tt
 files_distinct (t ∷ targets) [] distinct = tt
-files_distinct (t ∷ targets) (m ∷ modules) distinct = (c_file, (header, files_distinct targets modules distinct.1.1))
-  where
-    c_file : IsOneOf t.c_file (t.header ∷ file_names (files_of targets modules)) → ⊥
-    c_file (inl same) = distinct.0 (inl same)
-    c_file (inr one) = distinct.0 (inr (one_of_targets targets modules t.c_file one))
-
-    header : IsOneOf t.header (file_names (files_of targets modules)) → ⊥
-    header one = distinct.1.0 (one_of_targets targets modules t.header one)
-
-translated_distinct : (line : Line) (contents : Contents) (files : List (Name × List ℕ)) → AreDistinct (names_of_targets (targets_of line))
-    → Translates line contents files → AreDistinct (file_names files)
-translated_distinct line contents files distinct t = rw t.written (files_distinct (targets_of line) t.modules distinct)
+files_distinct (t ∷ targets) (m ∷ modules) distinct = (
+  λ one. elim one [ inl same ↦ distinct.0 (inl same) | inr other ↦ distinct.0 (inr (one_of_targets targets modules t.c_file other)) ],
+  (λ one. distinct.1.0 (one_of_targets targets modules t.header one), files_distinct targets modules distinct.1.1),
+)
 
 distinct_of_line : (line : Line) (contents : Contents) (files : List (Name × List ℕ)) → HasPassed line → Writes line contents files
     → AreDistinct (file_names files)
 distinct_of_line (runtime dir) contents files p w = rw w (distinct_outputs (runtime dir) p)
-distinct_of_line line contents files p w = translated_distinct line contents files (distinct_outputs line p) w
+distinct_of_line line contents files p w = rw w.written (files_distinct (targets_of line) w.modules (distinct_outputs line p))
 
 pub distinct_files : (words : List Name) (contents : Contents) (files : List (Name × List ℕ)) → IsJob words contents (Write files)
     → AreDistinct (file_names files)

@@ -1,10 +1,10 @@
 -- What the stop of each form says of its line's job.
 use Rattle.wasm2c_cli.proofs.Common.{◌≡◌, ℕ, List, [], ◌∷◌, length, IfOk, IfErr, OnOk, Some, Ok, Err, string_bytes, Option, Result, refl}
-use Rattle.wasm2c_cli.proofs.Common.{ap, ◌∙◌, subst, inl, inr, IfErr-weaker, IfOk-weaker, Contents, Name, Told, is_one, written, Module}
-use Rattle.wasm2c_cli.proofs.Common.{Generation, Line, generate, line_of, runtime, AreReadOf, Translates, TranslatesBy, files_of}
-use Rattle.wasm2c_cli.proofs.Common.{module_files, AreAllTaken, FinishesLine, FinishesWork, HasPassed, IsGenerated, IsNamed, IsTakenFile}
-use Rattle.wasm2c_cli.proofs.Common.{StopsTranslating, StopsWriting, inputs_of, target, targets_of, runtime_files, KeepsCurrent, StopsLine}
-use Rattle.wasm2c_cli.proofs.Common.{StopsWork, Stop, Finished}
+use Rattle.wasm2c_cli.proofs.Common.{ap, ◌∙◌, subst, inl, inr, IfErr-weaker, IfOk-weaker, Name, Told, is_one, written, Module, Generation}
+use Rattle.wasm2c_cli.proofs.Common.{Line, generate, line_of, runtime, AreReadOf, TranslatesBy, files_of, module_files, FinishesLine}
+use Rattle.wasm2c_cli.proofs.Common.{FinishesWork, HasPassed, IsGenerated, IsNamed, IsTakenFile, StopsTranslating, StopsWriting, inputs_of}
+use Rattle.wasm2c_cli.proofs.Common.{target, targets_of, runtime_files, KeepsCurrent, StopsLine, StopsWork, Stop, Finished, AreAccepted}
+use Rattle.wasm2c_cli.proofs.Common.{WritesBy}
 use Rattle.wasm2c_cli.specs.declared.stop.Stop.TheVariants as stops
 use Rattle.wasm2c_cli.specs.declared.work.Finished.TheVariants as finished
 use Rattle.wasm2c_cli.specs.Plan as plan
@@ -14,25 +14,15 @@ use Rattle.wasm2c_cli.proofs.ModuleFiles.{one_of_targets}
 
 pub generated_by : (Reads : List (List ℕ) → Type 0) (g : Generation) (bytes : List ℕ) (m : Module) → IsTakenFile g bytes m
     → TranslatesBy Reads (generate g) (module_files (target g.output g.module_name) m)
-generated_by Reads g bytes m taken = record {
-  sources = bytes ∷ [];
-  modules = m ∷ [];
-  read = (bytes, taken.file, refl);
-  accepted = (taken.accepted, tt);
-  written = refl;
-}
+generated_by Reads g bytes m taken =
+    record { sources = bytes ∷ []; modules = m ∷ []; read = (bytes, taken.file, refl); accepted = (taken.accepted, tt); written = refl }
 
 pub all_generated : (old new : Told) (g : Generation) (bytes : List ℕ) (m : Module) (r : Result Unit Stop) → IsTakenFile g bytes m
     → (t : plan.Target) → t ≡ target g.output g.module_name → IsNamed t → OnOk r (new ≡ written old (module_files t m))
     → OnOk r (IsGenerated g (length bytes) old new)
-all_generated old new g bytes m (Ok done) taken t is named stand = record {
-  bytes = bytes;
-  generated = m;
-  taken = taken;
-  many = refl;
-  named = subst IsNamed is named;
-  stand = stand ∙ ap (λ (t : plan.Target). written old (module_files t m)) is;
-}
+all_generated old new g bytes m (Ok done) taken t is named stand =
+    let whole = stand ∙ ap (λ (t : plan.Target). written old (module_files t m)) is in
+    record { bytes = bytes; generated = m; taken = taken; many = refl; named = subst IsNamed is named; stand = whole }
 all_generated old new g bytes m (Err stop) taken t is named stand = stand
 
 -- a line of files that are read: of one file, and of a set
@@ -41,12 +31,13 @@ IsOfFiles (generate g) = ⊥
 IsOfFiles (runtime dir) = ⊥
 IsOfFiles _ = Unit {0}
 
-files_translate : (line : Line) (contents : Contents) (modules : List Module) → IsOfFiles line
-    → AreAllTaken (inputs_of line) contents modules → Translates line contents (files_of (targets_of line) modules)
-files_translate (generate g) contents modules of all = absurd of
-files_translate (runtime dir) contents modules of all = absurd of
-files_translate line contents modules of all =
-    record { sources = all.sources; modules = modules; read = all.read; accepted = all.accepted; written = refl }
+-- the files of modules that are accepted are those that such a line asks for
+pub files_by : (Reads : List (List ℕ) → Type 0) (line : Line) (sources : List (List ℕ)) (modules : List Module) → IsOfFiles line
+    → Reads sources → AreAccepted sources modules → WritesBy Reads line (files_of (targets_of line) modules)
+files_by Reads (generate g) sources modules of read accepted = absurd of
+files_by Reads (runtime dir) sources modules of read accepted = absurd of
+files_by Reads line sources modules of read accepted =
+    record { sources = sources; modules = modules; read = read; accepted = accepted; written = refl }
 
 module _ (old new : Told) (r r' w w' : ℕ) (named : Option Name) where
   -- ---- files of a line, and of a set
@@ -59,12 +50,12 @@ module _ (old new : Told) (r r' w w' : ℕ) (named : Option Name) where
     one,
     faulted,
     λ contents tells.
-        let part = stands contents tells in
-        (files_of (targets_of line) part.0, files_translate line contents part.0 of part.1, part.2),
+        let (modules, all, at) = stands contents tells in
+        (_, files_by (AreReadOf line contents) line all.sources modules of all.read all.accepted, at),
   )
   files_stop line stops.Memory of why = λ contents tells. elim (why contents tells) [
     | inl same ↦ inl same
-    | inr part ↦ inr (files_of (targets_of line) part.0, files_translate line contents part.0 of part.1, part.2)
+    | inr (modules, all, part) ↦ inr (_, files_by (AreReadOf line contents) line all.sources modules of all.read all.accepted, part)
   ]
   files_stop line _ of why = why
 
@@ -109,8 +100,7 @@ module _ (old new : Told) (r r' w w' : ℕ) (named : Option Name) where
 
 -- the files of the runtime under their names
 pub runtime_finished : (old new : Told) (dir : Name) (files : List (Name × List ℕ)) (result : Result Finished Stop)
-    → files ≡ runtime_files dir
-    → IfOk result (λ f. f ≡ finished.Written) → IfOk result (λ _. new ≡ written old files)
+    → files ≡ runtime_files dir → IfOk result (λ f. f ≡ finished.Written) → IfOk result (λ _. new ≡ written old files)
     → IfOk result (FinishesLine (runtime dir) old new)
 runtime_finished old new dir files (Ok f) same is whole = (is, whole ∙ ap (written old) same)
 runtime_finished old new dir files (Err stop) same is whole = tt

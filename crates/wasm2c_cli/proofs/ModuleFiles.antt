@@ -7,7 +7,7 @@ use Rattle.wasm2c_cli.proofs.Common.{IsOneOf, Stands, StandsAt, file_names, writ
 use Rattle.wasm2c_cli.proofs.Common.{StopsWriting, seen_target, seen_targets, EndsWriting, names_of_targets, Stop}
 use Rattle.w2c_io.specs.declared.answers.WriteAnswer.TheVariants as answers
 use Rattle.w2c_io.proofs.Telling.{rose_from}
-use Rattle.w2c_io.specs.Causes.{WriteCause, name_after_write}
+use Rattle.w2c_io.specs.Causes.{WriteCause}
 use Rattle.wasm2c_cli.specs.declared.plan.Target.{Target}
 use Rattle.wasm2c_cli.specs.declared.stop.Stop.TheVariants as stops
 use Rattle.wasm2c_cli.specs.Plan as plan
@@ -27,57 +27,40 @@ pub in_err : {A E P : Type 0} (result : Result A E) → P → OnErr result P
 in_err (Ok x) holds = tt
 in_err (Err e) holds = holds
 
--- the file whose text was not put, and which was then given up, is named where the write failed
-pub named_given_up : (answer : WriteAnswer) (file : Name) (before fault after begun current : Option Name)
-    → fault ≡ name_after_write {A = Unit {0}} (Err answer) begun before → current ≡ begun → begun ≡ Some file
-    → (fault ≡ current → after ≡ current) → IsErrOf {T = Unit {0}} {E = WriteAnswer} (Err answer) answers.Failed → after ≡ Some file
-named_given_up answer file before fault after begun current is same at then failed =
-    then (subst (λ (r : Result (Unit {0}) WriteAnswer). fault ≡ name_after_write r begun before) failed is ∙ sym same) ∙ same ∙ at
+-- ---- files one after another, which the calls had under names and with texts that are equal to theirs
 
--- ---- both files of a module
-
-module _ (old mid new : Told) (c_file header : Name) (text more : List ℕ) (first : mid ≡ holding old c_file text) where
-  pub second_at : IsBegun mid new header more → StandsAt old new ((c_file, text) ∷ (header, more) ∷ []) header
-  second_at begun = at_behind old mid new ((c_file, text) ∷ []) ((header, more) ∷ []) header first (at_first mid new header more [] begun)
-
-pub both_stand : (old middle new : Told) (c_file header first second : Name) → first ≡ c_file → second ≡ header → (text more : List ℕ)
-    → middle ≡ holding old first text → new ≡ holding middle second more → new ≡ written old ((c_file, text) ∷ (header, more) ∷ [])
-both_stand old middle new c_file header first second same same' text more one two =
-    two ∙ (λ i. holding (one i) second more) ∙ (λ i. holding (holding old (same i) text) (same' i) more)
+pub both_stand : (old middle new : Told) (f g : Name × List ℕ) (files : List (Name × List ℕ)) → f ∷ g ∷ [] ≡ files
+    → middle ≡ holding old f.0 f.1 → new ≡ holding middle g.0 g.1 → new ≡ written old files
+both_stand old middle new f g files same one two = two ∙ ap (λ (t : Told). holding t g.0 g.1) one ∙ ap (written old) same
 
 -- the stop at a file that stands in part
-pub stops_at : (old new : Told) (files : List (Name × List ℕ)) (before after : ℕ) (named : Option Name) (answer : WriteAnswer) (file : Name)
+stops_at : (old new : Told) (files : List (Name × List ℕ)) (before after : ℕ) (named : Option Name) (answer : WriteAnswer) (file : Name)
     (stop : Stop) → StandsAt old new files file → (answer ≡ answers.Failed → Faulted file before after named) → StopsAtFile answer file stop
     → StopsWriting old new files before after named stop
-stops_at old new files before after named answer file (stops.Unwritten name) stands faulted (failed, same) = (
-  subst (λ (n : Name). Faulted n before after named) (sym same) (faulted failed),
-  subst (StandsAt old new files) (sym same) stands,
-)
+stops_at old new files before after named answer file (stops.Unwritten name) stands faulted (failed, same) =
+    (subst (λ (n : Name). Faulted n before after named) (sym same) (faulted failed), subst (StandsAt old new files) (sym same) stands)
 stops_at old new files before after named answer file stops.Memory stands faulted is = inr (file, stands)
 stops_at old new files before after named answer file _ stands faulted is = absurd is
 
--- the same of the first of files, and of the second, where the calls had names and texts that are equal to theirs
-pub first_stops : (old new : Told) (before after : ℕ) (named : Option Name) (answer : WriteAnswer) (stop : Stop) (file name : Name)
-    (piece text : List ℕ) (rest : List (Name × List ℕ)) → file ≡ name → piece ≡ text → IsBegun old new file piece
-    → WriteCause {A = Unit {0}} before after (Err answer)
-    → (IsErrOf {T = Unit {0}} {E = WriteAnswer} (Err answer) answers.Failed → named ≡ Some file) → StopsAtFile answer file stop
-    → StopsWriting old new ((name, text) ∷ rest) before after named stop
-first_stops old new before after named answer stop file name piece text rest same is begun cause is_named stops =
-    subst (λ (l : List (Name × List ℕ)). StopsWriting old new l before after named stop) (λ i. (same i, is i) ∷ rest)
-    (stops_at old new ((file, piece) ∷ rest) before after named answer file stop (at_first old new file piece rest begun)
+-- at the first of files, and at the second
+pub first_stops : (old new : Told) (before after : ℕ) (named : Option Name) (answer : WriteAnswer) (stop : Stop) (f : Name × List ℕ)
+    (rest files : List (Name × List ℕ)) → f ∷ rest ≡ files → IsBegun old new f.0 f.1 → WriteCause {A = Unit {0}} before after (Err answer)
+    → (IsErrOf {T = Unit {0}} {E = WriteAnswer} (Err answer) answers.Failed → named ≡ Some f.0) → StopsAtFile answer f.0 stop
+    → StopsWriting old new files before after named stop
+first_stops old new before after named answer stop f rest files same begun cause is_named stops =
+    subst (λ (l : List (Name × List ℕ)). StopsWriting old new l before after named stop) same
+    (stops_at old new (f ∷ rest) before after named answer f.0 stop (at_first old new f.0 f.1 rest begun)
     (λ failed. record { rose = cause.failed (ap Err failed); named = is_named (ap Err failed) }) stops)
 
 pub second_stops : (old mid new : Told) (start here after : ℕ) (named : Option Name) (answer : WriteAnswer) (stop : Stop)
-    (first name second other : Name) (piece text last more : List ℕ) → first ≡ name → piece ≡ text → second ≡ other → last ≡ more
-    → mid ≡ holding old first piece → start ≤ here → IsBegun mid new second last → WriteCause {A = Unit {0}} here after (Err answer)
-    → (IsErrOf {T = Unit {0}} {E = WriteAnswer} (Err answer) answers.Failed → named ≡ Some second) → StopsAtFile answer second stop
-    → StopsWriting old new ((name, text) ∷ (other, more) ∷ []) start after named stop
-second_stops old mid new start here after named answer stop first name second other piece text last more same is same' is' one later begun
-    cause is_named stops =
-    subst (λ (l : List (Name × List ℕ)). StopsWriting old new l start after named stop)
-    (λ i. (same i, is i) ∷ (same' i, is' i) ∷ [])
-    (stops_at old new ((first, piece) ∷ (second, last) ∷ []) start after named answer second stop
-    (second_at old mid new first second piece last one begun)
+    (f g : Name × List ℕ) (files : List (Name × List ℕ)) → f ∷ g ∷ [] ≡ files → mid ≡ holding old f.0 f.1 → start ≤ here
+    → IsBegun mid new g.0 g.1 → WriteCause {A = Unit {0}} here after (Err answer)
+    → (IsErrOf {T = Unit {0}} {E = WriteAnswer} (Err answer) answers.Failed → named ≡ Some g.0) → StopsAtFile answer g.0 stop
+    → StopsWriting old new files start after named stop
+second_stops old mid new start here after named answer stop f g files same one later begun cause is_named stops =
+    subst (λ (l : List (Name × List ℕ)). StopsWriting old new l start after named stop) same
+    (stops_at old new (f ∷ g ∷ []) start after named answer g.0 stop
+    (at_behind old mid new (f ∷ []) (g ∷ []) g.0 one (at_first mid new g.0 g.1 [] begun))
     (λ failed. record { rose = rose_from start here after later (cause.failed (ap Err failed)); named = is_named (ap Err failed) }) stops)
 
 -- ---- the files of all modules
@@ -109,8 +92,7 @@ module _ (targets : List plan.Target) (modules : List Module) (k : ℕ) (t : pla
   module _ (old before new : Told) (so_far : before ≡ written old (files_of (take k targets) (take k modules))) where
     pub one_more : new ≡ written before (module_files t m) → new ≡ written old (files_of (take (k + 1) targets) (take (k + 1) modules))
     one_more one = one ∙ ap (λ (told : Told). written told (module_files t m)) so_far
-        ∙ sym (written_joined old (files_of (take k targets) (take k modules)) (module_files t m))
-        ∙ ap (written old) (sym next_files)
+        ∙ sym (written_joined old (files_of (take k targets) (take k modules)) (module_files t m)) ∙ ap (written old) (sym next_files)
 
     pub stops_all : (start here after : ℕ) (named : Option Name) (stop : Stop) → start ≤ here
         → StopsWriting before new (module_files t m) here after named stop
@@ -140,8 +122,7 @@ module _ (targets : List plan.Target) (modules : List Module) (k : ℕ) (t : pla
         → Passes old new (EndsWriting (files_of targets modules) stop)
     ends_all stop tried = subst (λ (l : List (Name × List ℕ)). Passes old new (EndsWriting l stop)) (sym all_files)
         (both_passed old before new (WritesFiles (files_of (take k targets) (take k modules))) (EndsWriting (module_files t m) stop)
-        (EndsWriting (files_of (take k targets) (take k modules) ++ (module_files t m ++ rest)) stop)
-        (λ first last whole ends.
+        (EndsWriting (files_of (take k targets) (take k modules) ++ (module_files t m ++ rest)) stop) (λ first last whole ends.
         ends_among (files_of (take k targets) (take k modules)) (module_files t m) rest first last stop whole ends) so_far tried)
 
 -- ---- what holds of each

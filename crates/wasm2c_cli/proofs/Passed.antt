@@ -1,16 +1,15 @@
 -- What a line has passed, and what follows of the modules and files that it asks for.
-use Rattle.wasm2c_cli.proofs.Common.{◌≡◌, ℕ, ◌≤◌, Bool, true, false, ◌&&◌, List, [], ◌∷◌, ◌++◌, map, length, get_or, if◌then◌else◌, IsTrue}
-use Rattle.wasm2c_cli.proofs.Common.{nat_le, Some, None, codes, Option, option_and_then, bytes_eq, unwrap_or, sym, refl, ap, subst, inl}
-use Rattle.wasm2c_cli.proofs.Common.{inr, arith, leb-true, append_cancel_left, AllByRecursion, list_all, list_any, Name, AreDistinct}
-use Rattle.wasm2c_cli.proofs.Common.{IsOneOf, FileSet, Generation, Line, Translation, are_names, count_of, generate, generation, in_range}
-use Rattle.wasm2c_cli.proofs.Common.{is_set, line_by, line_of, line_of_values, line_with_dir, runtime, set, translate, translation, HasName}
-use Rattle.wasm2c_cli.proofs.Common.{HasPassed, names_of_targets, outputs_of, target_in}
+use Rattle.wasm2c_cli.proofs.Common.{◌≡◌, ℕ, ◌≤◌, Bool, true, false, ◌&&◌, List, [], ◌∷◌, ◌++◌, map, length, get_or, if◌then◌else◌, nat_le}
+use Rattle.wasm2c_cli.proofs.Common.{Some, None, codes, Option, option_and_then, bytes_eq, unwrap_or, sym, refl, ap, subst, inl, inr, arith}
+use Rattle.wasm2c_cli.proofs.Common.{leb-true, append_cancel_left, AllByRecursion, list_all, list_any, Name, AreDistinct, IsOneOf, FileSet}
+use Rattle.wasm2c_cli.proofs.Common.{Generation, Line, Translation, are_names, count_of, generate, generation, in_range, is_set, line_by}
+use Rattle.wasm2c_cli.proofs.Common.{line_of, line_of_values, line_with_dir, runtime, set, translate, translation, HasName, HasPassed}
+use Rattle.wasm2c_cli.proofs.Common.{names_of_targets, outputs_of, target_in}
 use Rattle.std.specs.Str.Parse.{digits_value}
 use Rattle.std.proofs.lemmas.Bool.{not-true, or_parts}
 use Rattle.w2c_base.proofs.Conjunctions.{both_hold}
 use Rattle.wasm2c_words.specs.Command.{Values, values_of}
 use Rattle.program_words.specs.Tests.{is_decimal, is_module_name}
-use Rattle.w2c_files.specs.CFile.{is_c_file}
 use Rattle.wasm2c_words.specs.Names.{are_distinct, header_name_of, module_name_of}
 use Rattle.wasm2c_words.specs.SetFiles.{files_of}
 use Rattle.wasm2c_words.proofs.HeaderName.{is_apart}
@@ -93,8 +92,6 @@ values_passed (Some v) line is = options_passed v.output v.dir v.count v.runtime
 pub passed : (words : List Name) (line : Line) → line_of words ≡ Some line → HasPassed line
 passed words line is = values_passed (values_of words) line is
 
--- ---- the modules of a line
-
 -- ---- names that are distinct
 
 is_no_other : (name : Name) (names : List Name) → list_any (λ other. bytes_eq other name) names ≡ false → IsOneOf name names → ⊥
@@ -109,27 +106,14 @@ distinct_names (name ∷ names) distinct =
     (is_no_other name names (not-true _ parts.0), distinct_names names parts.1)
 
 two_distinct : (name other : Name) → (name ≡ other → ⊥) → AreDistinct (name ∷ other ∷ [])
-two_distinct name other differ = (apart, ((λ none. absurd none), tt))
-  where
-    apart : IsOneOf name (other ∷ []) → ⊥
-    apart (inl same) = differ same
-    apart (inr none) = absurd none
+two_distinct name other differ = ((λ one. elim one [ inl same ↦ differ same | inr none ↦ absurd none ]), ((λ none. absurd none), tt))
 
 -- ---- the files of a line
 
-module_files_distinct : (output : Name) → IsTrue (is_c_file output) → AreDistinct (output ∷ header_name_of output ∷ [])
-module_files_distinct output ends = two_distinct output (header_name_of output) (is_apart output ends)
-
-set_names : (dir : Name) (inputs : List Name)
-    → names_of_targets (map (target_in dir) inputs) ≡ files_of dir (map module_name_of inputs)
+set_names : (dir : Name) (inputs : List Name) → names_of_targets (map (target_in dir) inputs) ≡ files_of dir (map module_name_of inputs)
 set_names dir [] = refl
 set_names dir (input ∷ inputs) =
     ap (λ (names : List Name). (target_in dir input).c_file ∷ (target_in dir input).header ∷ names) (set_names dir inputs)
-
-set_files_distinct : (dir : Name) (inputs : List Name) → are_distinct (map module_name_of inputs) ≡ true
-    → AreDistinct (names_of_targets (map (target_in dir) inputs))
-set_files_distinct dir inputs distinct = subst AreDistinct (sym (set_names dir inputs))
-    (distinct_names (files_of dir (map module_name_of inputs)) (files_are_distinct dir (map module_name_of inputs) distinct))
 
 h_is_not_c : (dir : Name) → dir ++ codes "/w2c_rt.h" ≡ dir ++ codes "/w2c_rt.c" → ⊥
 h_is_not_c dir same =
@@ -138,7 +122,9 @@ h_is_not_c dir same =
     omega (arith, last)
 
 pub distinct_outputs : (line : Line) → HasPassed line → AreDistinct (outputs_of line)
-distinct_outputs (translate t) p = module_files_distinct t.output p.0
-distinct_outputs (set s) p = set_files_distinct s.dir s.inputs p.1
-distinct_outputs (generate g) p = module_files_distinct g.output p.0
+distinct_outputs (translate t) p = two_distinct t.output (header_name_of t.output) (is_apart t.output p.0)
+distinct_outputs (set s) p =
+    let names = map module_name_of s.inputs in
+    subst AreDistinct (sym (set_names s.dir s.inputs)) (distinct_names (files_of s.dir names) (files_are_distinct s.dir names p.1))
+distinct_outputs (generate g) p = two_distinct g.output (header_name_of g.output) (is_apart g.output p.0)
 distinct_outputs (runtime dir) p = two_distinct (dir ++ codes "/w2c_rt.h") (dir ++ codes "/w2c_rt.c") (h_is_not_c dir)

@@ -16,9 +16,6 @@ use Rattle.wasm2c_cli.specs.declared.stop.Stop.TheVariants as stops
 
 -- ---- the first of files are read
 
-pub none_read : (names : List Name) → ReadsFirst names []
-none_read names = tt
-
 pub all_read_first : (names : List Name) (all : List (List ℕ)) (given : List Event) → ReadsAll most_module_bytes names all given
     → ReadsFirst names given
 all_read_first names all given reads = all_in_order most_module_bytes names all given reads
@@ -39,8 +36,7 @@ stop_of (read.Past k place) = (k, Past place)
 stop_of read.Memory = (0, NotThere)
 
 by_answer : (number before : ℕ) (answer : Result (List ℕ) ReadAnswer) (why : ReadStop) → (why ≡ read.Memory → ⊥)
-    → StopsBy (most_set_bytes - before) number answer why
-    → ((stop_of why).0 ≡ number) × StopsByAnswer before answer (stop_of why).1
+    → StopsBy (most_set_bytes - before) number answer why → ((stop_of why).0 ≡ number) × StopsByAnswer before answer (stop_of why).1
 by_answer number before (Ok bytes) (read.Past k place) apart (same, is, long) = (same, (long, is))
 by_answer number before (Err reading.TooLong) (read.TooLong k) apart is = (is, tt)
 by_answer number before (Err reading.Absent) (read.Unread k) apart is = (is, tt)
@@ -130,36 +126,28 @@ ends_at files answer file put stops.Memory broken is = broken_some files file an
 ends_at files answer file put _ broken is = absurd is
 
 -- the first of files is broken off
-pub first_ends : (old new : List Event) (name file : Name) → file ≡ name → (text : List ℕ) (rest : List (Name × List ℕ))
-    (answer : WriteAnswer) (stop : Stop) → Passes old new (BreaksOff file text answer) → StopsAtFile answer file stop
-    → Passes old new (EndsWriting ((name, text) ∷ rest) stop)
-first_ends old new name file same text rest answer stop passed is =
-    passed_so old new (BreaksOff file text answer) (EndsWriting ((name, text) ∷ rest) stop)
-    (λ put broken. ends_at ((name, text) ∷ rest) answer name put stop
-    (first_broken name text rest answer put (subst (λ (n : Name). BreaksOff n text answer put) same broken)) (rw same at is)) passed
+pub first_ends : (old new : List Event) (f : Name × List ℕ) (rest files : List (Name × List ℕ)) → f ∷ rest ≡ files → (answer : WriteAnswer)
+    (stop : Stop) → Passes old new (BreaksOff f.0 f.1 answer) → StopsAtFile answer f.0 stop → Passes old new (EndsWriting files stop)
+first_ends old new f rest files same answer stop passed is =
+    subst (λ (l : List (Name × List ℕ)). Passes old new (EndsWriting l stop)) same
+    (passed_so old new (BreaksOff f.0 f.1 answer) (EndsWriting (f ∷ rest) stop)
+    (λ put broken. ends_at (f ∷ rest) answer f.0 put stop (first_broken f.0 f.1 rest answer put broken) is) passed)
 
-module _ (old middle new : List Event) (name other first second : Name) (same : first ≡ name) (same' : second ≡ other)
-    (text more : List ℕ) where
+module _ (old middle new : List Event) (f g : Name × List ℕ) (files : List (Name × List ℕ)) (same : f ∷ g ∷ [] ≡ files) where
   -- the second is
-  pub second_ends : (answer : WriteAnswer) (stop : Stop) → Passes old middle (WritesFile first text)
-      → Passes middle new (BreaksOff second more answer) → StopsAtFile answer second stop
-      → Passes old new (EndsWriting ((name, text) ∷ (other, more) ∷ []) stop)
-  second_ends answer stop one broken is =
-      both_passed old middle new (WritesFile first text) (BreaksOff second more answer)
-      (EndsWriting ((name, text) ∷ (other, more) ∷ []) stop)
-      (λ front back wrote breaks. ends_at ((name, text) ∷ (other, more) ∷ []) answer other (front ++ back) stop
-      (behind_broken ((name, text) ∷ []) ((other, more) ∷ []) other answer front back
-      (one_written name text front (subst (λ (n : Name). WritesFile n text front) same wrote))
-      (first_broken other more [] answer back (subst (λ (n : Name). BreaksOff n more answer back) same' breaks))) (rw same' at is))
-      one broken
+  pub second_ends : (answer : WriteAnswer) (stop : Stop) → Passes old middle (WritesFile f.0 f.1)
+      → Passes middle new (BreaksOff g.0 g.1 answer) → StopsAtFile answer g.0 stop → Passes old new (EndsWriting files stop)
+  second_ends answer stop one broken is = subst (λ (l : List (Name × List ℕ)). Passes old new (EndsWriting l stop)) same
+      (both_passed old middle new (WritesFile f.0 f.1) (BreaksOff g.0 g.1 answer) (EndsWriting (f ∷ g ∷ []) stop)
+      (λ front back wrote breaks. ends_at (f ∷ g ∷ []) answer g.0 (front ++ back) stop
+      (behind_broken (f ∷ []) (g ∷ []) g.0 answer front back (one_written f.0 f.1 front wrote)
+      (first_broken g.0 g.1 [] answer back breaks)) is) one broken)
 
-  pub two_written : Passes old middle (WritesFile first text) → Passes middle new (WritesFile second more)
-      → Passes old new (WritesFiles ((name, text) ∷ (other, more) ∷ []))
-  two_written = both_passed old middle new (WritesFile first text) (WritesFile second more)
-      (WritesFiles ((name, text) ∷ (other, more) ∷ []))
-      (λ front back wrote then. both_written ((name, text) ∷ []) ((other, more) ∷ []) front back
-      (one_written name text front (subst (λ (n : Name). WritesFile n text front) same wrote))
-      (one_written other more back (subst (λ (n : Name). WritesFile n more back) same' then)))
+  pub two_written : Passes old middle (WritesFile f.0 f.1) → Passes middle new (WritesFile g.0 g.1) → Passes old new (WritesFiles files)
+  two_written one two = subst (λ (l : List (Name × List ℕ)). Passes old new (WritesFiles l)) same
+      (both_passed old middle new (WritesFile f.0 f.1) (WritesFile g.0 g.1) (WritesFiles (f ∷ g ∷ []))
+      (λ front back wrote then. both_written (f ∷ []) (g ∷ []) front back (one_written f.0 f.1 front wrote)
+      (one_written g.0 g.1 back then)) one two)
 
 -- behind files that are written, and in front of others
 pub ends_among : (front files rest : List (Name × List ℕ)) (first last : List Event) (stop : Stop) → WritesFiles front first

@@ -1,14 +1,13 @@
 -- What the end of the work says of what passed through the files.
 use Rattle.wasm2c_cli.proofs.Common.{◌≡◌, ℕ, ◌⊎◌, List, [], ◌∷◌, ◌++◌, Some, None, string_bytes, Option, refl, ap, ◌∙◌, subst, inl, inr}
 use Rattle.wasm2c_cli.proofs.Common.{Name, Event, all_some, broken_some, WritesFiles, most_module_bytes, Module, TranslationTheorem, Line}
-use Rattle.wasm2c_cli.proofs.Common.{generate, line_of, runtime, Job, Missing, Refused, Write, files_of, line_for, status_of, usage_line}
-use Rattle.wasm2c_cli.proofs.Common.{PassesWhole, PassesWork, TriesLine, TriesWork, Follows, IsJobOver, IsUnitOf, PassesFor, PassesLine}
-use Rattle.wasm2c_cli.proofs.Common.{PutsLinkedUnits, ReadsFirst, ReadsWhole, inputs_of, targets_of, runtime_files, NamesModules, HoldAll}
-use Rattle.wasm2c_cli.proofs.Common.{HoldsText, HoldsUnit, texts_made, Stop}
+use Rattle.wasm2c_cli.proofs.Common.{generate, line_of, runtime, Job, Missing, Refused, Write, files_of, line_for, status_of, PassesWhole}
+use Rattle.wasm2c_cli.proofs.Common.{PassesWork, TriesLine, TriesWork, Follows, IsJobOver, IsUnitOf, PassesFor, PassesLine, PutsLinkedUnits}
+use Rattle.wasm2c_cli.proofs.Common.{ReadsFirst, ReadsWhole, inputs_of, targets_of, runtime_files, NamesModules, Stop}
 use Rattle.w2c_io.specs.declared.answers.WriteAnswer.TheVariants as writing
 use Rattle.wasm2c_cli.specs.declared.stop.Stop.TheVariants as stops
-use Rattle.wasm2c_cli.proofs.Passing.{all_read_first, many_read, none_read}
-use Rattle.wasm2c_cli.proofs.TopLaws.{Made, all_translated, files_made, generated_made, translated_by, hold_units, hold_weaker, no_runtime}
+use Rattle.wasm2c_cli.proofs.Passing.{all_read_first, many_read}
+use Rattle.wasm2c_cli.proofs.TopLaws.{Made, files_made, generated_made, translated_by, hold_units, linked_units}
 use Rattle.wasm2c_cli.proofs.TopLaws.{TextsSpellUnits, targets_have}
 
 -- ---- work that was finished
@@ -24,80 +23,46 @@ record Puts (line : Line) (events : List Event) : Type 0 where
   files : WritesFiles (files_of (targets_of line) modules) put
 
 is_made : (line : Line) (events : List Event) → ((dir : Name) → line ≡ runtime dir → ⊥) → PassesWhole line events → Puts line events
-is_made (generate g) events names whole = record {
-  given = [];
-  put = events;
-  modules = whole.generated ∷ [];
-  split = refl;
-  reads = tt;
-  made = generated_made (ReadsWhole [] []) g whole.bytes whole.generated whole.taken whole.named;
-  files = whole.files;
-}
+is_made (generate g) events names whole =
+    let made = generated_made (ReadsWhole [] []) g whole.bytes whole.generated whole.taken whole.named in
+    record { given = []; put = events; modules = whole.generated ∷ []; split = refl; reads = tt; made = made; files = whole.files }
 is_made (runtime dir) events names whole = absurd (names dir refl)
-is_made line events names whole = record {
-  given = whole.given;
-  put = whole.put;
-  modules = whole.modules;
-  split = whole.split;
-  reads = all_read_first (inputs_of line) whole.sources whole.given whole.read.calls;
-  made = files_made (ReadsWhole (inputs_of line) whole.given) line whole.sources whole.modules tt whole.read
-      (many_read most_module_bytes (inputs_of line) whole.sources whole.given whole.read.calls) whole.taken whole.named;
-  files = whole.files;
-}
+is_made line events names all =
+    let reads = all_read_first (inputs_of line) all.sources all.given all.read.calls in
+    let many = many_read most_module_bytes (inputs_of line) all.sources all.given all.read.calls in
+    let made = files_made (ReadsWhole (inputs_of line) all.given) line all.sources all.modules tt all.read many all.taken all.named in
+    record { given = all.given; put = all.put; modules = all.modules; split = all.split; reads = reads; made = made; files = all.files }
 
 -- ---- the status, and what passes
 
 module _ (words : List Name) (status : ℕ) (says : List ℕ → Type 0) (events : List Event) where
-  for_line : (line : Line) → line_of words ≡ Some line → PassesLine line status says events → PassesFor words status says events
-  for_line line is passes = rw is passes
-
-  for_none : line_of words ≡ None → (events ≡ []) × (((status ≡ 2) × says usage_line) ⊎ (status ≡ 5))
-      → PassesFor words status says events
-  for_none none passes = rw none passes
-
   -- memory was wanting for a line, before any call
   for_memory : status ≡ 5 → events ≡ [] → PassesFor words status says events
   for_memory five nothing = by_line (line_of words) refl
     where
       by_line : (o : Option Line) → line_of words ≡ o → PassesFor words status says events
-      by_line None is = for_none is (nothing, inr five)
-      by_line (Some line) is = for_line line is (record {
-        given = [];
-        put = [];
-        split = nothing;
-        reads = none_read (inputs_of line);
-        follows = inr (five, refl);
-      })
+      by_line None is = rw is (nothing, inr five)
+      by_line (Some line) is =
+          rw is (record { given = []; put = []; split = nothing; reads = tt; follows = inr (five, refl) })
 
   -- ---- work that was finished
 
   pub finish_passes : PassesWork words events → (status ≡ 0) ⊎ (status ≡ 5) → PassesFor words status says events
-  finish_passes (line, is, has, whole) ends = for_line line is (by line whole)
+  finish_passes (line, is, has, whole) ends = rw is (by line whole)
     where
       follows : (files : List (Name × List ℕ)) (put : List Event) → WritesFiles files put → Follows (Write files) status says put
       follows files put wrote = elim ends [ inl zero ↦ inl (zero, wrote) | inr five ↦ inr (inr (five, all_some files put wrote)) ]
 
       by : (line : Line) → PassesWhole line events → PassesLine line status says events
-      by (runtime dir) whole = record {
-        given = [];
-        put = events;
-        split = refl;
-        reads = tt;
-        follows = inl (Write (runtime_files dir), refl, follows (runtime_files dir) events whole);
-      }
+      by (runtime dir) whole =
+          let written = follows (runtime_files dir) events whole in
+          record { given = []; put = events; split = refl; reads = tt; follows = inl (Write (runtime_files dir), refl, written) }
       by line whole =
           let m : Puts line events = is_made line events (λ dir e. cc) whole in
-          record {
-            given = m.given;
-            put = m.put;
-            split = m.split;
-            reads = m.reads;
-            follows = inl (
-              Write (files_of (targets_of line) m.modules),
-              translated_by (ReadsWhole (inputs_of line) m.given) line m.modules m.made,
-              follows (files_of (targets_of line) m.modules) m.put m.files,
-            );
-          }
+          let files = files_of (targets_of line) m.modules in
+          let job = translated_by (ReadsWhole (inputs_of line) m.given) line m.modules m.made in
+          let written = follows files m.put m.files in
+          record { given = m.given; put = m.put; split = m.split; reads = m.reads; follows = inl (Write files, job, written) }
 
   -- ---- work that stopped
 
@@ -109,19 +74,11 @@ module _ (words : List Name) (status : ℕ) (says : List ℕ → Type 0) (events
   Ends stop = ((status ≡ status_of stop) × says (line_for stop)) ⊎ (status ≡ 5)
 
   on_line : (line : Line) (stop : Stop) → TriesLine line stop events → Ends stop → PassesLine line status says events
-  on_line line stop tried ends = record {
-    given = tried.given;
-    put = tried.put;
-    split = tried.split;
-    reads = tried.reads;
-    follows = follows stop tried ends;
-  }
+  on_line line stop tried ends =
+      record { given = tried.given; put = tried.put; split = tried.split; reads = tried.reads; follows = follows stop tried ends }
     where
       wants : status ≡ 5 → (tried : TriesLine line stops.Memory events) → Ended line tried.given tried.put
-      wants five tried = elim tried.ends [
-        | inl none ↦ inr (five, none)
-        | inr some ↦ inl (Write some.0, some.1, inr (inr (five, some.2)))
-      ]
+      wants five tried = elim tried.ends [ inl none ↦ inr (five, none) | inr some ↦ inl (Write some.0, some.1, inr (inr (five, some.2))) ]
 
       follows : (stop : Stop) (tried : TriesLine line stop events) → Ends stop → Ended line tried.given tried.put
       follows stops.Usage tried ends = absurd tried.ends
@@ -149,24 +106,20 @@ module _ (words : List Name) (status : ℕ) (says : List ℕ → Type 0) (events
 
       by : TriesWork words stop events → Ends stop → PassesFor words status says events
       by (inl (usage, none, nothing)) (inl (is, told)) =
-          for_none none (nothing, inl (is ∙ ap status_of usage, subst says (ap line_for usage) told))
-      by (inl (usage, none, nothing)) (inr five) = for_none none (nothing, inr five)
+          rw none (nothing, inl (is ∙ ap status_of usage, subst says (ap line_for usage) told))
+      by (inl (usage, none, nothing)) (inr five) = rw none (nothing, inr five)
       by (inr (inl (memory, nothing))) (inl (is, told)) = for_memory (is ∙ ap status_of memory) nothing
       by (inr (inl (memory, nothing))) (inr five) = for_memory five nothing
-      by (inr (inr (line, found, tried))) ends = for_line line found (on_line line stop tried ends)
+      by (inr (inr (line, found, tried))) ends = rw found (on_line line stop tried ends)
 
 -- ---- what is linked of the units that were put
 
 pub puts_linked : TranslationTheorem → TextsSpellUnits → (words : List Name) (events : List Event) → PassesWork words events
     → NamesModules words → PutsLinkedUnits words events
 puts_linked theorem spell words events (line, is, has, whole) names =
-    let m : Puts line events = is_made line events (no_runtime words line names is) whole in
+    let m : Puts line events = is_made line events (λ dir e. names dir (is ∙ ap (λ (l : Line). Some l) e)) whole in
     let all : Made (ReadsWhole (inputs_of line) m.given) line m.modules = m.made in
-    let units : HoldAll (HoldsUnit None) (targets_of line) all.sources m.modules =
-    hold_units spell None (targets_of line) all.sources m.modules (targets_have line has) all.named all.taken all.many
-    (λ name text one. tt) in
-    let held : HoldAll (HoldsText None) (targets_of line) all.sources m.modules =
-    hold_weaker (HoldsUnit None) (HoldsText None) (λ t bytes tree unit. unit.text) (targets_of line) all.sources m.modules units in (
+    let units = hold_units spell (targets_of line) all.sources m.modules (targets_have line has) all.named all.taken all.many in (
       line,
       is,
       record {
@@ -174,16 +127,8 @@ puts_linked theorem spell words events (line, is, has, whole) names =
         put = m.put;
         split = m.split;
         reads = m.reads;
-        stand = record {
-          sources = all.sources;
-          modules = m.modules;
-          read = all.read;
-          all = hold_weaker (HoldsUnit None) IsUnitOf
-              (λ t bytes tree unit. record { is_module = unit.text.is_module; unit = unit.unit }) (targets_of line) all.sources m.modules
-              units;
-        };
+        stand = record { sources = all.sources; modules = m.modules; read = all.read; all = units };
         files = m.files;
-        same = λ others translated. theorem (texts_made (targets_of line) all.sources m.modules ++ others)
-            (all_translated None others translated (targets_of line) all.sources m.modules held);
+        same = linked_units theorem IsUnitOf (λ t bytes tree unit. unit.is_module) (targets_of line) all.sources m.modules units;
       },
     )

@@ -1,6 +1,6 @@
 -- Bytes are refused for at most one reason, and those of a valid module for none; so the first file that is refused is one, and so
 -- is the one that passes a limit.
-use Rattle.wasm2c_cli.proofs.Common.{◌≡◌, ℕ, List, [], ◌∷◌, Some, None, Option, sym, refl, ap, ◌∙◌, subst, inl, inr, same_Some, Name, Past}
+use Rattle.wasm2c_cli.proofs.Common.{◌≡◌, ℕ, List, [], ◌∷◌, Some, None, Option, sym, refl, ap, ◌∙◌, inl, inr, same_Some, Name, Past}
 use Rattle.wasm2c_cli.proofs.Common.{TooLong, Unreadable, most_module_bytes, Module, Accepted, one_tree, ModuleBytes, SetBytes, AreAccepted}
 use Rattle.wasm2c_cli.proofs.Common.{IsAccepted, IsFirstRefused, IsRefused, PassesLimitBy, reason_for, Reason, Limit}
 use Rattle.std.proofs.lemmas.Option.{none-some}
@@ -41,7 +41,7 @@ accepted_not_first (name ∷ names) (bytes ∷ sources) (m ∷ modules) file rea
     accepted_not_first names sources modules file reason accepted.1 first
 accepted_not_first _ _ modules file reason accepted first = absurd first
 
-modules_of : (sources : List (List ℕ)) (modules others : List Module) → AreAccepted sources modules → AreAccepted sources others
+pub modules_of : (sources : List (List ℕ)) (modules others : List Module) → AreAccepted sources modules → AreAccepted sources others
     → modules ≡ others
 modules_of [] [] [] a b = refl
 modules_of [] (m ∷ modules) others a b = absurd a
@@ -49,12 +49,6 @@ modules_of (bytes ∷ sources) [] others a b = absurd a
 modules_of (bytes ∷ sources) (m ∷ modules) (n ∷ others) a b =
     λ i. (one_tree bytes m n a.0.0 b.0.0) i ∷ (modules_of sources modules others a.1 b.1) i
 modules_of _ _ _ a b = absurd b
-
--- the same bytes have the same modules
-pub one_modules : (sources more : List (List ℕ)) (modules others : List Module) → sources ≡ more → AreAccepted sources modules
-    → AreAccepted more others → modules ≡ others
-one_modules sources more modules others same a b =
-    modules_of sources modules others a (subst (λ (all : List (List ℕ)). AreAccepted all others) (sym same) b)
 
 -- ---- limits of bytes
 
@@ -64,10 +58,8 @@ limit_of TooLong = Some (Limit most_module_bytes ModuleBytes)
 limit_of (Past place) = Some (Limit place SetBytes)
 
 -- reading stops at a file for a limit
-abbrev pub StopsOver : (Unreadable → Type 0) → Reason → Type 0
-StopsOver Stops reason = (why : Unreadable) × Stops why × (limit_of why ≡ Some reason)
-
-pub over : (Stops : Unreadable → Type 0) (reason : Reason) → PassesLimitBy Stops reason → StopsOver Stops reason
+pub over : (Stops : Unreadable → Type 0) (reason : Reason) → PassesLimitBy Stops reason
+    → (why : Unreadable) × Stops why × (limit_of why ≡ Some reason)
 over Stops reason (inl (s, is)) = (TooLong, s, ap Some (sym is))
 over Stops reason (inr (place, s, is)) = (Past place, s, ap Some (sym is))
 

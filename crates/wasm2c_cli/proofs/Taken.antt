@@ -1,14 +1,13 @@
 -- Bytes that are accepted in order, and the first that are refused.
 use Rattle.wasm2c_cli.proofs.Common.{◌≡◌, ℕ, zero, suc, ◌+◌, List, [], ◌∷◌, ◌++◌, length, take, slice_get, Some, None, string_bytes, Option}
-use Rattle.wasm2c_cli.proofs.Common.{MatchOption, sym, refl, ap, subst, inl, inr, arith, take_next, Name, IsOneOf, AreBytes, Module}
-use Rattle.wasm2c_cli.proofs.Common.{Accepted, is_invalid, IsRefusal, AreAccepted, AreTaken, StopsAccepting, StopsAtRefused, IsFirstRefused}
+use Rattle.wasm2c_cli.proofs.Common.{MatchOption, sym, refl, ap, subst, inl, inr, take_next, Name, IsOneOf, AreBytes, Module, Accepted}
+use Rattle.wasm2c_cli.proofs.Common.{is_invalid, IsRefusal, AreAccepted, AreTaken, StopsAccepting, StopsAtRefused, IsFirstRefused}
 use Rattle.wasm2c_cli.proofs.Common.{IsRefused, reason_of, Reason, Stop}
 use Rattle.wasm_spelling.specs.declared.fault.ReadFault.TheVariants as fault
 use Rattle.wasm_valid.specs.FileVerdict.{Unread, Read, IsVerdictOn}
 use Rattle.w2c_sim.specs.declared.refusal.Refusal.{Refusal}
 use Rattle.w2c_sim.specs.declared.refusal.Refusal.TheVariants as refusals
 use Rattle.wasm2c_cli.specs.declared.stop.Stop.TheVariants as stops
-use Rattle.std.proofs.Common.{take_all}
 
 -- ---- the refusal of bytes
 
@@ -34,10 +33,6 @@ pub one_more_taken : (sources : List (List ℕ)) (k : ℕ) (bytes : List ℕ) (m
     → more ≡ modules ++ m ∷ [] → AreTaken (take (k + 1) sources) more
 one_more_taken sources k bytes modules more m at taken are is same =
     rw same (rw (take_next sources k bytes at) (taken_joined (take k sources) modules bytes m taken are is))
-
-pub all_taken : (sources : List (List ℕ)) (k : ℕ) (modules : List Module) → k ≡ length sources → AreTaken (take k sources) modules
-    → AreTaken sources modules
-all_taken sources k modules end taken = subst (λ (l : List (List ℕ)). AreTaken l modules) (take_all k sources (omega (arith, end))) taken
 
 -- ---- the first that is refused
 

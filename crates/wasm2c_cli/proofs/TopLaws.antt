@@ -1,38 +1,26 @@
 -- What the end of the work says of the status, and of what stands.
-use Rattle.wasm2c_cli.proofs.Common.{◌≡◌, ℕ, ◌⊎◌, List, [], ◌∷◌, ◌++◌, length, Some, None, string_bytes, Option, MatchOption, sym, refl, ap}
-use Rattle.wasm2c_cli.proofs.Common.{◌∙◌, subst, inl, inr, arith, length-map, same_Some, AllByRecursion, Faulted, Rose, Contents, HasFile}
-use Rattle.wasm2c_cli.proofs.Common.{Name, Told, Says, SaysPart, Tells, all_stand, stand_whole, AreDistinct, HasText, StandsAt, file_names}
-use Rattle.wasm2c_cli.proofs.Common.{written, AreBytes, Module, File, IsTranslatedFile, TranslationTheorem, IsModuleOf, header_text_of}
-use Rattle.wasm2c_cli.proofs.Common.{text_of, Generation, Line, generate, line_of, runtime, set, translate, AreReadOf, AreSourcesBy, IsJob}
-use Rattle.wasm2c_cli.proofs.Common.{IsJobOf, Job, Missing, Refused, TranslatesBy, Usage, Write, files_of, IsLine, line_for, memory_line}
-use Rattle.wasm2c_cli.proofs.Common.{read_line, refused_line, status_of, summary_line, write_line, AreTaken, FinishesLine, FinishesWork}
-use Rattle.wasm2c_cli.proofs.Common.{HasName, HasPassed, IsNamed, IsTakenFile, IsTranslated, SumsUp, SumsUpPart, Target, inputs_of}
-use Rattle.wasm2c_cli.proofs.Common.{names_of_targets, outputs_of, target_in, targets_of, runtime_files, Done, Generates, IsInput, IsOutput}
-use Rattle.wasm2c_cli.proofs.Common.{KeepsCurrent, StandsOfJob, StandsOfLine, StopsLine, StopsWork, Answers, NamesModules}
-use Rattle.wasm2c_cli.proofs.Common.{DoTheSameWithOthers, HoldAll, HoldsText, HoldsUnit, Stand, StandAll, WritesLinkedUnits, WritesUnits}
-use Rattle.wasm2c_cli.proofs.Common.{texts_made, Reason, Stop, Finished}
+use Rattle.wasm2c_cli.proofs.Common.{◌≡◌, ℕ, ◌⊎◌, List, [], ◌∷◌, ◌++◌, length, Some, None, string_bytes, Option, sym, refl, ap, ◌∙◌, subst}
+use Rattle.wasm2c_cli.proofs.Common.{inl, inr, arith, length-map, same_Some, AllByRecursion, Faulted, Rose, Contents, HasFile, Name, Told}
+use Rattle.wasm2c_cli.proofs.Common.{Says, SaysPart, Tells, all_stand, stand_whole, AreDistinct, HasText, StandsAt, file_names, written}
+use Rattle.wasm2c_cli.proofs.Common.{AreBytes, Module, File, IsTranslatedFile, TranslationTheorem, IsModuleOf, header_text_of, text_of}
+use Rattle.wasm2c_cli.proofs.Common.{Generation, Line, generate, line_of, runtime, set, translate, AreReadOf, AreSourcesBy, IsJob, IsJobOf}
+use Rattle.wasm2c_cli.proofs.Common.{Job, Missing, Refused, TranslatesBy, Usage, Write, files_of, IsLine, line_for, memory_line, read_line}
+use Rattle.wasm2c_cli.proofs.Common.{refused_line, status_of, summary_line, write_line, AreTaken, FinishesLine, FinishesWork, HasName}
+use Rattle.wasm2c_cli.proofs.Common.{HasPassed, IsNamed, IsTakenFile, IsTranslated, SumsUp, SumsUpPart, Target, inputs_of, names_of_targets}
+use Rattle.wasm2c_cli.proofs.Common.{target_in, targets_of, runtime_files, Done, Generates, IsInput, IsOutput, KeepsCurrent, StandsOfJob}
+use Rattle.wasm2c_cli.proofs.Common.{StopsLine, StopsWork, Answers, NamesModules, DoTheSameWithOthers, HoldAll, HoldsText, HoldsUnit, Stand}
+use Rattle.wasm2c_cli.proofs.Common.{StandAll, WritesLinkedUnits, WritesUnits, texts_made, Reason, Stop, Finished, get_or, IsUnitOf}
 use Rattle.w2c_files.proofs.Honest.{as_many}
 use Rattle.w2c_gen.specs.GeneratedFile.{IsGeneratedFile}
 use Rattle.w2c_sim.proofs.Accepting.{module_of}
 use Rattle.program_words.proofs.Written.{none_written}
 use Rattle.wasm2c_cli.specs.declared.stop.Stop.TheVariants as stops
 use Rattle.wasm2c_cli.specs.declared.work.Finished.TheVariants as finished
+use Rattle.wasm2c_cli.proofs.JobLaws.{files_distinct}
 use Rattle.wasm2c_cli.proofs.LineStops.{IsOfFiles}
+use Rattle.wasm2c_cli.proofs.Passed.{distinct_outputs}
 use Rattle.wasm2c_cli.proofs.Taken.{length-taken, taken_accepted}
 use Rattle.w2c_sim.specs.Translation.{SpellsUnit}
-
--- ---- the job of words, by that of their line
-
-pub is_job : (words : List Name) (line : Line) (contents : Contents) (job : Job) → line_of words ≡ Some line → IsJobOf line contents job
-    → IsJob words contents job
-is_job words line contents job is of_line = rw is of_line
-
-pub usage_job : (words : List Name) (contents : Contents) → line_of words ≡ None → IsJob words contents Usage
-usage_job words contents none =
-    subst (λ (o : Option Line). MatchOption o (◌≡◌ {A = Job} Usage Usage) (λ l. IsJobOf l contents Usage)) (sym none) refl
-
-same_line : (a b : Line) → ◌≡◌ {A = Option Line} (Some a) (Some b) → a ≡ b
-same_line a b e = cc
 
 -- ---- work that was finished
 
@@ -54,13 +42,9 @@ pub files_made : (Reads : List (List ℕ) → Type 0) (line : Line) (sources : L
     → Made Reads line modules
 files_made Reads (generate g) sources modules of read many taken named = absurd of
 files_made Reads (runtime dir) sources modules of read many taken named = absurd of
-files_made Reads line sources modules of read many taken named = record {
-  sources = sources;
-  read = read;
-  taken = taken;
-  many = length-taken sources modules taken ∙ many ∙ many_targets line of;
-  named = named;
-}
+files_made Reads line sources modules of read many taken named =
+    let as_targets = length-taken sources modules taken ∙ many ∙ many_targets line of in
+    record { sources = sources; read = read; taken = taken; many = as_targets; named = named }
 
 pub generated_made : (Reads : List (List ℕ) → Type 0) (g : Generation) (bytes : List ℕ) (m : Module) → IsTakenFile g bytes m
     → AreBytes g.module_name → Made Reads (generate g) (m ∷ [])
@@ -74,13 +58,8 @@ generated_made Reads g bytes m taken named = record {
 
 pub translated_by : (Reads : List (List ℕ) → Type 0) (line : Line) (modules : List Module) (m : Made Reads line modules)
     → TranslatesBy Reads line (files_of (targets_of line) modules)
-translated_by Reads line modules m = record {
-  sources = m.sources;
-  modules = modules;
-  read = m.read;
-  accepted = taken_accepted m.sources modules m.taken;
-  written = refl;
-}
+translated_by Reads line modules m =
+    record { sources = m.sources; modules = modules; read = m.read; accepted = taken_accepted m.sources modules m.taken; written = refl }
 
 -- the modules of a line are translated, and their files stand
 abbrev IsMade : Line → Contents → Told → Told → Type 0
@@ -93,12 +72,9 @@ is_made (generate g) contents old new f names (count, summed, m) told =
     (m.generated ∷ [], generated_made (AreReadOf (generate g) contents) g m.bytes m.generated m.taken m.named, m.stand)
 is_made (runtime dir) contents old new f names fin told = absurd (names dir refl)
 is_made line contents old new f names fin told =
-    let m : IsTranslated (inputs_of line) (targets_of line) contents old new = fin.1 contents told in (
-      m.modules,
-      files_made (AreReadOf line contents) line m.sources m.modules tt m.read
-          (as_many contents (inputs_of line) m.sources m.read.held) m.taken m.named,
-      m.stand,
-    )
+    let m : IsTranslated (inputs_of line) (targets_of line) contents old new = fin.1 contents told in
+    let many = as_many contents (inputs_of line) m.sources m.read.held in
+    (m.modules, files_made (AreReadOf line contents) line m.sources m.modules tt m.read many m.taken m.named, m.stand)
 
 -- the files are the job's, and stand
 job_of_line : (line : Line) (contents : Contents) (old new : Told) (f : Finished) → FinishesLine line old new f → old ≡ Some contents
@@ -112,8 +88,7 @@ module _ (words : List Name) (old new : Told) (f : Finished) (fin : FinishesWork
   pub finish_done : Done words old new
   finish_done = λ contents told.
       let (line, is, passed, ends) = fin in
-      let (made, of_line, whole) = job_of_line line contents old new f ends told in
-      (made, is_job words line contents (Write made) is of_line, whole)
+      let (made, of_line, whole) = job_of_line line contents old new f ends told in (made, rw is of_line, whole)
 
   pub finish_complete : {P Q : Type 0} (status : ℕ) → (status ≡ 0) ⊎ (status ≡ 5) → (contents : Contents) → old ≡ Some contents → P → Q
       → (status ≡ 5) ⊎ ((job : Job) × IsJob words contents job × Answers job status)
@@ -130,16 +105,11 @@ module _ (words : List Name) (old new : Told) (f : Finished) (fin : FinishesWork
     -- what was generated is summed up
     pub finish_summary : (g : Generation) → Generates words g → (bytes : List ℕ) × IsGeneratedFile g.count bytes
         × Says said said' faults faults' (summary_line g.count (length bytes))
-    finish_summary g asked = let (line, is, passed, ends) = fin in
-        summed (subst (λ (l : Line). FinishesLine l old new f) (same_line line (generate g) (sym is ∙ asked)) ends)
-      where
-        summed : FinishesLine (generate g) old new f → (bytes : List ℕ) × IsGeneratedFile g.count bytes
-            × Says said said' faults faults' (summary_line g.count (length bytes))
-        summed (count, written_so, m) = (
-          m.bytes,
-          m.taken.file,
-          subst (λ (n : ℕ). Says said said' faults faults' (summary_line g.count n)) m.many (rw written_so at sums),
-        )
+    finish_summary g asked =
+        let (line, is, passed, ends) = fin in
+        let same = same_Some line (generate g) (sym is ∙ asked) in
+        let (count, written_so, m) = subst (λ (l : Line). FinishesLine l old new f) same ends in
+        (m.bytes, m.taken.file, subst (λ (n : ℕ). Says said said' faults faults' (summary_line g.count n)) m.many (rw written_so at sums))
 
     -- where nothing was generated, nothing is said
     pub finish_silent : ((g : Generation) → Generates words g → ⊥) → said' ≡ said
@@ -166,17 +136,9 @@ finish_no_stop status ends is = absurd (omega (arith, ends, is))
 
 -- ---- the units of the modules
 
-names_made : (targets : List Target) (modules : List Module) → length modules ≡ length targets
-    → file_names (files_of targets modules) ≡ names_of_targets targets
-names_made [] modules many = refl
-names_made (t ∷ targets) [] many = absurd (omega (arith, many))
-names_made (t ∷ targets) (m ∷ modules) many =
-    ap (λ (l : List Name). t.c_file ∷ t.header ∷ l) (names_made targets modules (omega (arith, many)))
-
 -- files of distinct names that are written stand
 pub all_there : (old : Contents) (new : Told) (files : List (Name × List ℕ)) → AreDistinct (file_names files)
-    → new ≡ written (Some old) files
-    → (name : Name) (text : List ℕ) → HasText name text files → HasFile new name text
+    → new ≡ written (Some old) files → (name : Name) (text : List ℕ) → HasText name text files → HasFile new name text
 all_there old None files distinct whole name text has = tt
 all_there old (Some after) files distinct whole name text has = stand_whole files old after distinct (sym whole) name text has
 
@@ -185,24 +147,34 @@ abbrev pub TextsSpellUnits : Type 0
 TextsSpellUnits = (bytes name : List ℕ) (tree : Module) → IsModuleOf bytes name tree
     → SpellsUnit (record { name = name; tree = tree }) (text_of tree name)
 
-pub hold_units : TextsSpellUnits → (new : Told) (targets : List Target) (sources : List (List ℕ)) (modules : List Module)
+-- the units of modules that are accepted
+pub hold_units : TextsSpellUnits → (targets : List Target) (sources : List (List ℕ)) (modules : List Module)
     → AllByRecursion HasName targets → AllByRecursion IsNamed targets → AreTaken sources modules → length modules ≡ length targets
+    → HoldAll IsUnitOf targets sources modules
+hold_units spell [] [] [] has named taken many = tt
+hold_units spell [] (bytes ∷ sources) (m ∷ modules) has named taken many = absurd (omega (arith, many))
+hold_units spell (t ∷ targets) [] [] has named taken many = absurd (omega (arith, many))
+hold_units spell (t ∷ targets) (bytes ∷ sources) (m ∷ modules) ((some, short), has) (is_name, named) ((are, ok), taken) many =
+    let is_module : IsModuleOf bytes t.module_name m = module_of bytes t.module_name m ok are some short is_name in
+    let here : IsUnitOf t bytes m = record { is_module = is_module; unit = spell bytes t.module_name m is_module } in
+    (here, hold_units spell targets sources modules has named taken (omega (arith, many)))
+hold_units spell _ _ _ has named taken many = absurd taken
+
+-- they stand where their files do
+units_hold : (new : Told) (targets : List Target) (sources : List (List ℕ)) (modules : List Module)
+    → HoldAll IsUnitOf targets sources modules
     → ((name : Name) (text : List ℕ) → HasText name text (files_of targets modules) → HasFile new name text)
     → HoldAll (HoldsUnit new) targets sources modules
-hold_units spell new [] [] [] has named taken many there = tt
-hold_units spell new [] (bytes ∷ sources) (m ∷ modules) has named taken many there = absurd (omega (arith, many))
-hold_units spell new (t ∷ targets) [] [] has named taken many there = absurd (omega (arith, many))
-hold_units spell new (t ∷ targets) (bytes ∷ sources) (m ∷ modules) ((some, short), has) (is_name, named) ((are, ok), taken) many there =
-    let is_module : IsModuleOf bytes t.module_name m = module_of bytes t.module_name m ok are some short is_name in
-    let here : HoldsUnit new t bytes m = record {
-      text = record { is_module = is_module; stands = there t.c_file (text_of m t.module_name) (inl (refl, refl)) };
-      header_stands = there t.header (header_text_of m t.module_name) (inr (inl (refl, refl)));
-      unit = spell bytes t.module_name m is_module;
-    } in (
-      here,
-      hold_units spell new targets sources modules has named taken (omega (arith, many)) (λ name text one. there name text (inr (inr one))),
-    )
-hold_units spell new _ _ _ has named taken many there = absurd taken
+units_hold new [] [] [] held there = tt
+units_hold new (t ∷ targets) (bytes ∷ sources) (m ∷ modules) (unit, held) there = (
+  record {
+    text = record { is_module = unit.is_module; stands = there t.c_file (text_of m t.module_name) (inl (refl, refl)) };
+    header_stands = there t.header (header_text_of m t.module_name) (inr (inl (refl, refl)));
+    unit = unit.unit;
+  },
+  units_hold new targets sources modules held (λ name text one. there name text (inr (inr one))),
+)
+units_hold new _ _ _ held there = absurd held
 
 -- what a line has passed, of its modules
 pub targets_have : (line : Line) → HasPassed line → AllByRecursion HasName (targets_of line)
@@ -211,34 +183,27 @@ targets_have (set s) (has, apart) = has
 targets_have (generate g) (c_file, has, some, few) = (has, tt)
 targets_have (runtime dir) passed = tt
 
-names_of_line : (line : Line) → ((dir : Name) → line ≡ runtime dir → ⊥) → outputs_of line ≡ names_of_targets (targets_of line)
-names_of_line (runtime dir) names = absurd (names dir refl)
-names_of_line line names = refl
+distinct_targets : (line : Line) → HasPassed line → AreDistinct (names_of_targets (targets_of line))
+distinct_targets (runtime dir) passed = tt
+distinct_targets line passed = distinct_outputs line passed
 
--- the names of the files that a line writes are distinct
-abbrev pub LinesAreDistinct : Type 0
-LinesAreDistinct = (line : Line) → HasPassed line → AreDistinct (outputs_of line)
+-- the files of a line's modules are written
+pub units_stand : (old : Contents) (new : Told) (line : Line) (sources : List (List ℕ)) (modules : List Module) → HasPassed line
+    → HoldAll IsUnitOf (targets_of line) sources modules → new ≡ written (Some old) (files_of (targets_of line) modules)
+    → HoldAll (HoldsUnit new) (targets_of line) sources modules
+units_stand old new line sources modules passed held whole =
+    let files = files_of (targets_of line) modules in
+    units_hold new (targets_of line) sources modules held
+    (all_there old new files (files_distinct (targets_of line) modules (distinct_targets line passed)) whole)
 
-stand_units : LinesAreDistinct → TextsSpellUnits → (line : Line) (contents : Contents) (old new : Told) → HasPassed line
-    → ((dir : Name) → line ≡ runtime dir → ⊥) → IsMade line contents old new → old ≡ Some contents → StandAll (HoldsUnit new) line contents
-stand_units distinct spell line contents old new passed names (modules, m, stand) told = record {
-  sources = m.sources;
-  modules = modules;
-  read = m.read;
-  all = hold_units spell new (targets_of line) m.sources modules (targets_have line passed) m.named m.taken m.many
-      (all_there contents new (files_of (targets_of line) modules)
-      (subst AreDistinct (names_of_line line names ∙ sym (names_made (targets_of line) modules m.many)) (distinct line passed))
-      (stand ∙ ap (λ (t : Told). written t (files_of (targets_of line) modules)) told));
-}
-
-pub no_runtime : (words : List Name) (line : Line) → NamesModules words → line_of words ≡ Some line → (dir : Name) → line ≡ runtime dir → ⊥
-no_runtime words line names is dir e = names dir (is ∙ ap (λ (l : Line). Some l) e)
-
-pub finish_units : LinesAreDistinct → TextsSpellUnits → (words : List Name) (old new : Told) (f : Finished) → FinishesWork words old new f
+pub finish_units : TextsSpellUnits → (words : List Name) (old new : Told) (f : Finished) → FinishesWork words old new f
     → NamesModules words → WritesUnits words old new
-finish_units distinct spell words old new f (line, is, passed, fin) names = λ contents told.
-    let apart = no_runtime words line names is in
-    (line, is, stand_units distinct spell line contents old new passed apart (is_made line contents old new f apart fin told) told)
+finish_units spell words old new f (line, is, passed, fin) names = λ contents told.
+    let (modules, m, stand) = is_made line contents old new f (λ dir e. names dir (is ∙ ap (λ (l : Line). Some l) e)) fin told in
+    let units = hold_units spell (targets_of line) m.sources modules (targets_have line passed) m.named m.taken m.many in
+    let whole = stand ∙ ap (λ (t : Told). written t (files_of (targets_of line) modules)) told in
+    let all = units_stand contents new line m.sources modules passed units whole in
+    (line, is, record { sources = m.sources; modules = modules; read = m.read; all = all })
 
 -- ---- what is linked of the units
 
@@ -251,41 +216,35 @@ hold_weaker P Q weaker (t ∷ targets) (bytes ∷ sources) (m ∷ modules) (here
     (weaker t bytes m here, hold_weaker P Q weaker targets sources modules held)
 hold_weaker P Q weaker _ _ _ held = absurd held
 
--- files that are translated, and others
-module _ (new : Told) (others : List File) (translated : AllByRecursion IsTranslatedFile others) where
-  pub all_translated : (targets : List Target) (sources : List (List ℕ)) (modules : List Module)
-      → HoldAll (HoldsText new) targets sources modules
+module _ (theorem : TranslationTheorem) (P : Stand)
+    (is_module : (t : Target) (bytes : List ℕ) (m : Module) → P t bytes m → IsModuleOf bytes t.module_name m) where
+  -- files that are translated, and others
+  all_translated : (others : List File) → AllByRecursion IsTranslatedFile others
+      → (targets : List Target) (sources : List (List ℕ)) (modules : List Module) → HoldAll P targets sources modules
       → AllByRecursion IsTranslatedFile (texts_made targets sources modules ++ others)
-  all_translated [] [] [] held = translated
-  all_translated (t ∷ targets) (bytes ∷ sources) (m ∷ modules) (here, held) =
-      ((m, here.is_module, refl), all_translated targets sources modules held)
-  all_translated _ _ _ held = absurd held
+  all_translated others translated [] [] [] held = translated
+  all_translated others translated (t ∷ targets) (bytes ∷ sources) (m ∷ modules) (here, held) =
+      ((m, is_module t bytes m here, refl), all_translated others translated targets sources modules held)
+  all_translated others translated _ _ _ held = absurd held
+
+  pub linked_units : (targets : List Target) (sources : List (List ℕ)) (modules : List Module) → HoldAll P targets sources modules
+      → DoTheSameWithOthers (texts_made targets sources modules)
+  linked_units targets sources modules held = λ others translated.
+      theorem (texts_made targets sources modules ++ others) (all_translated others translated targets sources modules held)
 
 -- the texts of units that stand
 abbrev pub texts_stand : (new : Told) (line : Line) (contents : Contents) → StandAll (HoldsUnit new) line contents
     → StandAll (HoldsText new) line contents
-texts_stand new line contents stand = record {
-  sources = stand.sources;
-  modules = stand.modules;
-  read = stand.read;
-  all = hold_weaker (HoldsUnit new) (HoldsText new) (λ t bytes m held. held.text) (targets_of line) stand.sources stand.modules stand.all;
-}
+texts_stand new line contents stand =
+    let weaker = hold_weaker (HoldsUnit new) (HoldsText new) (λ t bytes m held. held.text) (targets_of line) stand.sources stand.modules in
+    record { sources = stand.sources; modules = stand.modules; read = stand.read; all = weaker stand.all }
 
 pub are_linked : TranslationTheorem → (words : List Name) (old new : Told) → WritesUnits words old new → WritesLinkedUnits words old new
-are_linked theorem words old new writes = λ contents told. linked contents (writes contents told)
-  where
-    linked : (contents : Contents) → (line : Line) × (line_of words ≡ Some line) × StandAll (HoldsUnit new) line contents
-        → (line : Line) × (line_of words ≡ Some line) × (stand : StandAll (HoldsText new) line contents)
-        × DoTheSameWithOthers (texts_made (targets_of line) stand.sources stand.modules)
-    linked contents (line, is, stand) = (
-      line,
-      is,
-      texts_stand new line contents stand,
-      λ others translated.
-          theorem (texts_made (targets_of line) stand.sources stand.modules ++ others)
-          (all_translated new others translated (targets_of line) stand.sources stand.modules
-          (texts_stand new line contents stand).all),
-    )
+are_linked theorem words old new writes = λ contents told.
+    let (line, is, stand) = writes contents told in
+    let texts = texts_stand new line contents stand in
+    let same = linked_units theorem (HoldsText new) (λ t bytes m held. held.is_module) (targets_of line) stand.sources stand.modules in
+    (line, is, texts, same texts.all)
 
 -- ---- work that stopped
 
@@ -317,28 +276,21 @@ module _ (words : List Name) (old new : Told) (r r' w w' : ℕ) (named : Option 
       → (contents : Contents) → old ≡ Some contents → (Rose r r' → ⊥) → (Rose w w' → ⊥)
       → (status ≡ 5) ⊎ ((job : Job) × IsJob words contents job × Answers job status)
   line_answers line stops.Usage found why is contents told no_reads no_writes = absurd why
-  line_answers line (stops.Refused file reason) found (one, job, same) is contents told no_reads no_writes = inr (
-    Refused (string_bytes file) reason,
-    is_job words line contents (Refused (string_bytes file) reason) found (job contents told),
-    is,
-  )
+  line_answers line (stops.Refused file reason) found (one, job, same) is contents told no_reads no_writes =
+      inr (Refused (string_bytes file) reason, rw found (job contents told), is)
   line_answers line (stops.Unread file) found (one, inl faulted, same) is contents told no_reads no_writes = absurd (no_reads faulted.rose)
-  line_answers line (stops.Unread file) found (one, inr (m, tells, job), same) is contents told no_reads no_writes = inr (
-    Missing (string_bytes file),
-    is_job words line contents (Missing (string_bytes file)) found
-        (subst (λ (c : Contents). IsJobOf line c (Missing (string_bytes file))) (same_Some m contents (sym tells ∙ told)) job),
-    is,
-  )
+  line_answers line (stops.Unread file) found (one, inr (m, tells, job), same) is contents told no_reads no_writes =
+      let missing = Missing (string_bytes file) in
+      inr (missing, rw found (subst (λ (c : Contents). IsJobOf line c missing) (same_Some m contents (sym tells ∙ told)) job), is)
   line_answers line (stops.Unwritten file) found (one, faulted, stands) is contents told no_reads no_writes =
       absurd (no_writes faulted.rose)
   line_answers line stops.Memory found why is contents told no_reads no_writes = inl is
 
   pub stop_complete : (stop : Stop) → Stopped stop → Ends stop → (contents : Contents) → old ≡ Some contents
-      → (Rose r r' → ⊥) → (Rose w w' → ⊥)
-      → (status ≡ 5) ⊎ ((job : Job) × IsJob words contents job × Answers job status)
+      → (Rose r r' → ⊥) → (Rose w w' → ⊥) → (status ≡ 5) ⊎ ((job : Job) × IsJob words contents job × Answers job status)
   stop_complete stop why (inr five) contents told no_reads no_writes = inl five
   stop_complete stop (inl (usage, none, same)) (inl is) contents told no_reads no_writes =
-      inr (Usage, usage_job words contents none, is ∙ ap status_of usage)
+      inr (Usage, rw none refl, is ∙ ap status_of usage)
   stop_complete stop (inr (inl (memory, same))) (inl is) contents told no_reads no_writes = inl (is ∙ ap status_of memory)
   stop_complete stop (inr (inr (line, found, why))) (inl is) contents told no_reads no_writes =
       line_answers line stop found why is contents told no_reads no_writes
@@ -348,13 +300,9 @@ module _ (words : List Name) (old new : Told) (r r' w w' : ℕ) (named : Option 
       → old ≡ Some contents → StandsOfJob words contents old new
   line_stands line stops.Usage found why contents told = absurd why
   line_stands line (stops.Unwritten file) found (one, faulted, stands) contents told =
-      let (made, job, at) = stands contents told in
-      inr (made, is_job words line contents (Write made) found job, inr (string_bytes file, at))
-  line_stands line stops.Memory found why contents told = some (why contents told)
-    where
-      some : StandsOfLine line contents old new → StandsOfJob words contents old new
-      some (inl same) = inl same
-      some (inr (made, job, stands)) = inr (made, is_job words line contents (Write made) found job, stands)
+      let (made, job, at) = stands contents told in inr (made, rw found job, inr (string_bytes file, at))
+  line_stands line stops.Memory found why contents told =
+      elim (why contents told) [ inl same ↦ inl same | inr (made, job, stands) ↦ inr (made, rw found job, stands) ]
   line_stands line _ found why contents told = inl why.2
 
   pub stop_stands : (stop : Stop) → Stopped stop → (contents : Contents) → old ≡ Some contents → StandsOfJob words contents old new
@@ -362,94 +310,68 @@ module _ (words : List Name) (old new : Told) (r r' w w' : ℕ) (named : Option 
   stop_stands stop (inr (inl (memory, same))) contents told = inl same
   stop_stands stop (inr (inr (line, found, why))) contents told = line_stands line stop found why contents told
 
-  pub stop_untouched : (stop : Stop) → Stopped stop → Ends stop → (status ≡ 1) ⊎ (status ≡ 2) ⊎ (status ≡ 3) → new ≡ old
-  stop_untouched stop why (inr five) is = absurd (omega (arith, five, is))
-  stop_untouched stop (inl (usage, none, same)) (inl of_stop) is = same
-  stop_untouched stop (inr (inl (memory, same))) (inl of_stop) is = same
-  stop_untouched stop (inr (inr (line, found, why))) (inl of_stop) is = by_stop stop why of_stop
-    where
-      by_stop : (stop : Stop) → OnLine line stop → status ≡ status_of stop → new ≡ old
-      by_stop stops.Usage why of_stop = absurd why
-      by_stop (stops.Unwritten file) why of_stop = absurd (omega (arith, of_stop, is))
-      by_stop stops.Memory why of_stop = absurd (omega (arith, of_stop, is))
-      by_stop _ why of_stop = why.2
-
-  module _ (says : List ℕ → Type 0) (stop : Stop) (why : Stopped stop) (ends : Ends stop)
-      (said : status ≡ status_of stop → says (line_for stop) ⊎ (status ≡ 5)) where
-    -- the work on the words' line stopped, and the stop's line was said
-    abbrev StopsHere : Stop → Type 0
-    StopsHere stop = (line : Line) × (line_of words ≡ Some line) × OnLine line stop × (status ≡ status_of stop) × says (line_for stop)
-
-    -- neither usage nor want of memory
-    on_line : (status ≡ 2 → ⊥) → (status ≡ 5 → ⊥) → StopsHere stop
-    on_line no_usage no_memory = by why ends
-      where
-        by : Stopped stop → Ends stop → StopsHere stop
-        by why (inr five) = absurd (no_memory five)
-        by (inl (usage, none, same)) (inl is) = absurd (no_usage (is ∙ ap status_of usage))
-        by (inr (inl (memory, same))) (inl is) = absurd (no_memory (is ∙ ap status_of memory))
-        by (inr (inr (line, found, why))) (inl is) =
-            elim (said is) [ inl told ↦ (line, found, why, is, told) | inr five ↦ absurd (no_memory five) ]
-
-    -- status 1: the job is a refusal
-    pub stop_refused : status ≡ 1 → (file : Name) × (reason : Reason) × IsInput file (line_of words)
+  module _ (says : List ℕ → Type 0) where
+    -- the job is a refusal
+    abbrev IsRefusedHere : Type 0
+    IsRefusedHere = (file : Name) × (reason : Reason) × IsInput file (line_of words)
         × Tells old (λ contents. IsJob words contents (Refused file reason)) × says (refused_line file reason)
-    stop_refused one = by stop (on_line (λ two. omega (arith, one, two)) (λ five. omega (arith, one, five)))
-      where
-        by : (stop : Stop) → StopsHere stop → (file : Name) × (reason : Reason) × IsInput file (line_of words)
-            × Tells old (λ contents. IsJob words contents (Refused file reason)) × says (refused_line file reason)
-        by (stops.Refused file reason) (line, found, (input, job, same), is, said) = (
-          string_bytes file,
-          reason,
-          subst (IsInput (string_bytes file)) (sym found) input,
-          λ contents told. is_job words line contents (Refused (string_bytes file) reason) found (job contents told),
-          said,
-        )
-        by stops.Usage (line, found, why, is, said) = absurd why
-        by _ (line, found, why, is, said) = absurd (omega (arith, is, one))
 
-    -- status 3: the file was asked for and a read of it failed, or it is told not to be there
+    -- the file was asked for and a read of it failed, or it is told not to be there
     abbrev IsUnreadHere : Type 0
     IsUnreadHere = (file : Name) × IsInput file (line_of words) × (Faulted file r r' named
         ⊎ ((contents : Contents) × (old ≡ Some contents) × IsJob words contents (Missing file))) × says (read_line file)
 
-    pub stop_unread : status ≡ 3 → IsUnreadHere
-    stop_unread three = by stop (on_line (λ two. omega (arith, three, two)) (λ five. omega (arith, three, five)))
-      where
-        by : (stop : Stop) → StopsHere stop → IsUnreadHere
-        by (stops.Unread file) (line, found, (input, why, same), is, said) = (
-          string_bytes file,
-          subst (IsInput (string_bytes file)) (sym found) input,
-          elim why [
-            | inl faulted ↦ inl faulted
-            | inr (contents, told, job) ↦ inr (contents, told, is_job words line contents (Missing (string_bytes file)) found job)
-          ],
-          said,
-        )
-        by stops.Usage (line, found, why, is, said) = absurd why
-        by _ (line, found, why, is, said) = absurd (omega (arith, is, three))
-
-    -- status 4: a write of the file failed, and the files in front of it stand
+    -- a write of the file failed, and the files in front of it stand
     abbrev IsUnwrittenHere : Type 0
     IsUnwrittenHere = (file : Name) × IsOutput file (line_of words) × Faulted file w w' named
         × Tells old (λ contents. (made : List (Name × List ℕ)) × IsJob words contents (Write made) × StandsAt old new made file)
         × says (write_line file)
 
-    pub stop_unwritten : status ≡ 4 → IsUnwrittenHere
-    stop_unwritten four = by stop (on_line (λ two. omega (arith, four, two)) (λ five. omega (arith, four, five)))
-      where
-        by : (stop : Stop) → StopsHere stop → IsUnwrittenHere
-        by (stops.Unwritten file) (line, found, (output, faulted, stands), is, said) = (
-          string_bytes file,
-          subst (IsOutput (string_bytes file)) (sym found) output,
-          faulted,
-          λ contents told. let (made, job, at) = stands contents told in (made, is_job words line contents (Write made) found job, at),
-          said,
-        )
-        by stops.Usage (line, found, why, is, said) = absurd why
-        by _ (line, found, why, is, said) = absurd (omega (arith, is, four))
+    -- what a stop comes to, for each status from 0 on; with statuses 1 to 3 nothing has changed
+    abbrev Came : ℕ → Type 0
+    Came n = get_or (⊥ ∷ ((new ≡ old) × IsRefusedHere) ∷ (new ≡ old) ∷ ((new ≡ old) × IsUnreadHere) ∷ IsUnwrittenHere ∷ Unit {0} ∷ []) n ⊥
 
--- status 5: a part of the stop's line was said
-pub stop_part : (stop : Stop) (said said' : Option (List ℕ)) → SaysPart said said' (line_for stop)
-    → (line : List ℕ) × IsLine line × SaysPart said said' line
-stop_part stop said said' part = (line_for stop, inl (stop, refl), part)
+    line_came : (line : Line) (stop : Stop) → line_of words ≡ Some line → OnLine line stop → says (line_for stop) → Came (status_of stop)
+    line_came line stops.Usage found why said = absurd why
+    line_came line (stops.Refused file reason) found (input, job, same) said =
+        (same, (string_bytes file, reason, rw found input, λ contents told. rw found (job contents told), said))
+    line_came line (stops.Unread file) found (input, inl faulted, same) said =
+        (same, (string_bytes file, rw found input, inl faulted, said))
+    line_came line (stops.Unread file) found (input, inr (contents, told, job), same) said =
+        (same, (string_bytes file, rw found input, inr (contents, told, rw found job), said))
+    line_came line (stops.Unwritten file) found (output, faulted, stands) said = (
+      string_bytes file,
+      rw found output,
+      faulted,
+      λ contents told. let (made, job, at) = stands contents told in (made, rw found job, at),
+      said,
+    )
+    line_came line stops.Memory found why said = tt
+
+    module _ (stop : Stop) (why : Stopped stop) (ends : Ends stop)
+        (said : status ≡ status_of stop → says (line_for stop) ⊎ (status ≡ 5)) where
+      came : Came status
+      came = by why ends
+        where
+          by : Stopped stop → Ends stop → Came status
+          by why (inr five) = subst Came (sym five) tt
+          by (inl (usage, none, same)) (inl is) = subst Came (sym (is ∙ ap status_of usage)) same
+          by (inr (inl (memory, same))) (inl is) = subst Came (sym (is ∙ ap status_of memory)) tt
+          by (inr (inr (line, found, why))) (inl is) = elim (said is) [
+            | inl told ↦ subst Came (sym is) (line_came line stop found why told)
+            | inr five ↦ subst Came (sym five) tt
+          ]
+
+      pub stop_refused : status ≡ 1 → IsRefusedHere
+      stop_refused one = (subst Came one came).1
+
+      pub stop_unread : status ≡ 3 → IsUnreadHere
+      stop_unread three = (subst Came three came).1
+
+      pub stop_unwritten : status ≡ 4 → IsUnwrittenHere
+      stop_unwritten four = subst Came four came
+
+      pub stop_untouched : (status ≡ 1) ⊎ (status ≡ 2) ⊎ (status ≡ 3) → new ≡ old
+      stop_untouched (inl one) = (subst Came one came).0
+      stop_untouched (inr (inl two)) = subst Came two came
+      stop_untouched (inr (inr three)) = (subst Came three came).0

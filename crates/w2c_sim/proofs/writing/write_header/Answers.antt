@@ -5,16 +5,14 @@ use Rattle.w2c_sim.proofs.writing.write_header.Goals as goal
 pub returns-clause-written : goal.returns-clause-written
 returns-clause-written g c =
     let files = g.F.Files in
-    let text : c.as_slice.result.now ≡ header_text_of c.args.m.now c.args.name.now = c.as_slice.ensures ∙ c.in_ok-text.ensures in
-    subst (λ l. OnOk c.put.result (files.told c.put.new.self
-    ≡ appending (files.told c.args.files.now) (files.current c.args.files.now) l)) text c.put.ensures.written
+    subst (λ l. OnOk c.put.result (files.told c.put.new.self ≡ appending (files.told c.args.files.now) (files.current c.args.files.now) l))
+    (c.as_slice.ensures ∙ c.in_ok-text.ensures) c.put.ensures.written
 
 pub returns-clause-part : goal.returns-clause-part
 returns-clause-part g c =
     let files = g.F.Files in
-    let text : c.as_slice.result.now ≡ header_text_of c.args.m.now c.args.name.now = c.as_slice.ensures ∙ c.in_ok-text.ensures in
     subst (λ l. OnErr c.put.result (AppendsPart (files.told c.args.files.now) (files.told c.put.new.self)
-    (files.current c.args.files.now) l)) text (on_err c.put.result inr c.put.ensures.part)
+    (files.current c.args.files.now) l)) (c.as_slice.ensures ∙ c.in_ok-text.ensures) (on_err c.put.result inr c.put.ensures.part)
   where
     on_err : {A B P Q : Type 0} (result : Result A B) → (P → Q) → OnErr result P → OnErr result Q
     on_err (Ok x) f is = tt
@@ -40,15 +38,9 @@ returns-in_err-text-clause-tried g c =
     rw (p.1, p.2) (memory_wanted (g.F.Files.trace c.args.files.now) (header_text_of c.args.m.now c.args.name.now))
 
 pub returns-clause-passed : goal.returns-clause-passed
-returns-clause-passed g c =
-    let files = g.F.Files in
-    let text : c.as_slice.result.now ≡ header_text_of c.args.m.now c.args.name.now = c.as_slice.ensures ∙ c.in_ok-text.ensures in
-    whole_passed (files.trace c.args.files.now) (files.trace c.put.new.self) c.as_slice.result.now
-    (header_text_of c.args.m.now c.args.name.now) c.put.result text c.put.ensures.traced
+returns-clause-passed g c = whole_passed _ _ c.as_slice.result.now (header_text_of c.args.m.now c.args.name.now) c.put.result
+    (c.as_slice.ensures ∙ c.in_ok-text.ensures) c.put.ensures.traced
 
 pub returns-clause-tried : goal.returns-clause-tried
-returns-clause-tried g c =
-    let files = g.F.Files in
-    let text : c.as_slice.result.now ≡ header_text_of c.args.m.now c.args.name.now = c.as_slice.ensures ∙ c.in_ok-text.ensures in
-    vain_passed (files.trace c.args.files.now) (files.trace c.put.new.self) c.as_slice.result.now
-    (header_text_of c.args.m.now c.args.name.now) c.put.result text c.put.ensures.traced
+returns-clause-tried g c = vain_passed _ _ c.as_slice.result.now (header_text_of c.args.m.now c.args.name.now) c.put.result
+    (c.as_slice.ensures ∙ c.in_ok-text.ensures) c.put.ensures.traced

@@ -26,24 +26,19 @@ returns-in_err-put-clause-cause g c =
 
 pub returns-in_err-put-clause-tried : goal.returns-in_err-put-clause-tried
 returns-in_err-put-clause-tried g c =
-    let files = g.F.Files in
     let p = err_from_is_err_and c.from_residual.result c.from_residual.ensures.1 in
-    rw (p.1, p.2) (fails_at_include (files.trace c.args.files.now) (files.trace c.put.new.self) (left_of c.args.items.now)
-    c.in_err-put.field-0.0 (vain_passed (files.trace c.args.files.now) (files.trace c.put.new.self) c.text.result.now
-    (fixed_text tok.Include)
-    (Err c.in_err-put.field-0.0) c.text.ensures c.in_err-put.ensures.traced))
+    rw (p.1, p.2) (fails_at_include _ _ (left_of c.args.items.now) c.in_err-put.field-0.0
+    (vain_passed _ _ c.text.result.now (fixed_text tok.Include) (Err c.in_err-put.field-0.0) c.text.ensures c.in_err-put.ensures.traced))
 
 pub more-init : goal.more-init
 more-init g c =
     let files = g.F.Files in
     record {
-      written = begun (files.told c.args.files.now) (files.told c.put.new.self)
-          (files.current c.args.files.now) (left_of c.args.items.now)
+      written = begun (files.told c.args.files.now) (files.told c.put.new.self) (files.current c.args.files.now) (left_of c.args.items.now)
           (subst (λ l. files.told c.put.new.self ≡ appending (files.told c.args.files.now) (files.current c.args.files.now) l)
           c.text.ensures c.in_ok-put.ensures.written);
-      passed = put_include (files.trace c.args.files.now) (files.trace c.put.new.self) (left_of c.args.items.now)
-          (whole_passed (files.trace c.args.files.now) (files.trace c.put.new.self) c.text.result.now (fixed_text tok.Include) (Ok tt)
-          c.text.ensures c.in_ok-put.ensures.traced);
+      passed = put_include _ _ (left_of c.args.items.now)
+          (whole_passed _ _ c.text.result.now (fixed_text tok.Include) (Ok tt) c.text.ensures c.in_ok-put.ensures.traced);
       current = c.in_ok-put.ensures.current;
       fault = c.in_ok-put.ensures.named;
       reads = c.in_ok-put.ensures.reads;
@@ -52,17 +47,13 @@ more-init g c =
 
 pub returns-in_err-item-clause-part : goal.returns-in_err-item-clause-part
 returns-in_err-item-clause-part g c =
-    let files = g.F.Files in
     let p = err_from_is_err_and c.from_residual-in_err-item.result c.from_residual-in_err-item.ensures.1 in
-    rw p.1 (stops_between (files.told c.args.files.now) (files.told c.more.files) (files.current c.args.files.now)
-    (left_of c.args.items.now) (left_of c.more.items) c.more.invariant.written)
+    rw p.1 (stops_between _ _ _ _ _ c.more.invariant.written)
 
 pub returns-in_err-item-clause-tried : goal.returns-in_err-item-clause-tried
 returns-in_err-item-clause-tried g c =
-    let files = g.F.Files in
     let p = err_from_is_err_and c.from_residual-in_err-item.result c.from_residual-in_err-item.ensures.1 in
-    rw (p.1, p.2) (fails_between (files.trace c.args.files.now) (files.trace c.more.files) (left_of c.args.items.now)
-    (left_of c.more.items) c.more.invariant.passed)
+    rw (p.1, p.2) (fails_between _ _ _ _ c.more.invariant.passed)
 
 pub returns-in_err-item-clause-cause : goal.returns-in_err-item-clause-cause
 returns-in_err-item-clause-cause g c =
@@ -78,73 +69,53 @@ returns-in_err-item-clause-fault g c =
 
 pub print_packed_to-requires-clause-formed : goal.print_packed_to-requires-clause-formed
 print_packed_to-requires-clause-formed g c =
-    let files = g.F.Files in
-    let next = given_item c.in-Some.item c.in_ok-item.field-0 (left_of c.more.items) (left_of c.next_packed.new.self) c.in-Some.is
-    c.in_ok-item.ensures.given in (
-      left_of c.args.items.now,
-      c.requires.formed,
-      is_contained (files.told c.args.files.now) (files.told c.more.files) (files.current c.args.files.now) (left_of c.args.items.now)
-          (left_of c.more.items) (left_of c.next_packed.new.self) (packed_item_of c.in-Some.item) c.more.invariant.written next,
-    )
+    let next = given_item c.in-Some.item c.in_ok-item.field-0 _ _ c.in-Some.is c.in_ok-item.ensures.given in
+    (left_of c.args.items.now, c.requires.formed, is_contained _ _ _ _ _ _ _ c.more.invariant.written next)
 
 pub returns-in_err-print_packed_to-clause-part : goal.returns-in_err-print_packed_to-clause-part
 returns-in_err-print_packed_to-clause-part g c =
     let files = g.F.Files in
-    let next = given_item c.in-Some.item c.in_ok-item.field-0 (left_of c.more.items) (left_of c.next_packed.new.self) c.in-Some.is
-    c.in_ok-item.ensures.given in
+    let next = given_item c.in-Some.item c.in_ok-item.field-0 _ _ c.in-Some.is c.in_ok-item.ensures.given in
     let p = err_from_is_err_and c.from_residual-in_err-print_packed_to.result c.from_residual-in_err-print_packed_to.ensures.1 in
-    rw p.1 (stops_in (files.told c.args.files.now) (files.told c.more.files) (files.told c.print_packed_to.new.files)
-    (files.current c.args.files.now) (left_of c.args.items.now) (left_of c.more.items) (left_of c.next_packed.new.self)
-    (packed_item_of c.in-Some.item) c.more.invariant.written next
+    rw p.1 (stops_in _ _ (files.told c.print_packed_to.new.files) _ _ _ _ _ c.more.invariant.written next
     (subst (λ (current : Option Name). AppendsPart (files.told c.more.files) (files.told c.print_packed_to.new.files) current
     (print_item_of (packed_item_of c.in-Some.item))) c.more.invariant.current c.in_err-print_packed_to.ensures.part))
 
 pub returns-in_err-print_packed_to-clause-tried : goal.returns-in_err-print_packed_to-clause-tried
 returns-in_err-print_packed_to-clause-tried g c =
     let files = g.F.Files in
-    let next = given_item c.in-Some.item c.in_ok-item.field-0 (left_of c.more.items) (left_of c.next_packed.new.self) c.in-Some.is
-    c.in_ok-item.ensures.given in
+    let next = given_item c.in-Some.item c.in_ok-item.field-0 _ _ c.in-Some.is c.in_ok-item.ensures.given in
     let p = err_from_is_err_and c.from_residual-in_err-print_packed_to.result c.from_residual-in_err-print_packed_to.ensures.1 in
-    rw (p.1, p.2) (fails_in (files.trace c.args.files.now) (files.trace c.more.files) (files.trace c.print_packed_to.new.files)
-    (left_of c.args.items.now) (left_of c.more.items) (left_of c.next_packed.new.self) (packed_item_of c.in-Some.item)
-    c.in_err-print_packed_to.field-0.0 c.more.invariant.passed next c.in_err-print_packed_to.ensures.tried)
+    rw (p.1, p.2) (fails_in _ _ (files.trace c.print_packed_to.new.files) _ _ _ _ c.in_err-print_packed_to.field-0.0
+    c.more.invariant.passed next c.in_err-print_packed_to.ensures.tried)
 
 pub returns-in_err-print_packed_to-clause-cause : goal.returns-in_err-print_packed_to-clause-cause
 returns-in_err-print_packed_to-clause-cause g c =
-    let files = g.F.Files in
     let p = err_from_is_err_and c.from_residual-in_err-print_packed_to.result c.from_residual-in_err-print_packed_to.ensures.1 in
     let answer : Result (Unit {0}) WriteAnswer = Err c.in_err-print_packed_to.field-0.0 in
-    rw (p.1, p.2) (cause_behind (files.write_faults c.args.files.now) (files.write_faults c.more.files)
-    (files.write_faults c.print_packed_to.new.files) answer c.more.invariant.kept c.in_err-print_packed_to.ensures.cause)
+    rw (p.1, p.2) (cause_behind _ _ _ answer c.more.invariant.kept c.in_err-print_packed_to.ensures.cause)
 
 pub returns-in_err-print_packed_to-clause-fault : goal.returns-in_err-print_packed_to-clause-fault
 returns-in_err-print_packed_to-clause-fault g c =
-    let files = g.F.Files in
     let p = err_from_is_err_and c.from_residual-in_err-print_packed_to.result c.from_residual-in_err-print_packed_to.ensures.1 in
     let answer : Result (Unit {0}) WriteAnswer = Err c.in_err-print_packed_to.field-0.0 in
-    rw (p.1, p.2) (named_behind answer (files.current c.more.files) (files.current c.args.files.now)
-    (files.fault_name c.more.files) (files.fault_name c.args.files.now) (files.fault_name c.print_packed_to.new.files)
-    c.more.invariant.current c.more.invariant.fault c.in_err-print_packed_to.ensures.named)
+    rw (p.1, p.2) (named_behind answer _ _ _ _ (g.F.Files.fault_name c.print_packed_to.new.files) c.more.invariant.current
+    c.more.invariant.fault c.in_err-print_packed_to.ensures.named)
 
 pub returns-clause-cause : goal.returns-clause-cause
-returns-clause-cause g c =
-    let files = g.F.Files in
-    done_cause _ (files.write_faults c.args.files.now) (files.write_faults c.more.files) c.more.invariant.kept
+returns-clause-cause g c = done_cause _ _ _ c.more.invariant.kept
 
 pub more-preserved : goal.more-preserved
 more-preserved g c =
     let files = g.F.Files in
-    let next = given_item c.in-Some.item c.in_ok-item.field-0 (left_of c.more.items) (left_of c.next_packed.new.self) c.in-Some.is
-    c.in_ok-item.ensures.given in
+    let next = given_item c.in-Some.item c.in_ok-item.field-0 _ _ c.in-Some.is c.in_ok-item.ensures.given in
     record {
-      written = one_more (files.told c.args.files.now) (files.told c.more.files) (files.told c.print_packed_to.new.files)
-          (files.current c.args.files.now) (left_of c.args.items.now) (left_of c.more.items) (left_of c.next_packed.new.self)
-          (packed_item_of c.in-Some.item) c.more.invariant.written next (c.in_ok-print_packed_to.ensures.written
+      written = one_more _ _ (files.told c.print_packed_to.new.files) _ _ _ _ _ c.more.invariant.written next
+          (c.in_ok-print_packed_to.ensures.written
           ∙ ap (λ (current : Option Name). appending (files.told c.more.files) current (print_item_of (packed_item_of c.in-Some.item)))
           c.more.invariant.current);
-      passed = put_more (files.trace c.args.files.now) (files.trace c.more.files) (files.trace c.print_packed_to.new.files)
-          (left_of c.args.items.now) (left_of c.more.items) (left_of c.next_packed.new.self) (packed_item_of c.in-Some.item)
-          c.more.invariant.passed next c.in_ok-print_packed_to.ensures.passed;
+      passed = put_more _ _ (files.trace c.print_packed_to.new.files) _ _ _ _ c.more.invariant.passed next
+          c.in_ok-print_packed_to.ensures.passed;
       current = c.in_ok-print_packed_to.ensures.current ∙ c.more.invariant.current;
       fault = ◌∙◌ {b = files.fault_name c.more.files} c.in_ok-print_packed_to.ensures.named c.more.invariant.fault;
       reads = c.in_ok-print_packed_to.ensures.reads ∙ c.more.invariant.reads;
@@ -153,25 +124,16 @@ more-preserved g c =
 
 pub returns-clause-written : goal.returns-clause-written
 returns-clause-written g c =
-    let files = g.F.Files in
-    all_written (files.told c.args.files.now) (files.told c.more.files) (files.current c.args.files.now)
-    (left_of c.args.items.now) (left_of c.more.items) c.more.invariant.written
-    (none_left c.in_ok-item.field-0 (left_of c.more.items) (left_of c.next_packed.new.self) c.in_default.not-Some
-    c.in_ok-item.ensures.given)
+    all_written _ _ _ _ _ c.more.invariant.written (none_left c.in_ok-item.field-0 _ _ c.in_default.not-Some c.in_ok-item.ensures.given)
 
 pub returns-clause-passed : goal.returns-clause-passed
 returns-clause-passed g c =
-    let files = g.F.Files in
-    put_all (files.trace c.args.files.now) (files.trace c.more.files) (left_of c.args.items.now) (left_of c.more.items)
-    c.more.invariant.passed
-    (none_left c.in_ok-item.field-0 (left_of c.more.items) (left_of c.next_packed.new.self) c.in_default.not-Some
-    c.in_ok-item.ensures.given)
+    put_all _ _ _ _ c.more.invariant.passed (none_left c.in_ok-item.field-0 _ _ c.in_default.not-Some c.in_ok-item.ensures.given)
 
 pub more-smaller : goal.more-smaller
 more-smaller g c =
-    let next = given_item c.in-Some.item c.in_ok-item.field-0 (left_of c.more.items) (left_of c.next_packed.new.self) c.in-Some.is
-    c.in_ok-item.ensures.given in
-    shorter (left_of c.more.items) (left_of c.next_packed.new.self) (packed_item_of c.in-Some.item) next
+    let next = given_item c.in-Some.item c.in_ok-item.field-0 _ _ c.in-Some.is c.in_ok-item.ensures.given in
+    shorter _ _ _ next
 
 pub print_packed_to-requires-clause-current : goal.print_packed_to-requires-clause-current
 print_packed_to-requires-clause-current g c = subst IsSome (sym c.more.invariant.current) c.requires.current

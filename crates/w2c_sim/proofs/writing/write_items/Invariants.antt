@@ -5,8 +5,7 @@ abbrev pub invariant-more : goal.invariant-more
 invariant-more g l =
     let files = g.F.Files in
     record {
-      written : IsWritten (files.told l.fn.files) (files.told l.files) (files.current l.fn.files)
-          (left_of l.fn.items) (left_of l.items);
+      written : IsWritten (files.told l.fn.files) (files.told l.files) (files.current l.fn.files) (left_of l.fn.items) (left_of l.items);
       passed : ArePut (files.trace l.fn.files) (files.trace l.files) (left_of l.fn.items) (left_of l.items);
       current : files.current l.files ≡ files.current l.fn.files;
       fault : files.fault_name l.files ≡ files.fault_name l.fn.files;

@@ -4,7 +4,8 @@ use Rattle.wasm2c_cli.proofs.law.honest_files.Goals as goal
 
 pub returns : goal.returns
 returns c = record {
-  answered = λ words status said said' faults faults' m new. honest_answered words status _ m new;
+  answered = λ words status said said' faults faults' m new call.
+      honest_answered words status _ m new call status (came words status _ m new call);
   untouched = λ words status said said' faults faults' m new. honest_untouched words status _ m new;
   done = λ words said said' faults faults' m new. honest_done words _ m new;
   refused = λ words said said' faults faults' m new call. (came words 1 _ m new call).1;

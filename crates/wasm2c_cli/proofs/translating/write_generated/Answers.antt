@@ -1,6 +1,5 @@
-use Rattle.wasm2c_cli.proofs.Common.{arith, seen_generation}
+use Rattle.wasm2c_cli.proofs.Common.{seen_generation}
 use Rattle.wasm2c_cli.proofs.LineStops.{all_generated, all_kept, all_stopped}
-use Rattle.wasm2c_cli.proofs.ModuleFiles.{in_ok}
 use Rattle.wasm2c_cli.proofs.PassingLines.{generation_passed, generation_tried}
 use Rattle.wasm2c_cli.proofs.translating.write_generated.Goals as goal
 
@@ -30,15 +29,3 @@ returns-in-Ok-clause-tried g c =
     generation_tried (seen_generation c.args.line) c.args.bytes.now c.in-Ok.module
     (record { file = c.requires.file; are_bytes = c.requires.file.0; accepted = c.in-Ok.ensures.found }) _ _
     c.write_module-written.result _ c.in_ok-target.ensures c.write_module-written.ensures.tried
-
-pub returns-in-Ok-clause-reads : goal.returns-in-Ok-clause-reads
-returns-in-Ok-clause-reads g c = omega (arith, c.write_module-written.ensures.reads)
-
-pub returns-in-Ok-clause-writes : goal.returns-in-Ok-clause-writes
-returns-in-Ok-clause-writes g c = c.write_module-written.ensures.later
-
-pub returns-in-Ok-clause-reads_kept : goal.returns-in-Ok-clause-reads_kept
-returns-in-Ok-clause-reads_kept g c = in_ok c.write_module-written.result c.write_module-written.ensures.reads
-
-pub returns-in-Ok-clause-writes_kept : goal.returns-in-Ok-clause-writes_kept
-returns-in-Ok-clause-writes_kept g c = c.write_module-written.ensures.kept

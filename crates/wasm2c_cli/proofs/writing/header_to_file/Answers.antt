@@ -1,6 +1,5 @@
 use Rattle.wasm2c_cli.proofs.Common.{◌∙◌, part_written, put_part, put_whole, whole_begun}
-use Rattle.w2c_io.proofs.Causes.{cause_behind}
-use Rattle.wasm2c_cli.proofs.ModuleFiles.{in_err, in_ok, named_given_up}
+use Rattle.wasm2c_cli.proofs.ModuleFiles.{in_err, in_ok}
 use Rattle.wasm2c_cli.proofs.Passing.{finished, not_finished}
 use Rattle.wasm2c_cli.proofs.writing.header_to_file.Goals as goal
 
@@ -29,18 +28,3 @@ returns-clause-passed g c =
 pub returns-clause-tried : goal.returns-clause-tried
 returns-clause-tried g c =
     not_finished _ _ _ _ _ _ c.finish.result c.in_ok-begin.ensures.traced c.in_default.ensures.passed c.finish.ensures.traced
-
-pub returns-in-Err-clause-reads : goal.returns-in-Err-clause-reads
-returns-in-Err-clause-reads g c = c.give_up.ensures.reads ∙ c.in-Err.ensures.reads ∙ c.in_ok-begin.ensures.reads
-
-pub returns-clause-reads : goal.returns-clause-reads
-returns-clause-reads g c = c.finish.ensures.reads ∙ c.in_default.ensures.reads ∙ c.in_ok-begin.ensures.reads
-
-pub returns-in-Err-clause-named : goal.returns-in-Err-clause-named
-returns-in-Err-clause-named g c =
-    named_given_up c.in-Err.answer _ _ _ _ _ _ c.in-Err.ensures.fault c.in-Err.ensures.current c.in_ok-begin.ensures.current
-    c.give_up.ensures.named
-
-pub returns-clause-cause : goal.returns-clause-cause
-returns-clause-cause g c =
-    cause_behind _ _ _ c.finish.result (c.in_default.ensures.cause.kept ∙ c.in_ok-begin.ensures.cause.kept) c.finish.ensures.cause
