@@ -5,6 +5,7 @@ A time is the sum of a command's own turns. What the commands say is in FOLDER.s
 
 Needs Linux with the freezer of cgroups of version 1, and the rights of root."""
 import os
+import signal
 import subprocess
 import sys
 import time
@@ -57,16 +58,26 @@ class Run:
             print(f"{self.folder}: {int(self.took) // 60}:{int(self.took) % 60:02}, {self.spent / 60:.1f} minutes of processor time, status {self.status}", flush=True)
             os.rmdir(self.group)
 
+    def stop(self):
+        """Ends what has not ended, where the script is stopped: nothing stays frozen."""
+        if self.status is None:
+            self.set("THAWED")
+            os.killpg(self.process.pid, signal.SIGTERM)
+
 
 def main():
     if len(sys.argv) < 4:
         print(__doc__, file=sys.stderr)
         return 2
     runs = [Run(number, os.path.abspath(folder), sys.argv[3:]) for number, folder in enumerate(sys.argv[1:3])]
-    while any(it.status is None for it in runs):
+    try:
+        while any(it.status is None for it in runs):
+            for it in runs:
+                if it.status is None:
+                    it.turn()
+    finally:
         for it in runs:
-            if it.status is None:
-                it.turn()
+            it.stop()
     return int(any(it.status for it in runs))
 
 
