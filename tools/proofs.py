@@ -1,14 +1,15 @@
 """Proofs of crates, side by side.
 
 The compiler builds a crate only once it has proved it, over what the crates below it state. So a crate may be proved as soon as those
-below it are. Of those the one with the longest way to the top is taken first, and has the more jobs the longer its way is among what
-is left. There are no more jobs than processors, but for the last that is taken: checks that share a processor take longer together.
-What a library states is kept until what its proof reads changes.
+below it are. Of those the one with the longest way to the top is taken first. It has the more jobs the longer its way is among what is
+left, and the less may be proved beside it: all where nothing may. There are no more jobs than processors, but for the last that is taken:
+checks that share a processor take longer together. What a library states is kept until what its proof reads changes.
 
 How far it is stands on the error stream, at each start and end and each half minute. What is left is counted by the processor time that
 each crate took when it was measured (tools/seconds, by `tools/gate_times --seconds`), and by how fast it went until then."""
 import contextlib
 import functools
+import math
 import os
 import shutil
 import signal
@@ -97,7 +98,7 @@ class Proofs:
         """A chain has the crates lowest first; a folder is for what is not kept."""
         # When this began, for spans of time, and by the clock that files have.
         self.at_first, self.by_clock = time.monotonic(), time.time()
-        self.chain, self.work, self.way = chain, work, ways(chain, size)
+        self.chain, self.work, self.way = chain, work, ways(chain, seconds)
         self.done = {it for it in chain if not crates.is_program(it) and is_kept(it)}
         self.left = sorted((it for it in chain if it not in self.done), key=lambda it: -self.way[it])
         # The process of each crate that is being proved. When each of these began, and of those before, its jobs, and how long it took.
@@ -118,10 +119,12 @@ class Proofs:
         return [it for it in self.left if self.done.issuperset(crates.used(it))]
 
     def jobs_for(self, crate):
-        """The processors in the ratio of a crate's way to all that is not yet proved; all where nothing else can be proved now."""
-        whole = sum(map(size, [*self.left, *self.running]))
-        is_alone = not self.running and len(self.ready()) == 1
-        return self.most_jobs if is_alone else max(1, self.most_jobs * self.way[crate] // whole)
+        """The processors in the ratio of a crate's way to all that is not yet proved, or of what it takes to what may be proved beside it, where
+        that is more: all where nothing may."""
+        whole = sum(self.seconds[it] for it in [*self.left, *self.running])
+        beside = sum(map(self.rest, self.running)) + sum(self.seconds[it] for it in self.left if crate not in crates.below(it))
+        by_way = int(self.most_jobs * self.way[crate] / whole)
+        return max(by_way, math.ceil(self.most_jobs * self.seconds[crate] / (self.seconds[crate] + beside)))
 
     def spent(self, crate):
         """The processor time that a crate took, or has taken until now, as if with one job."""
@@ -129,23 +132,24 @@ class Proofs:
             return 0
         return self.took.get(crate, time.monotonic() - self.began[crate]) * gain(self.jobs[crate])
 
+    def rest(self, crate, slower=1):
+        """What is left of the processor time that a crate takes, about, where it goes so much slower than when that was measured."""
+        if crate not in self.seconds or crate in self.took:
+            return 0
+        # Of one that runs on beyond its time a tenth is left.
+        whole = slower * self.seconds[crate]
+        return max(0.1 * whole, whole - self.spent(crate))
+
     def time_left(self):
         """The seconds until all is proved, about."""
         # How much slower it goes than the table says: by those that are proved, and those that should be.
         seen = [it for it in self.seconds if it in self.took or it in self.running and self.spent(it) > self.seconds[it]]
         slower = (sum(map(self.spent, seen)) + PRIOR) / (sum(self.seconds[it] for it in seen) + PRIOR)
-
-        def still(crate):
-            if crate not in self.seconds or crate in self.took:
-                return 0
-            # Of one that runs on beyond its time a tenth is left.
-            whole = slower * self.seconds[crate]
-            return max(0.1 * whole, whole - self.spent(crate))
-
+        rest = functools.partial(self.rest, slower=slower)
         # No less than the longest way takes with all processors, nor than all takes with some jobs for each crate.
-        way = max(ways(self.chain, still).values(), default=0)
+        way = max(ways(self.chain, rest).values(), default=0)
         side_by_side = self.most_jobs ** 0.5
-        return max(way / gain(self.most_jobs), sum(map(still, self.seconds)) / (side_by_side * gain(side_by_side)))
+        return max(way / gain(self.most_jobs), sum(map(rest, self.seconds)) / (side_by_side * gain(side_by_side)))
 
     def say_first(self):
         known, minutes = len(self.done), max(1, round(self.time_left() / 60))

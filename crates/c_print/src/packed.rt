@@ -24,14 +24,13 @@ use w2c_io::{Files, WriteAnswer};
 fn put_parts_to<F: Files>(
     alloc: Global,
     page: &mut Page,
-    parts: Parts,
+    parts: &mut Parts,
     files: &mut F,
 ) -> Result<(), WriteAnswer>
     requires current { IsSome (F.current files.old) }
-    ensures whole { OnOk result (Prints F.Files files.old files.new page.old page.new (each stmt_tokens (left parts))) }
-    ensures part { IfErr result (λ why. PrintsPart F.Files files.old files.new page.old (each stmt_tokens (left parts)) why) }
+    ensures whole { OnOk result (Prints F.Files files.old files.new page.old page.new (each stmt_tokens (left parts.old))) }
+    ensures part { IfErr result (λ why. PrintsPart F.Files files.old files.new page.old (each stmt_tokens (left parts.old)) why) }
 {
-    let mut parts = parts;
     'more: while let Some(part) = parts.next()? {
         let put = put_each_to(alloc, page, &[], part.as_slice(), files);
         drop(part);
@@ -44,16 +43,15 @@ fn put_parts_to<F: Files>(
 fn put_packed_body_to<F: Files>(
     alloc: Global,
     page: &mut Page,
-    body: PackedBody,
+    body: &mut PackedBody,
     files: &mut F,
 ) -> Result<(), WriteAnswer>
     requires current { IsSome (F.current files.old) }
-    ensures whole { OnOk result (Prints F.Files files.old files.new page.old page.new (close_tokens (Some (packed_body_of body)))) }
-    ensures part { IfErr result (λ why. PrintsPart F.Files files.old files.new page.old (close_tokens (Some (packed_body_of body))) why) }
+    ensures whole { OnOk result (Prints F.Files files.old files.new page.old page.new (close_tokens (Some (packed_body_of body.old)))) }
+    ensures part { IfErr result (λ why. PrintsPart F.Files files.old files.new page.old (close_tokens (Some (packed_body_of body.old))) why) }
 {
-    let PackedBody { locals, stmts } = body;
-    put_open_to(alloc, page, locals.as_slice(), files)?;
-    put_parts_to(alloc, page, stmts, files)?;
+    put_open_to(alloc, page, body.locals.as_slice(), files)?;
+    put_parts_to(alloc, page, &mut body.stmts, files)?;
     page.fixed(Tok::RightBrace)?;
     Ok(())
 }
@@ -61,16 +59,15 @@ fn put_packed_body_to<F: Files>(
 fn put_packed_function_to<F: Files>(
     alloc: Global,
     page: &mut Page,
-    func: PackedFunc,
+    func: &mut PackedFunc,
     files: &mut F,
 ) -> Result<(), WriteAnswer>
     requires current { IsSome (F.current files.old) }
-    ensures whole { OnOk result (Prints F.Files files.old files.new page.old page.new (func_tokens (packed_func_of func))) }
-    ensures part { IfErr result (λ why. PrintsPart F.Files files.old files.new page.old (func_tokens (packed_func_of func)) why) }
+    ensures whole { OnOk result (Prints F.Files files.old files.new page.old page.new (func_tokens (packed_func_of func.old))) }
+    ensures part { IfErr result (λ why. PrintsPart F.Files files.old files.new page.old (func_tokens (packed_func_of func.old)) why) }
 {
-    let PackedFunc { head, body } = func;
-    put_head(page, &head)?;
-    match body {
+    put_head(page, &func.head)?;
+    match &mut func.body {
         None => {
             page.fixed(Tok::Semicolon)?;
             Ok(())
@@ -82,12 +79,12 @@ fn put_packed_function_to<F: Files>(
 // A function with its last line ended, of which all is put to the file.
 fn put_packed_line_to<F: Files>(
     alloc: Global,
-    func: PackedFunc,
+    func: &mut PackedFunc,
     files: &mut F,
 ) -> Result<(), WriteAnswer>
     requires current { IsSome (F.current files.old) }
-    ensures whole { OnOk result (HasPut F.Files files.old files.new (print_item_of (tree.Function (packed_func_of func)))) }
-    ensures part { IfErr result (λ why. HasFailed F.Files files.old files.new (print_item_of (tree.Function (packed_func_of func))) why) }
+    ensures whole { OnOk result (HasPut F.Files files.old files.new (print_item_of (tree.Function (packed_func_of func.old)))) }
+    ensures part { IfErr result (λ why. HasFailed F.Files files.old files.new (print_item_of (tree.Function (packed_func_of func.old))) why) }
 {
     let mut page = Page::new(alloc);
     put_packed_function_to(alloc, &mut page, func, files)?;
@@ -124,6 +121,11 @@ pub fn print_packed_to<F: Files>(
             drop(item);
             printed
         }
-        PackedItem::Func(func) => put_packed_line_to(alloc, func, files),
+        PackedItem::Func(func) => {
+            let mut func = func;
+            let printed = put_packed_line_to(alloc, &mut func, files);
+            drop(func);
+            printed
+        }
     }
 }

@@ -60,6 +60,7 @@ impl Statements {
         Ok(())
     }
 
+    // Those that lie there become a chunk where they are as many as may.
     fn make_room(&mut self) -> Result<(), Memory>
         ensures { OnOk result (listed self.new ≡ listed self.old) }
     {
@@ -82,8 +83,8 @@ impl Statements {
     pub fn push(&mut self, stmt: Stmt) -> Result<(), Memory>
         ensures { OnOk result (listed self.new ≡ listed self.old ++ stmt_of stmt ∷ []) }
     {
-        self.make_room()?;
-        self.add(stmt)
+        self.add(stmt)?;
+        self.make_room()
     }
 
     /// Leaves the label at a place out again.

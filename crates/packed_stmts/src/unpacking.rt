@@ -1,6 +1,6 @@
 // What statements are made of, read of the bytes that `packing` put. A want of memory is the only error of each function here: of any bytes
 // something is read.
-ghost use Rattle.std.specs.Prelude.{◌≡◌, length, map};
+ghost use Rattle.std.specs.Prelude.{◌≡◌, box_value, length, map};
 ghost use Rattle.c_tree.specs.View.{arg_of, callee_of, expr_of, func_type_of};
 ghost use Rattle.packed_stmts.specs.Unpacked as spec;
 ghost use Rattle.packed_stmts.specs.Unpacked.{Reads};
@@ -169,20 +169,30 @@ impl<'a> Source<'a> {
             ExprKind::Name => Ok(Expr::Name(self.name(alloc)?)),
             ExprKind::At => {
                 let name = self.name(alloc)?;
-                let index = Box::new(alloc, self.expr_in(alloc, room)?)?;
+                let index = self.boxed(alloc, room)?;
                 Ok(Expr::At(name, index))
             }
             ExprKind::Number => Ok(Expr::Num(self.num())),
-            ExprKind::To32 => Ok(Expr::To32(Box::new(alloc, self.expr_in(alloc, room)?)?)),
-            ExprKind::To64 => Ok(Expr::To64(Box::new(alloc, self.expr_in(alloc, room)?)?)),
+            ExprKind::To32 => Ok(Expr::To32(self.boxed(alloc, room)?)),
+            ExprKind::To64 => Ok(Expr::To64(self.boxed(alloc, room)?)),
             ExprKind::Star => Ok(Expr::Star(self.name(alloc)?)),
             ExprKind::Op => {
                 let op = self.op();
-                let left = Box::new(alloc, self.expr_in(alloc, room)?)?;
-                let right = Box::new(alloc, self.expr_in(alloc, room)?)?;
+                let left = self.boxed(alloc, room)?;
+                let right = self.boxed(alloc, room)?;
                 Ok(Expr::Op(op, left, right))
             }
         }
+    }
+
+    // An expression inside another.
+    #[cycle(expression)]
+    fn boxed(&mut self, alloc: Global, room: usize) -> Result<Box<Expr>, Memory>
+        ensures { Reads (λ inside. expr_of (box_value inside)) (spec.expr_in room self.old) result self.new }
+    {
+        let e = self.expr_in(alloc, room)?;
+        let inside = Box::new(alloc, e)?;
+        Ok(inside)
     }
 
     #[cycle(expression)]

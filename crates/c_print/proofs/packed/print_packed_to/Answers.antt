@@ -13,13 +13,13 @@ returns-in-Func g c =
     let f = g.F.Files in
     let item = packed_item_of c.args.item in
     let old = c.args.files.now in
-    let new = c.put_packed_line_to.new.files in
-    let r = c.put_packed_line_to.result in
+    let new = c.put_packed_line_to-printed.new.files in
+    let r = c.put_packed_line_to-printed.result in
     let text = print_item_of item in
     let put = subst (λ (i : PackedItem). OnOk r (HasPut f old new (print_item_of (packed_item_of i)))) (sym c.in-Func.is)
-    c.put_packed_line_to.ensures.whole in
+    c.put_packed_line_to-printed.ensures.whole in
     let failed = subst (λ (i : PackedItem). IfErr r (λ why. HasFailed f old new (print_item_of (packed_item_of i)) why)) (sym c.in-Func.is)
-    c.put_packed_line_to.ensures.part in
+    c.put_packed_line_to-printed.ensures.part in
     record {
       written = answer_written f old new text r (laid gap_between (Fixed tok.Include) (item_tokens item)) refl put;
       part = answer_part f old new text r failed;

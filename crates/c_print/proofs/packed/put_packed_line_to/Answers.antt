@@ -15,7 +15,7 @@ on_new item page new is text = ap (λ (p : Page). (ended (printed_onto p (item_t
 
 pub returns-in_err-put_packed_function_to-clause-part : goal.returns-in_err-put_packed_function_to-clause-part
 returns-in_err-put_packed_function_to-clause-part g c =
-    let item : tree.Item = tree.Function (packed_func_of c.args.func) in
+    let item : tree.Item = tree.Function (packed_func_of c.args.func.now) in
     let why = c.in_err-put_packed_function_to.field-0.0 in
     let p = err_from_is_err_and c.from_residual.result c.from_residual.ensures.1 in
     rw (p.1, p.2) (subst (λ (l : List ℕ). HasFailed g.F.Files c.args.files.now c.put_packed_function_to.new.files l why)
@@ -29,7 +29,7 @@ put_end_to-requires g c =
 
 pub returns-clause-whole : goal.returns-clause-whole
 returns-clause-whole g c =
-    let item : tree.Item = tree.Function (packed_func_of c.args.func) in
+    let item : tree.Item = tree.Function (packed_func_of c.args.func.now) in
     subst (λ (l : List ℕ). OnOk c.put_end_to.result (HasPut g.F.Files c.args.files.now c.put_end_to.new.files l))
     (on_new item c.new-page.result _ c.new-page.ensures (item_text item))
     (line_put g.F.Files c.args.files.now c.put_packed_function_to.new.files c.put_end_to.new.files c.new-page.result
@@ -38,7 +38,7 @@ returns-clause-whole g c =
 
 pub returns-clause-part : goal.returns-clause-part
 returns-clause-part g c =
-    let item : tree.Item = tree.Function (packed_func_of c.args.func) in
+    let item : tree.Item = tree.Function (packed_func_of c.args.func.now) in
     subst (λ (l : List ℕ). IfErr c.put_end_to.result (λ why. HasFailed g.F.Files c.args.files.now c.put_end_to.new.files l why))
     (on_new item c.new-page.result _ c.new-page.ensures (item_text item))
     (line_fails g.F.Files c.args.files.now c.put_packed_function_to.new.files c.put_end_to.new.files c.new-page.result
