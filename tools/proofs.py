@@ -119,8 +119,8 @@ class Proofs:
         return [it for it in self.left if self.done.issuperset(crates.used(it))]
 
     def jobs_for(self, crate):
-        """The processors in the ratio of a crate's way to all that is not yet proved, or of what it takes to what may be proved beside it, where
-        that is more: all where nothing may."""
+        """The processors in the ratio of a crate's way to all that is left, or, where that is more, of what it takes to what may be proved
+        beside it: all where nothing may."""
         whole = sum(self.seconds[it] for it in [*self.left, *self.running])
         beside = sum(map(self.rest, self.running)) + sum(self.seconds[it] for it in self.left if crate not in crates.below(it))
         by_way = int(self.most_jobs * self.way[crate] / whole)
